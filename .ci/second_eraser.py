@@ -18,14 +18,26 @@ import re
 import sys
 
 SOURCES, RESULTS, PACKAGE, PAGE = "crates", "rust/forgeni/src/proved", "rust/forgeni/Cargo.toml", "rust/erase/differences.txt"
+TOP = pathlib.Path(__file__).resolve().parent.parent
 EDITION = "2024"
-LINTS = "#![allow(dead_code, unused_imports, unused_variables, clippy::all)]"
+LIST, LINTS = "modules.rs", "#[allow(dead_code, unused_assignments, unused_imports, unused_labels, unused_variables, clippy::all)]"
+# What the package calls otherwise: the modules that crates are, what crates declare, and functions that only the package may call.
+TABLE = [line.split() for line in (TOP / "rust/erase/names.txt").read_text().splitlines() if line and line[0] != "#"]
+MODULES = {it[1]: it[2] for it in TABLE if it[0] == "module"}
+NAMED = {(it[1], it[2]): it[3] for it in TABLE if it[0] == "name"}
+INSIDE = {f"{it[1]}::{name}" for it in TABLE if it[0] == "inside" for name in it[2:]}
 
 
 def named(text):
     """The paths that a text lists as `PATH: NAMES;`."""
     lists = [it.rsplit(":", 1) for it in text.split(";")]
     return {f"{path.strip()}::{it}" for path, names in lists for it in names.split()}
+
+
+# In what order the results have modules, and the functions of types, each topic in a block of its own.
+ORDER = (TOP / "rust/erase/topics.txt").read_text()
+FIRST = {crate: names.split() for crate, names in re.findall(r"(?m)^modules (\w+) (.*)$", ORDER)}
+TOPICS = {(file, of): [it.split() for it in re.findall(r"(?m)^- .*?: (.*)$", all_of)] for file, of, all_of in re.findall(r"(?m)^impl (\S+) (\w+)\n((?:- .*\n?)+)", ORDER)}
 
 
 # The crates of the two programs, which aren't compared: they use twice as many forms and names of the kit as the others. What the first eraser
@@ -87,11 +99,9 @@ LAYOUTS = dict.fromkeys(named("ent_blocks: BlockReserver; ent_replay: Log; ent_t
 LAYOUTS |= {"ent_handle::Handle": "#[repr(transparent)]"}
 WORD_TYPE, DATA = "ent_handle::Handle", named("ent_replay: Call CheckError Difference FlushReply Log Reservation ReserveReply")
 # Traits whose parameter `S` has a default in the results, and the default.
-DEFAULTED, DEFAULT = named("ent_runner: LogSystem System"), "= crate::proved::ent_shared::Shared"
-# What a type derives in the results, if nothing is left of its derive: errors that hand back queues, and reports.
-DERIVES = {"ent_world::SyncReport": "Clone, PartialEq, Eq"}
-# Types whose `Debug` the package has by hand.
-SHOWN_BY_HAND = named("ent_handle: Memory; ent_world: SyncReport")
+DEFAULTED, DEFAULT = named("ent_runner: LogSystem System"), f"= crate::{MODULES['ent_shared']}::Shared"
+# Reports, which derive a little more in the results.
+REPORTS = named("ent_world: SyncReport")
 EQUALITY = {"PartialEq": "#[inline]fneq(&self,other:&Self)->bool{self.bits==other.bits}}", "Eq": "}"}
 # The file whose texts keep a width, and functions with another name.
 PADDED, RENAMED = "ent_handle/text", {"Entities::new": "with_exact_limits"}
@@ -222,7 +232,53 @@ class Reader:
             at = self.texts(0).index("PhantomData")
             self.out[at - 5 : at + 2] = []
             self.log.remove(("count", "core path", None))
+        self.rename()
         return self
+
+    def rename(self):
+        """Gives what the table has its name in the package: where it is declared, imported, or named by a path or as what was imported."""
+        words = [it.text for it in self.out]
+        crates = {module: crate for crate, module in MODULES.items()} | {"kit": "kit"}
+        means = {name: (self.crate, name) for kind, name in zip(words, words[1:]) if kind in ("struct", "enum", "trait", "type")}
+        to, goes, path, at = {}, set(), [], 0
+        # Where an import or a path begins, and of which crate it is. A list has the path that stands before it.
+        while at < len(words):
+            end = at
+            if words[at] == "use":
+                end = words.index(";", at)
+            elif words[at : at + 2] == ["crate", "::"]:
+                while words[end + 1] == "::" and self.out[end + 2].kind == "id":
+                    end += 2
+            path = words[at + (words[at] == "use") : end]
+            crate = crates.get(path[2]) if path[:2] == ["crate", "::"] else None if path[:1] and path[0] in ("core", "alloc") else self.crate
+            for place in range(at, end + 1) if end > at else ():
+                name, after = words[place], "".join(words[place + 1 : place + 2])
+                if words[at] == "use" and after in (",", "}", ";"):
+                    means[name] = (crate, words[place - 2] if words[place - 1] == "as" else name)
+                if words[place - 1] == "as":
+                    to[place] = NAMED.get((self.crate, name))
+                    goes |= {place - 1, place} if to[place] and to[place] == to.get(place - 2, words[place - 2]) else set()
+                elif (crate, name) in NAMED:
+                    to[place] = NAMED[crate, name]
+            at = end + 1
+        depth, enum, opened = 0, 0, None
+        for at, word in enumerate(words):
+            depth += {"{": 1, "(": 1, "}": -1, ")": -1}.get(word, 0)
+            opened = depth if word == "enum" else opened
+            if word == "}" and depth == opened:
+                opened = None
+            is_variant = opened is not None and depth == opened + 1 and words[at - 1] in ("{", ",", "]")
+            is_member = words[at - 1] == "type" and depth > 0
+            crate, name = means.get(word, ("", ""))
+            whole = NAMED.get((crate, word)) if name == word else NAMED.get((self.crate, word))
+            if at not in to and whole and words[at - 1] != "::" and not is_variant and not is_member:
+                to[at] = whole
+            if words[at - 1] == "::" and at not in to and words[at - 2] in ("super", "self"):
+                to[at] = NAMED.get((self.crate, word))
+        for at in (it for it in to if to[it]):
+            self.out[at] = self.out[at]._replace(text=to[at])
+        self.out = [it for at, it in enumerate(self.out) if at not in goes]
+        self.log += [("count", "name", None)] * sum(bool(it) for it in to.values())
 
     # The signs of the grammar.
 
@@ -431,7 +487,7 @@ class Reader:
     def is_declared(self):
         """The name of an item, which may not be one that the results give another meaning."""
         self.declared = self.look().text
-        if self.declared in self.unit.packages | PRELUDE | {"proved", "kit", "collect_in", "prove_eq"}:
+        if self.declared in self.unit.packages | PRELUDE | {"kit", "collect_in", "prove_eq"}:
             self.use("refused", f"an item named `{self.declared}`")
         self.names[-2][self.declared] = None
         return self.note("other", self.declared) and self.word("NAME")
@@ -467,10 +523,10 @@ class Reader:
             self.set("at", self.look(2 * kit.count("::")).end)
             return self.add(PATHS[kit], "stand-in path" if "kit" in PATHS[kit] else "core path")
         if words[0] in self.unit.crates and len(words) > 1:
-            self.add("crate::proved::", "sister path")
+            return self.instead(f"crate::{MODULES[words[0]]}", "sister path")
         elif len(words) > 1 and words[0] in self.unit.packages:
             self.use("path", "::".join(words))
-        return self.take() and (words[0] != "crate" or self.add(f"::proved::{self.crate}", "crate path"))
+        return self.take() and (words[0] != "crate" or self.add(f"::{MODULES[self.crate]}", "crate path"))
 
     def is_prefix(self):
         """What stands before the names that are imported."""
@@ -519,11 +575,11 @@ class Reader:
         path = "/".join([crate, *rest] if crate else [self.result.removesuffix("/mod"), *self.prefix])
         return any(it == name and (file == path or file.startswith(path + "/")) for file, it in self.unit.conditions)
 
-    def narrow(self, mark):
+    def narrow(self, mark, kind="condition"):
         """`pub` becomes `pub(crate)`, where nothing else says more."""
         at = self.first(mark, "pub", "fn")
         if self.out[at].text == "pub" and self.out[at + 1].text != "(":
-            self.insert(at + 1, "(crate)", "condition")
+            self.insert(at + 1, "(crate)", kind)
 
     def is_method(self):
         name = self.look().text
@@ -559,24 +615,16 @@ class Reader:
     def after_data(self, mark, _):
         """What only the results say of a type: its layout, more derives, and what the derive `Error` stands for."""
         whole = f"{self.crate}::{self.declared}"
-        self.hide(mark) if whole in SHOWN_BY_HAND else None
         at = self.first(mark, "pub", "struct", "enum")
         self.insert(at, LAYOUTS[whole], "layout") if whole in LAYOUTS else None
         self.insert(at - 2, ", PartialEq, Eq") if whole == WORD_TYPE else None
         self.insert(at - 2, ", Clone, PartialEq, Eq, Hash", "data") if whole in DATA else None
-        self.insert(at, f"#[derive({DERIVES[whole]})]", "data") if whole in DERIVES else None
+        self.insert(at - 2, ", Clone, PartialEq, Eq", "data") if whole in REPORTS else None
         bound = f"let {self.declared}{self.pattern()} = self;" if "{" in self.error else ""
         body = f"match self {{ {self.arms} }}" if self.arms else f"{bound} write!(f, {self.error})"
         head = f"impl core::fmt::Display for {self.declared} {{ fn fmt(&self, f: &mut core::fmt::Formatter<'_>) -> core::fmt::Result"
         tail = f"{{ {body} }} }} impl core::error::Error for {self.declared} {{ }}"
         self.add(head + tail, "messages") if self.errs else None
-
-    def hide(self, mark):
-        """Takes `Debug` from a derive, and the derive if that is all."""
-        at = self.first(mark, "Debug")
-        alone = self.out[at - 1].text == "(" and self.out[at + 1].text == ")"
-        del self.out[at - 4 if alone else at - 1 : at + 3 if alone else at + 1]
-        self.note("count", "shown")
 
     def after_impl(self, mark, notes):
         own, kind = self.names[0].keys() | {it for it, whole in self.imports.items() if whole in WITHOUT_METHODS}, None
@@ -597,10 +645,12 @@ class Reader:
         self.log[at] = ("function", self.log[at][1], (self.owner, receiver))
 
     def after_function(self, mark, notes):
+        name = next(name for kind, name, _ in self.log[notes:] if kind == "function")
         if self.requires:
-            name = next(name for kind, name, _ in self.log[notes:] if kind == "function")
             self.unit.conditions |= set() if self.owner else {(self.result, name)}
             self.narrow(mark)
+        elif self.owner and f"{self.crate}::{self.target}::{name}" in INSIDE:
+            self.narrow(mark, "inside")
         at = self.first(mark, "pub", "const", "fn")
         if self.out[-1].text == "}" and not {"inline", "cold"} & {it.text for it in self.out[mark:at]}:
             self.insert(at, "#[inline]", "inline")
@@ -756,6 +806,46 @@ def step(words):
 RULES = {line.split()[0]: parsed(re.findall(r"'[^']+'|\w+|\S", line.partition(" = ")[2])) for line in GRAMMAR.strip().splitlines()}
 
 
+# The order of a result.
+
+
+def parts(tokens, begin):
+    """The items or members from there on, up to the `}` that closes them: what each has in braces, or its `;`, is its end."""
+    at, depth = begin, 0
+    while at < len(tokens) and (depth or tokens[at].text != "}"):
+        depth += {"{": 1, "}": -1, "(": 1, ")": -1, "[": 1, "]": -1}.get(tokens[at].text, 0)
+        if not depth and tokens[at].text in ("}", ";"):
+            yield tokens[begin : at + 1]
+            begin = at + 1
+        at += 1
+
+
+def arranged(result, tokens):
+    """A result in the order of the table: its modules, if it has a crate's, or the functions of a type by topic."""
+    crate, file = result.split("/", 1)
+    items = list(parts(tokens, 0))
+    if file == "mod.rs":
+        place = {name: at for at, name in enumerate(FIRST.get(crate, []))}
+        is_module = [[token.text for token in it[-3:-2]] == ["mod"] for it in items]
+        modules = iter(sorted((it for it, module in zip(items, is_module) if module), key=lambda it: place.get(it[-2].text, len(place))))
+        return [token for it, module in zip(items, is_module) for token in (next(modules) if module else it)]
+    for of in (of for name, of in TOPICS if name == result):
+        blocks = collections.defaultdict(list)
+        for item in items:
+            words = [it.text for it in item]
+            head = words[: words.index("{")] if "impl" in words[:1] else []
+            if of in head and "for" not in head:
+                blocks[tuple(head)].append(item)
+        for head, same in blocks.items():
+            named = {next(it[at + 1].text for at, token in enumerate(it) if token.text == "fn"): it for item in same for it in parts(item, len(head) + 1)}
+            listed = [[named.pop(name) for name in names if name in named] for names in TOPICS[result, of]]
+            first = same[0]
+            new = [[*first[: len(head) + 1], *(token for it in group for token in it), first[-1]] for group in [*listed, list(named.values())] if group]
+            at = next(at for at, item in enumerate(items) if item is first)
+            items = [*items[:at], *new, *(item for item in items[at:] if all(item is not it for it in same))]
+    return [token for item in items for token in item]
+
+
 # A whole repository.
 
 
@@ -779,11 +869,12 @@ def erase(top, crates):
     readers = [Reader(text, result, unit, first).file() for (text, result), first in zip(files, firsts)]
     notes = [note for it in readers for note in it.log]
     check(notes)
-    made = {result: (text.name, it.out) for (text, result), it in zip(files, readers) if not it.knows("empty", it.result)}
+    made = {result: (text.name, arranged(result, it.out)) for (text, result), it in zip(files, readers) if not it.knows("empty", it.result)}
     others = {it for it in LEFT_OUT if (top / RESULTS / it).is_dir()}
-    modules = LINTS + "".join(f" {FEATURE * (it in others)} pub mod {it};" for it in sorted({*crates, *others}))
+    there = [it for it in MODULES if it in {*crates, *others}]
+    modules = "".join(f'{FEATURE * (it in others)} {LINTS} #[path = "{it}/mod.rs"] mod {MODULES[it]};' for it in there)
     counts = collections.Counter(name for kind, name, _ in notes if kind == "count")
-    return made | {"mod.rs": ("crates.txt", Text(modules, "").tokens())}, counts
+    return made | {LIST: ("crates.txt", Text(modules, "").tokens())}, counts
 
 
 def difference(made, result, text):
@@ -846,7 +937,7 @@ def main():
     for option, usual in (("--mutate", 0), ("--seed", 1)):
         parser.add_argument(option, type=int, default=usual)
     parser.add_argument("--fit", action="store_true")
-    given, top = parser.parse_args(), pathlib.Path(__file__).resolve().parent.parent
+    given, top = parser.parse_args(), TOP
     try:
         found, made, results, counts = compare(top)
     except Refused as refused:

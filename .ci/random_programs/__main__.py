@@ -48,8 +48,8 @@ fn main(rt: HostRuntime) -> io::Result<()> {
 RUST_MAIN = """#![allow(dead_code, unused, private_interfaces, clippy::all)]
 extern crate alloc;
 mod kit;
-mod proved;
-use proved::ent_replay::programs;
+include!("proved/modules.rs");
+use traces::programs;
 
 fn main() {
     let mut trace = programs::Trace::new().expect("memory");

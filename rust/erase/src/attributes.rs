@@ -106,10 +106,9 @@ impl Walk<'_> {
             let what = "`Clone` without `Copy`, which may fail in the kit and not in Rust";
             return Err(self.source.fault(at, what));
         }
-        let of = self.type_after(end);
         let kept = names
             .iter()
-            .filter(|name| forms::keeps_derive(self.krate, of, name));
+            .filter(|name| forms::KEPT_DERIVES.contains(name));
         let kept: Vec<&str> = kept.chain(added).copied().collect();
         if kept.is_empty() {
             self.cut_lines(at, end)?;

@@ -225,7 +225,7 @@ impl Audit<'_> {
         let name = end + 1 + usize::from(self.source.at(end) == "pub");
         let (word, name) = (self.source.at(name - 1), self.source.at(name));
         let is_compared = word == "struct" && forms::compared(self.krate, name).is_some();
-        let kept = names.filter(|it| forms::keeps_derive(self.krate, Some(name), it));
+        let kept = names.filter(|it| forms::KEPT_DERIVES.contains(it));
         let added = match word {
             _ if is_compared => forms::EQUALITY,
             "struct" | "enum" => forms::derived_more(self.krate, name),

@@ -4,7 +4,8 @@
 
 use crate::forms;
 use crate::items::Scope;
-use crate::names::Names;
+use crate::names::{header, Names};
+use crate::naming;
 use crate::source::{Fault, Source};
 use crate::walk::Walk;
 
@@ -46,6 +47,14 @@ pub(crate) fn has_condition(source: &Source<'_>, at: usize) -> bool {
     false
 }
 
+/// Whether the function whose `fn` stands at `at` is one that the table has for the package alone: what it gives has no
+/// name that a user knows.
+pub(crate) fn is_inside(source: &Source<'_>, krate: &str, at: usize) -> bool {
+    let block = (0..at).rev().find(|at| source.at(*at) == "impl");
+    let owner = block.and_then(|at| header(source, at).ok());
+    owner.is_some_and(|it| naming::is_inside(krate, it.of, source.at(at + 1)))
+}
+
 impl Walk<'_> {
     /// A function that is `pub` at `visible`, and has a condition, is the package's own from now on.
     /// Returns whether the package may show the function whose `fn` stands at `at`.
@@ -56,7 +65,7 @@ impl Walk<'_> {
         if self.source.at(visible) != "pub" || self.source.at(visible + 1) == "(" {
             return false;
         }
-        let is_narrow = has_condition(self.source, at);
+        let is_narrow = has_condition(self.source, at) || is_inside(self.source, self.krate, at);
         if is_narrow {
             self.insert_after(visible, PACKAGE_ONLY.to_owned());
         }

@@ -1,10 +1,14 @@
 //! Which crates are erased, and their sources.
 
 use crate::names::Names;
+use crate::naming::module_of;
 use crate::source::{Fault, Source};
 use std::collections::{BTreeMap, BTreeSet};
 use std::path::{Path, PathBuf};
 use std::{fs, io};
+
+/// The path of the package, in which the crates are modules.
+pub const PACKAGE: &str = "crate";
 
 /// A source of a crate.
 pub struct File {
@@ -135,14 +139,15 @@ fn collect(folder: &Path, paths: &mut Vec<PathBuf>) -> io::Result<()> {
     Ok(())
 }
 
-/// Adds what the crates declare. They are modules below `path`.
+/// Adds what the crates declare. They are modules below `path`. If that is the package, each has a name of its own.
 ///
 /// # Errors
 ///
 /// A source can't be cut into tokens, or a name has two meanings.
 pub fn add_names(names: &mut Names, crates: &[Crate], path: &str) -> Result<(), Fault> {
     for krate in crates {
-        let path = format!("{path}::{}", krate.name);
+        let own = module_of(&krate.name).filter(|_| path == PACKAGE);
+        let path = format!("{path}::{}", own.unwrap_or(&krate.name));
         names.crates.insert(krate.name.clone(), path);
     }
     for file in crates.iter().flat_map(|krate| &krate.files) {

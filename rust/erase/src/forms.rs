@@ -491,7 +491,7 @@ pub fn is_defaulted(krate: &str, name: &str) -> bool {
 pub const SOURCE: &[&str] = &["S", ":", "Source", ">", "{"];
 
 /// That default.
-pub const DEFAULT: &str = " = crate::proved::ent_shared::Shared";
+pub const DEFAULT: &str = " = crate::reserving::Shared";
 
 /// A struct of one field whose `impl PartialEq` compares this field of the two, and nothing else.
 pub struct Compared {
@@ -593,15 +593,6 @@ pub const RENAMED_FUNCTIONS: &[RenamedFunction] = &[RenamedFunction {
     from: "new",
     to: "with_exact_limits",
 }];
-
-/// Types whose `Debug` the package has by hand, since their name is another one there: the crate and the type.
-const SHOWN_BY_HAND: &[(&str, &str)] = &[("ent_handle", "Memory"), ("ent_world", "SyncReport")];
-
-/// Whether a derive of this type of this crate keeps this name.
-pub fn keeps_derive(krate: &str, of: Option<&str>, name: &str) -> bool {
-    let is_by_hand = |it: &(&str, &str)| it.0 == krate && Some(it.1) == of;
-    KEPT_DERIVES.contains(&name) && (name != "Debug" || !SHOWN_BY_HAND.iter().any(is_by_hand))
-}
 
 /// Types that derive `Clone` and aren't `Copy`, though each of their fields is: the crate and the type. So `clone` can't
 /// fail in the kit either. They are iterators.

@@ -46,6 +46,7 @@
 //!   width (`padded!`). `format!(in alloc; ..)` of the programs becomes a `format!` of the
 //!   package's kit.
 
+pub mod arranging;
 mod attributes;
 pub mod audit;
 mod code;
@@ -64,6 +65,7 @@ mod lists;
 mod memory;
 mod messages;
 mod names;
+pub mod naming;
 mod paths;
 pub mod plan;
 pub mod programs;

@@ -295,7 +295,8 @@ impl Names {
                 let unwritten = || (Some("as the trait says".to_owned()), fault(at));
                 methods.entry(name.clone()).or_insert_with(unwritten);
             }
-            let is_type = |name: &str| self.types.contains_key(name) && !header.parameters.contains(name);
+            let is_type =
+                |name: &str| self.types.contains_key(name) && !header.parameters.contains(name);
             let arguments = header.arguments.iter();
             let arguments: Vec<_> = arguments
                 .map(|name| is_type(name).then(|| (*name).to_owned()))
@@ -403,6 +404,13 @@ impl Names {
         let folder = format!("crates/{krate}/");
         let mut files = self.types.get(name).into_iter().flatten();
         files.any(|file| file.starts_with(&folder))
+    }
+
+    /// How many crates declare a struct or an enum of this name.
+    pub(crate) fn declaring(&self, name: &str) -> usize {
+        let files = self.types.get(name).into_iter().flatten();
+        let crates: BTreeSet<_> = files.map(|file| file.split('/').nth(1)).collect();
+        crates.len()
     }
 
     /// Whether each `impl` of the trait is ghost as a whole.

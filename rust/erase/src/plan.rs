@@ -1,11 +1,13 @@
 //! What is erased, and where the results go.
 
+use crate::arranging::{arranged, has_the_same_lines};
 use crate::audit::audit;
 use crate::crates::{add_names, below, read, Crate, File};
 use crate::erase;
 use crate::forms::{Layout, LAYOUTS, PACKAGE};
 use crate::host::HOST;
 use crate::names::Names;
+use crate::naming::{differs_by_names, modules, named};
 use crate::programs::PROGRAMS;
 use crate::source::{Fault, Source};
 use std::collections::BTreeMap;
@@ -52,26 +54,28 @@ pub struct Target {
     pub folder: &'static str,
     /// Its path in the package that it is of.
     path: &'static str,
-    /// The head of the file that has the crates as modules.
+    /// The file that has the crates as modules, and its head.
+    file: &'static str,
     head: &'static str,
 }
 
 /// The results of the package.
 pub static PROVED: Target = Target {
     folder: "rust/forgeni/src/proved",
-    path: "crate::proved",
+    path: crate::crates::PACKAGE,
+    file: "modules.rs",
     head: "\
-//! The proved crates of this repository as plain Rust, each a module.
-//!
-//! `rust/erase` makes all files here of the sources below `crates/`. What is ghost is taken out, and the
-//! clauses of a contract go to the docs of a public call, and else stay as comments. None of these files is edited by
-//! hand: the gate makes them anew and compares.
-//!
-//! The proofs are of the sources, before that.
-
+// The proved crates of this repository as plain Rust, each a module of the package that includes this file.
+//
+// `rust/erase` makes all files here of the sources below `crates/`. What is ghost is taken out, and the
+// clauses of a contract go to the docs of a public call, and else stay as comments. None of these files is edited by
+// hand: the gate makes them anew and compares. The modules, and some items, have other names than in the sources, by
+// the table `rust/erase/names.txt`.
+//
+// The proofs are of the sources, before that.
+//
 // What a clause alone reads isn't used here, and the package doesn't call all that is proved. How the
-// sources are written is up to them.
-#![allow(dead_code, unused_imports, unused_variables, clippy::all)]
+// sources are written is up to them: they have labels where a proof names a loop, and values for the case that a call fails.
 ",
 };
 
@@ -79,6 +83,7 @@ pub static PROVED: Target = Target {
 pub static TESTED: Target = Target {
     folder: "rust/erased_tests/src/made",
     path: "crate::made",
+    file: "mod.rs",
     head: "\
 //! The repository's own tests of the proved crates as plain Rust, each crate a module.
 //!
@@ -86,6 +91,10 @@ pub static TESTED: Target = Target {
 #![allow(dead_code, unused_imports, unused_variables, non_shorthand_field_patterns, clippy::all)]
 ",
 };
+
+/// The lints that the sources aren't written for.
+const LINTS: &str =
+    "dead_code, unused_assignments, unused_imports, unused_labels, unused_variables, clippy::all";
 
 /// The texts of the files that are to be, by their paths in the repository.
 pub type Files = BTreeMap<PathBuf, String>;
@@ -116,9 +125,13 @@ pub fn package(repository: &Path) -> Result<Files, Box<dyn Error>> {
     add_names(&mut names, &crates, PROVED.path)?;
     add_names(&mut names, &programs, PROVED.path)?;
     files.extend(erased(&programs, &names, PROVED.folder)?);
-    let all = crates.iter().chain(&programs).map(|it| it.name.as_str());
-    let head = head_of(&PROVED, all.collect(), PROGRAM_CRATES);
-    files.insert(Path::new(PROVED.folder).join("mod.rs"), head);
+    let all: Vec<&str> = crates
+        .iter()
+        .chain(&programs)
+        .map(|it| it.name.as_str())
+        .collect();
+    let list = list_of(&PROVED, &all);
+    files.insert(Path::new(PROVED.folder).join(PROVED.file), list);
     Ok(files)
 }
 
@@ -139,8 +152,9 @@ pub fn tests(repository: &Path) -> Result<Files, Box<dyn Error>> {
     add_names(&mut names, &crates, PROVED.path)?;
     add_names(&mut names, &tests, TESTED.path)?;
     let mut files = erased(&tests, &names, TESTED.folder)?;
-    let head = head_of(&TESTED, TESTS.to_vec(), &[]);
-    files.insert(Path::new(TESTED.folder).join("mod.rs"), head);
+    let mut list = format!("{}\n", TESTED.head);
+    list.extend(TESTS.iter().map(|name| format!("pub mod {name};\n")));
+    files.insert(Path::new(TESTED.folder).join(TESTED.file), list);
     Ok(files)
 }
 
@@ -170,15 +184,19 @@ fn crates_below(repository: &Path, tops: &[&str]) -> Result<Vec<Crate>, Box<dyn 
     Ok(crates.collect::<Result<_, _>>()?)
 }
 
-/// The file that has the crates as modules, some of them behind a feature.
-fn head_of(target: &Target, mut names: Vec<&str>, optional: &[&str]) -> String {
-    names.sort_unstable();
-    let module = |name: &&str| match optional.contains(name) {
-        true => format!("#[cfg(feature = \"{PROGRAM_FEATURE}\")]\npub mod {name};\n"),
-        false => format!("pub mod {name};\n"),
-    };
-    let modules: String = names.iter().map(module).collect();
-    format!("{}\n{modules}", target.head)
+/// The file that has these crates as modules in the order of the table, those of the programs behind a feature.
+fn list_of(target: &Target, crates: &[&str]) -> String {
+    let there = modules().filter(|it| crates.contains(&it.0));
+    let modules: String = there
+        .map(|(krate, module)| {
+            let feature = match PROGRAM_CRATES.contains(&krate) {
+                true => format!("#[cfg(feature = \"{PROGRAM_FEATURE}\")]\n"),
+                false => String::new(),
+            };
+            format!("\n{feature}#[allow({LINTS})]\n#[path = \"{krate}/mod.rs\"]\nmod {module};\n")
+        })
+        .collect();
+    format!("{}{modules}", target.head)
 }
 
 /// The results of the crates, each audited.
@@ -212,5 +230,11 @@ fn audited(krate: &Crate, file: &File, path: &Path, names: &Names) -> Result<Str
     let path = path.display().to_string();
     let result = Source::read(&path, &text)?;
     audit(&source, &result, &krate.name, names)?;
-    Ok(text)
+    let named = named(&text, &krate.name, names)?;
+    let named = Source::read(&path, &named)?;
+    differs_by_names(&result, &named)?;
+    let place = format!("{}/{}", krate.name, file.result.display());
+    let arranged = arranged(named.text, &place)?;
+    has_the_same_lines(&named, &Source::read(&path, &arranged)?)?;
+    Ok(arranged)
 }

@@ -387,10 +387,10 @@ fn layouts() {
 fn default_of_a_parameter() {
     let header = "pub trait System<S: Source>";
     let source = format!("trait Source {{}}\n\n{header} {{\n    fn a<S: Source>();\n}}\n");
-    let default = ": Source = crate::proved::ent_shared::Shared>";
+    let default = ": Source = crate::reserving::Shared>";
     let wanted = source.replace(": Source> {", &format!("{default} {{"));
     let misplaced = source.replace(": Source>(", &format!("{default}("));
-    let twice = wanted.replace("Shared", "Shared = crate::proved::ent_shared::Shared");
+    let twice = wanted.replace("Shared", "Shared = crate::reserving::Shared");
     let other = source.replace("System", "Systems");
     let of_another = wanted.replace("System", "Systems");
     for result in [misplaced, twice] {

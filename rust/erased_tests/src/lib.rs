@@ -15,11 +15,7 @@ mod host;
 mod kit;
 #[rustfmt::skip]
 mod made;
-#[rustfmt::skip]
-#[path = "../../forgeni/src/proved/mod.rs"]
-mod proved;
-#[allow(unused_imports, unused_macros)] // Only its impls are used here.
-#[path = "../../forgeni/src/shown.rs"]
-mod shown;
 mod side_by_side;
 mod values;
+
+include!("../../forgeni/src/proved/modules.rs");

@@ -3,9 +3,9 @@
 //!
 //! The variable `SPAWNRUN` names the program that the kit has made of `crates/spawnrun`.
 
-use crate::proved::ent_alloc::Limits;
-use crate::proved::ent_handle::Handle;
-use crate::proved::ent_replay::{read_schedule, write_outcome, Event, Machine, Outcome, ReadFault};
+use crate::allocator::Limits;
+use crate::handles::Handle;
+use crate::traces::{read_schedule, write_outcome, Event, Machine, Outcome, ReadFault};
 use std::ffi::OsString;
 use std::io::Write;
 use std::process::{Command, Stdio};

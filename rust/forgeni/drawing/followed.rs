@@ -1,8 +1,8 @@
 //! The proved allocator, and what is drawn of it.
 
 use super::state::{Occupant, State};
-use crate::proved::ent_alloc::{Entities, ImageFault, Limits};
-use crate::proved::ent_handle::{Handle, Memory};
+use crate::allocator::{Entities, ImageFault, Limits};
+use crate::handles::{Handle, OutOfMemory};
 use std::collections::BTreeMap;
 use std::vec::Vec;
 
@@ -57,7 +57,7 @@ impl Followed {
         self.read_cursor();
     }
 
-    pub(super) fn flush(&mut self) -> Result<(), Memory> {
+    pub(super) fn flush(&mut self) -> Result<(), OutOfMemory> {
         let mut born = Vec::new();
         self.entities.flush(&mut born)?;
         let alive = |one: Handle| (one.index(), Occupant::Alive(one.generation()));

@@ -118,9 +118,9 @@ fn column_of(bands: &[Band<'_>], width: impl Fn(&Label) -> usize) -> usize {
 #[cfg(test)]
 mod tests {
     use super::*;
+    use crate::allocator::Limits;
     use crate::drawing::replayed::replayed;
-    use crate::proved::ent_alloc::Limits;
-    use crate::proved::ent_replay::read_schedule;
+    use crate::traces::read_schedule;
 
     fn timeline(text: &str) -> Timeline {
         let events = read_schedule(text.as_bytes()).expect("a schedule");

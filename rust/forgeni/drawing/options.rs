@@ -1,11 +1,11 @@
 //! The options that the drawing commands have in common with the proved ones.
 
+use crate::allocator::Limits;
+use crate::cli::{open_named, NameFault};
 use crate::kit::alloc::AllocError;
 use crate::kit::programs::clap::{numbers, Arg, ArgMatches, Command, Error};
 use crate::kit::programs::rt::HostRuntime;
 use crate::kit::programs::string::AsStr;
-use crate::proved::cli::{open_named, NameFault};
-use crate::proved::ent_alloc::Limits;
 use std::fs::File;
 
 /// A command with the options `--slots` and `--generations`, as `spawnrun replay` and `tracecheck` have them.

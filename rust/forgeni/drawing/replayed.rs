@@ -6,8 +6,8 @@
 use super::followed::Followed;
 use super::state::OpenCall;
 use super::timeline::{Mark, Moment, Timeline, Undrawn, MOST_EVENTS, MOST_SLOTS};
-use crate::proved::ent_alloc::Limits;
-use crate::proved::ent_replay::{write_outcome, Event, Machine, Outcome, ReplayFault};
+use crate::allocator::Limits;
+use crate::traces::{write_outcome, Event, Machine, Outcome, ReplayFault};
 use std::string::{String, ToString};
 use std::vec::Vec;
 

@@ -1,11 +1,11 @@
 //! Timelines of schedules, as data.
 
 use super::*;
+use crate::allocator::State as HandleState;
 use crate::drawing::band::{Band, Bar};
 use crate::drawing::state::Occupant;
-use crate::proved::ent_alloc::State as HandleState;
-use crate::proved::ent_handle::Handle;
-use crate::proved::ent_replay::read_schedule;
+use crate::handles::Handle;
+use crate::traces::read_schedule;
 use std::format;
 use std::vec;
 

@@ -1,7 +1,7 @@
 //! What holds after each event, as data.
 
 use super::state::State;
-use crate::proved::ent_handle::Memory;
+use crate::handles::OutOfMemory;
 use std::string::String;
 use std::vec::Vec;
 
@@ -51,8 +51,8 @@ pub(super) enum Undrawn {
     Memory,
 }
 
-impl From<Memory> for Undrawn {
-    fn from(_refused: Memory) -> Self {
+impl From<OutOfMemory> for Undrawn {
+    fn from(_refused: OutOfMemory) -> Self {
         Undrawn::Memory
     }
 }

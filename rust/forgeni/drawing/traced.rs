@@ -6,8 +6,8 @@
 use super::followed::Followed;
 use super::state::{Occupant, State};
 use super::timeline::{Mark, Moment, Timeline, Undrawn, MOST_EVENTS, MOST_SLOTS};
-use crate::proved::ent_handle::{Handle, Memory};
-use crate::proved::ent_replay::trace::{
+use crate::handles::{Handle, OutOfMemory};
+use crate::traces::trace::{
     read_line, write_difference, write_line, AllocReply, Call, CheckError, Comparer, Difference,
     FlushReply, FreeReply, Reservation, ReserveReply,
 };
@@ -69,7 +69,7 @@ impl BrokenRun {
     }
 
     /// What the program prints of the difference.
-    pub(super) fn text(&self) -> Result<String, Memory> {
+    pub(super) fn text(&self) -> Result<String, OutOfMemory> {
         let mut text = Vec::new();
         write_difference(&mut text, &self.difference)?;
         Ok(String::from_utf8_lossy(&text).to_string())
@@ -131,7 +131,7 @@ impl BrokenRun {
 }
 
 /// Does with the entities what lines did that agree: a run, and the line after it.
-fn follow(followed: &mut Followed, lines: &[Line]) -> Result<(), Memory> {
+fn follow(followed: &mut Followed, lines: &[Line]) -> Result<(), OutOfMemory> {
     let run = lines.iter().filter_map(|line| match &line.call {
         Call::Reserve(reservation) => Some(reservation),
         _ => None,
@@ -209,7 +209,7 @@ fn slots_of(call: &Call) -> impl Iterator<Item = u32> + '_ {
 }
 
 /// The text of a call, and the answer beside it, if that gave nothing. Handles aren't in the text: bars show them.
-fn texts_of(call: &Call) -> Result<(String, Option<String>), Memory> {
+fn texts_of(call: &Call) -> Result<(String, Option<String>), OutOfMemory> {
     let mut line = Vec::new();
     write_line(&mut line, call)?;
     let line = String::from_utf8_lossy(&line);

@@ -1,8 +1,8 @@
 //! Timelines of traces that differ, as data.
 
 use super::*;
+use crate::allocator::{Entities, Limits};
 use crate::drawing::band::{Band, Bar};
-use crate::proved::ent_alloc::{Entities, Limits};
 
 fn broken(trace: &str) -> BrokenRun {
     BrokenRun::find(Followed::new(Limits::GREATEST), trace.as_bytes()).expect("a difference")

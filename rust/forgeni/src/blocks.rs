@@ -1,13 +1,13 @@
 //! An allocator whose pool is dealt to callers in blocks, so that their handles don't depend on threads.
 
+use crate::in_blocks::open_in_blocks;
 use crate::numbers::next_number;
-use crate::proved::ent_blocks::open_in_blocks;
 use crate::shown::shows;
 use crate::{Entities, HandedBack};
 use alloc::vec::Vec;
 
-pub use crate::proved::ent_blocks::{BlockError, BlockReserver, BlockSize, Blocks};
-pub use crate::proved::ent_blocks::{DealError, EndError};
+pub use crate::in_blocks::{BlockError, BlockReserver, BlockSize, Blocks};
+pub use crate::in_blocks::{DealError, EndError};
 
 impl Entities {
     /// Deals the handles that would be given next to callers, in blocks of these sizes: each caller gets

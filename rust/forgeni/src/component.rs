@@ -2,7 +2,7 @@
 
 use core::fmt;
 
-pub use crate::proved::ent_handle::{Birth, ComponentId};
+pub use crate::handles::{Birth, ComponentId};
 
 impl Birth {
     /// The system of an entity that no system's queue lists.

@@ -1,14 +1,14 @@
 //! What the source of the proved allocator can't have: impls of Rust's traits, closures, and `new`
 //! without parameters.
 
+use crate::allocator::Limits;
 use crate::errors::OutOfMemory;
 use crate::handle::Handle;
-use crate::proved::ent_alloc::Limits;
 use crate::shown::shows;
 use alloc::vec::Vec;
 use core::iter::FusedIterator;
 
-pub use crate::proved::ent_alloc::{Entities, Freed, Living, State};
+pub use crate::allocator::{Entities, Freed, Living, State};
 
 impl Entities {
     /// An allocator with no entities and the greatest limits. It takes no memory.

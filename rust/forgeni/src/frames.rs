@@ -1,15 +1,15 @@
 //! Frames: systems run on workers over one world or one allocator, and a sync point takes what they issued.
 
 use crate::guarding::{caught, guarded};
-use crate::proved::ent_runner::NoGate;
-use crate::proved::{ent_runner, ent_total};
+use crate::running::NoGate;
+use crate::{phases, running};
 use crate::{Entities, HandedBack, Handle, Log, LogSystem, Report, SyncPoint, System, World};
 use alloc::vec::Vec;
 
-pub use crate::kit::thread::{StdThreads, Threads as Join};
-pub use crate::proved::ent_runner::{run_in_blocks, FrameReport, LogError, RunError};
-pub use crate::proved::ent_total::{fill_in_blocks, run_frame_in_blocks};
-pub use crate::proved::ent_total::{FrameError, Unframed};
+pub use crate::kit::thread::{Join, StdThreads};
+pub use crate::phases::{fill_in_blocks, run_frame_in_blocks};
+pub use crate::phases::{FrameError, Unframed};
+pub use crate::running::{run_in_blocks, FrameReport, LogError, RunError};
 
 /// Runs each system once, on that many workers side by side, and then the sync point. It returns
 /// the report of the sync point.
@@ -133,7 +133,7 @@ pub fn run_frame_on<J: Join + Sync, S: System + Sync>(
     workers: usize,
 ) -> Result<Report, FrameError> {
     guarded(join, systems, FrameError::Memory, |join, systems| {
-        Ok(ent_total::run_frame(join, world, systems, workers, &NoGate).map(|frame| frame.sync))
+        Ok(phases::run_frame(join, world, systems, workers, &NoGate).map(|frame| frame.sync))
     })
 }
 
@@ -252,7 +252,7 @@ pub fn run_logs_on<J: Join + Sync, C: Send, S: LogSystem<C> + Sync>(
     workers: usize,
 ) -> Result<Vec<Log<C>>, LogError> {
     guarded(join, systems, LogError::Memory, |join, systems| {
-        caught(|| ent_runner::run_logs(join, entities, systems, workers))
+        caught(|| running::run_logs(join, entities, systems, workers))
     })
 }
 
@@ -308,6 +308,6 @@ pub fn run_to_sync_point<J: Join + Sync, C: Send, S: LogSystem<C> + Sync>(
 ) -> Result<SyncPoint<C>, HandedBack<Vec<Log<C>>, LogError>> {
     let memory = HandedBack::new(Vec::new(), LogError::Memory);
     guarded(join, systems, memory, |join, systems| {
-        caught(|| ent_runner::run_to_sync_point(join, entities, systems, workers, born))
+        caught(|| running::run_to_sync_point(join, entities, systems, workers, born))
     })
 }

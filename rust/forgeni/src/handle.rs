@@ -3,7 +3,7 @@
 use core::num::NonZeroU64;
 use core::str::FromStr;
 
-pub use crate::proved::ent_handle::{Handle, TextFault as ParseHandleError};
+pub use crate::handles::{Handle, ParseHandleError};
 
 impl Handle {
     /// A handle that is never alive, for a field that is initialised before there is an entity. No

@@ -1,7 +1,7 @@
 //! Lists of handles in traces: impls of Rust's traits that calls and replies need for what they derive.
 //! The erased tests take this file too.
 
-use crate::proved::ent_replay::HandleList;
+use crate::traces::HandleList;
 use core::hash::{Hash, Hasher};
 
 impl Clone for HandleList {

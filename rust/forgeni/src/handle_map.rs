@@ -15,10 +15,10 @@ use core::fmt;
 use core::hash::{Hash, Hasher};
 use core::ops::{Index, IndexMut};
 
-use crate::proved::ent_storage::sparse_map::{Iter as SparseIter, SparseMap};
+use crate::components::sparse_map::{self, SparseMap};
 
-pub use crate::proved::ent_storage::handle_map::{Entry, HandleMap, InsertError, Iter, Keys};
-pub use crate::proved::ent_storage::handle_map::{OccupiedEntry, VacantEntry, Values};
+pub use crate::components::handle_map::{Entry, HandleMap, InsertError, Iter, Keys};
+pub use crate::components::handle_map::{OccupiedEntry, VacantEntry, Values};
 pub use crate::several::{IterMut, SlotsMut};
 
 /// Ends the process, as `Vec` does, when there is no memory for a value and the caller can't return
@@ -171,7 +171,7 @@ pub trait AnyMap:
 
 /// What both kinds of maps have by hand. `$iter_by_slot` goes over the values by rising slot.
 macro_rules! traits_of_a_map {
-    ($Map:ident, $Iter:ident, $iter_by_slot:ident) => {
+    ($Map:ident, $($Iter:ident)::+, $iter_by_slot:ident) => {
         impl<T> AnyMap for $Map<T> {
             type Value = T;
 
@@ -396,10 +396,10 @@ macro_rules! traits_of_a_map {
 
         impl<'a, T> IntoIterator for &'a $Map<T> {
             type Item = (Handle, &'a T);
-            type IntoIter = $Iter<'a, T>;
+            type IntoIter = $($Iter)::+<'a, T>;
 
             #[inline]
-            fn into_iter(self) -> $Iter<'a, T> {
+            fn into_iter(self) -> $($Iter)::+<'a, T> {
                 self.iter()
             }
         }
@@ -414,7 +414,7 @@ impl<T> HandleMap<T> {
 }
 
 traits_of_a_map!(HandleMap, Iter, iter);
-traits_of_a_map!(SparseMap, SparseIter, iter_by_slot);
+traits_of_a_map!(SparseMap, sparse_map::Iter, iter_by_slot);
 
 #[cold]
 #[inline(never)]
@@ -436,7 +436,7 @@ impl<T> IntoIterator for HandleMap<T> {
 }
 
 walks!(debug_map: Iter<'_, T>, T: fmt::Debug);
-walks!(debug_map: SparseIter<'_, T>, T: fmt::Debug);
+walks!(debug_map: sparse_map::Iter<'_, T>, T: fmt::Debug);
 walks!(debug_list: Keys<'_, T>, T);
 walks!(debug_list: Values<'_, T>, T: fmt::Debug);
 

@@ -52,8 +52,10 @@ pub trait JoinMaps {
     fn join(self) -> impl Iterator<Item = Self::Item>;
 }
 
-/// A map that a walk over several begins with.
-pub trait First {
+/// A map that a walk over several begins with: either map, borrowed, and mutably if its values are to change.
+/// [`JoinMaps::join`] calls what it has.
+pub trait Leads {
+    /// What the walk gives of a value.
     type Lent;
 
     /// How many values a walk over this map has. A walk goes over another map only if that has less
@@ -67,7 +69,7 @@ pub trait First {
     fn of<V>(self, others: impl BySlot<V>) -> impl Iterator<Item = (Handle, Self::Lent, V)>;
 }
 
-impl<'a, M: AnyMap> First for &'a M {
+impl<'a, M: AnyMap> Leads for &'a M {
     type Lent = &'a M::Value;
 
     fn count(&self) -> usize {
@@ -86,7 +88,7 @@ impl<'a, M: AnyMap> First for &'a M {
     }
 }
 
-impl<'a, T> First for &'a mut HandleMap<T> {
+impl<'a, T> Leads for &'a mut HandleMap<T> {
     type Lent = &'a mut T;
 
     fn count(&self) -> usize {
@@ -104,7 +106,7 @@ impl<'a, T> First for &'a mut HandleMap<T> {
     }
 }
 
-impl<'a, T> First for &'a mut SparseMap<T> {
+impl<'a, T> Leads for &'a mut SparseMap<T> {
     type Lent = &'a mut T;
 
     /// None, so that the walk always goes over it: its values lie in no order of slots.
@@ -178,7 +180,7 @@ macro_rules! walk {
 
 macro_rules! tuples_are_joined {
     ($($Map:ident $map:ident)*) => {
-        impl<'a, A: First, $($Map: AnyMap),*> JoinMaps for (A, $(&'a $Map),*) {
+        impl<'a, A: Leads, $($Map: AnyMap),*> JoinMaps for (A, $(&'a $Map),*) {
             type Item = (Handle, A::Lent, $(&'a $Map::Value),*);
 
             #[inline]

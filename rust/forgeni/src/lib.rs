@@ -43,10 +43,6 @@ mod phase;
 #[cfg(feature = "programs")]
 #[doc(hidden)]
 pub mod programs;
-// The sources have labels where a proof names a loop, and values for the case that a call fails.
-#[allow(unused_assignments, unused_labels)]
-#[rustfmt::skip]
-mod proved;
 #[cfg(feature = "std")]
 mod reservers;
 #[cfg(test)]
@@ -67,6 +63,9 @@ mod waiting;
 mod world;
 mod world_phase;
 
+include!("proved/modules.rs");
+
+pub use allocator::Limits;
 pub use blocks::*;
 pub use component::{Birth, ComponentId};
 pub use entities::{Entities, Freed, Living, State};
@@ -76,12 +75,11 @@ pub use frames::*;
 pub use handle::{Handle, ParseHandleError};
 pub use handle_map::{AnyMap, HandleMap, InsertError};
 pub use history::{Change, History};
-pub use joining::JoinMaps;
+pub use joining::{JoinMaps, Leads};
 pub use lent::Lent;
 pub use log::{BeginError, Entry, Log, Reserves, SyncPoint};
 #[cfg(feature = "rayon")]
 pub use on_rayon::{ParIter, ParJoinMaps, Rayon};
-pub use proved::ent_alloc::Limits;
 #[cfg(feature = "std")]
 pub use reservers::{Lends, Reservers};
 #[cfg(feature = "serde")]
@@ -89,7 +87,7 @@ pub use reservers::{Lends, Reservers};
 pub use serde_impls::for_tables;
 pub use sharing::{CloseError, OtherPhase, Reserver, ShareError, Shared};
 pub use sparse_map::SparseMap;
-pub use storage::{Bundle, Items, Storage, StorageError};
+pub use storage::{Bundle, InlineBundle, Items, Storage, StorageError};
 pub use sync::{Fault, FaultKind, GoOnError, Queues, Report, Stop, Stopped, SyncError};
 pub use system::*;
 pub use tracked::Tracked;

@@ -4,7 +4,7 @@ use crate::lent::Lent;
 use crate::{Handle, Refused};
 use core::fmt;
 
-pub use crate::proved::ent_log::{BeginError, Entry, Log, Reserves, SyncPoint};
+pub use crate::logs::{BeginError, Entry, Log, Reserves, SyncPoint};
 
 impl Reserves for Lent<'_> {
     #[inline]

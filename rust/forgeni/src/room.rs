@@ -1,10 +1,10 @@
 //! Room for very many things at once, which the package's own calls don't ask for: tests alone. All
 //! memory is there but where a test says so.
 
-use crate::proved::ent_alloc::{Entities, Limits};
-use crate::proved::ent_handle::{Birth, Handle};
-use crate::proved::ent_shared::share;
-use crate::proved::ent_storage::Storage;
+use crate::allocator::{Entities, Limits};
+use crate::components::Storage;
+use crate::handles::{Birth, Handle};
+use crate::reserving::share;
 
 /// 2^31 handles without a list: they are looked up one by one, and none of them takes memory.
 #[test]

@@ -2,9 +2,9 @@
 //! meantime, so this is by hand, in safe Rust. It changes no slot's generation, and keeps the count
 //! right.
 
+use crate::components::handle_map::slot::Slot;
 use crate::errors::OutOfMemory;
 use crate::handle::Handle;
-use crate::proved::ent_storage::handle_map::slot::Slot;
 use crate::{HandleMap, SparseMap};
 use alloc::vec;
 use core::iter::{Enumerate, FusedIterator, Map};

@@ -2,13 +2,13 @@
 
 use crate::numbers::next_number;
 use crate::phase::closed;
-use crate::proved::ent_shared::Shared as SharedSource;
-use crate::proved::ent_total::share;
+use crate::reserving::SharedSource;
+use crate::phases::share;
 use crate::shown::shows;
 use crate::{Entities, HandedBack};
 use alloc::vec::Vec;
 
-pub use crate::proved::ent_total::{CloseError, OtherPhase, Reserver, ShareError, Shared};
+pub use crate::phases::{CloseError, OtherPhase, Reserver, ShareError, Shared};
 
 impl Entities {
     /// Shares the allocator among `callers` reservers, 1 to 1,024, each of which can go to a thread

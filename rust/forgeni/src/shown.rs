@@ -1,25 +1,6 @@
 //! What `Debug` shows of types whose fields nobody should see, and of types that have another name in
 //! the package than where they are proved. The erased tests take this file too.
 
-use crate::proved::ent_handle::Memory as OutOfMemory;
-use crate::proved::ent_world::SyncReport as Report;
-use core::fmt;
-
-impl fmt::Debug for OutOfMemory {
-    fn fmt(&self, out: &mut fmt::Formatter<'_>) -> fmt::Result {
-        out.write_str("OutOfMemory")
-    }
-}
-
-impl fmt::Debug for Report {
-    fn fmt(&self, out: &mut fmt::Formatter<'_>) -> fmt::Result {
-        out.debug_struct("Report")
-            .field("born", &self.born)
-            .field("faults", &self.faults)
-            .finish()
-    }
-}
-
 /// `Debug` of types that show what these calls return, and say that there is more. A type parameter is in
 /// brackets.
 macro_rules! shows {

@@ -5,8 +5,8 @@ use crate::handle::Handle;
 use crate::shown::shows;
 use alloc::vec::{self, Vec};
 
-pub use crate::proved::ent_storage::sparse_map::{Entry, OccupiedEntry, VacantEntry};
-pub use crate::proved::ent_storage::sparse_map::{Iter, SparseMap};
+pub use crate::components::sparse_map::{Entry, OccupiedEntry, VacantEntry};
+pub use crate::components::sparse_map::{Iter, SparseMap};
 
 impl<T> SparseMap<T> {
     /// The handles that have a value, in the order of [`entries`](Self::entries).

@@ -6,8 +6,8 @@ use core::alloc::Layout;
 use core::fmt;
 use core::hash::{Hash, Hasher};
 
-pub use crate::proved::ent_queue::Bundle;
-pub use crate::proved::ent_storage::{Items, Storage, StorageFault as StorageError};
+pub use crate::commands::Bundle;
+pub use crate::components::{InlineBundle, Items, Storage, StorageError};
 
 shows! {
     Storage: len;
@@ -15,13 +15,13 @@ shows! {
 
 walks!(debug_map: Items<'_>);
 
-impl Default for Bundle {
+impl<const INLINE: usize> Default for InlineBundle<INLINE> {
     fn default() -> Self {
         Self::new()
     }
 }
 
-impl fmt::Debug for Bundle {
+impl<const INLINE: usize> fmt::Debug for InlineBundle<INLINE> {
     fn fmt(&self, out: &mut fmt::Formatter<'_>) -> fmt::Result {
         let items = self.items().iter().map(|(id, value)| (id, value));
         out.debug_map().entries(items).finish()
@@ -29,22 +29,22 @@ impl fmt::Debug for Bundle {
 }
 
 /// If memory runs out, the process ends, as for a `Vec`.
-impl Clone for Bundle {
+impl<const INLINE: usize> Clone for InlineBundle<INLINE> {
     fn clone(&self) -> Self {
         let items = self.items();
         Self::of(items).unwrap_or_else(|_| handle_alloc_error(Layout::for_value(items)))
     }
 }
 
-impl PartialEq for Bundle {
+impl<const INLINE: usize> PartialEq for InlineBundle<INLINE> {
     fn eq(&self, other: &Self) -> bool {
         self.items() == other.items()
     }
 }
 
-impl Eq for Bundle {}
+impl<const INLINE: usize> Eq for InlineBundle<INLINE> {}
 
-impl Hash for Bundle {
+impl<const INLINE: usize> Hash for InlineBundle<INLINE> {
     fn hash<H: Hasher>(&self, state: &mut H) {
         self.items().hash(state);
     }

@@ -1,4 +1,4 @@
 //! Sync points, and where they stop.
 
-pub use crate::proved::ent_total::{GoOnError, Queues, Stop, Stopped, SyncError};
-pub use crate::proved::ent_world::{Fault, FaultKind, SyncReport as Report};
+pub use crate::phases::{GoOnError, Queues, Stop, Stopped, SyncError};
+pub use crate::worlds::{Fault, FaultKind, Report};

@@ -1,7 +1,6 @@
 //! Systems, and what they fill.
 
-use crate::proved::ent_blocks::Blocks;
-use crate::proved::ent_queue::CommandQueue;
+use crate::in_blocks::Blocks;
 use crate::shown::shows;
 use crate::{Log, OutOfMemory, View};
 use alloc::boxed::Box;
@@ -11,11 +10,14 @@ use std::sync::{Mutex, PoisonError};
 
 /// Where the handles of a system come from: [`SharedSource`] or [`Blocks`]. As a bound it makes a function or a
 /// system one for both, as at [`LogCommands`].
-pub use crate::proved::ent_alloc::Source;
-pub use crate::proved::ent_queue::Commands as SystemCommands;
-pub use crate::proved::ent_runner::{LogSystem, System};
+pub use crate::allocator::Source;
+pub use crate::commands::{IssuedCommands, SystemCommands};
 /// The source of the systems of [`run_frame`](crate::run_frame) and [`run_logs`](crate::run_logs).
-pub use crate::proved::ent_shared::Shared as SharedSource;
+pub use crate::reserving::SharedSource;
+pub use crate::running::{LogSystem, System};
+
+pub use crate::allocator::Reserved;
+pub use crate::reserving::SharedReserver;
 
 /// Issues the commands of one system of a world, with handles from the source `S`.
 ///
@@ -32,7 +34,7 @@ pub use crate::proved::ent_shared::Shared as SharedSource;
 /// assert_eq!(world.len(), 200);
 /// # Ok::<(), Box<dyn std::error::Error>>(())
 /// ```
-pub type WorldCommands<'a, S = SharedSource> = SystemCommands<'a, CommandQueue, S>;
+pub type WorldCommands<'a, S = SharedSource> = SystemCommands<'a, IssuedCommands, S>;
 
 /// Fills the log of one system, with handles from the source `S`. `C` is the caller's type of commands.
 ///

@@ -42,18 +42,18 @@
 
 use crate::errors::OutOfMemory;
 use crate::handle::Handle;
-use crate::proved::ent_replay::trace::{write_difference, write_line};
 use crate::shown::shows;
+use crate::traces::trace::{write_difference, write_line};
 use alloc::vec::Vec;
 use core::error::Error;
 use core::fmt;
 use core::ops::Deref;
 use core::str;
 
-pub use crate::proved::ent_replay::trace::{AllocReply, FlushReply, FreeReply, ReserveReply};
-pub use crate::proved::ent_replay::trace::{Call, CheckError, Checker, Difference};
-pub use crate::proved::ent_replay::trace::{Log, Recorder, Reservation};
-pub use crate::proved::ent_replay::HandleList;
+pub use crate::traces::trace::{AllocReply, FlushReply, FreeReply, ReserveReply};
+pub use crate::traces::trace::{Call, CheckError, Checker, Difference};
+pub use crate::traces::trace::{Log, Recorder, Reservation};
+pub use crate::traces::HandleList;
 
 // ---- lists of handles
 

@@ -1,8 +1,8 @@
 //! Worlds: what their proved sources can't have.
 
 use crate::numbers::next_number;
-use crate::proved::ent_total::{clone_world, clone_world_from, new_world};
-use crate::proved::ent_total::{open, open_in_blocks, read_world, read_world_within};
+use crate::phases::{clone_world, clone_world_from, new_world};
+use crate::phases::{open, open_in_blocks, read_world, read_world_within};
 use crate::shown::shows;
 use crate::world_phase::closed;
 use crate::{
@@ -10,8 +10,8 @@ use crate::{
 };
 use alloc::vec::Vec;
 
-pub use crate::proved::ent_total::{CommandQueue, Commands, OpenWorld, World, WorldInBlocks};
-pub use crate::proved::ent_world::View;
+pub use crate::phases::{CommandQueue, Commands, OpenWorld, World, WorldInBlocks};
+pub use crate::worlds::View;
 
 impl World {
     /// A world without entities, with the greatest limits. It takes no memory.

@@ -1,7 +1,7 @@
-//! Functions with a condition are the package's own.
+//! Functions with a condition are the package's own, and so are a few others.
 
 use super::Audit;
-use crate::conditions::{imported, is_met};
+use crate::conditions::{imported, is_inside, is_met};
 use crate::source::Fault;
 
 impl Audit<'_> {
@@ -17,7 +17,7 @@ impl Audit<'_> {
             _ => at + 1,
         };
         match source.at(first) {
-            "fn" => self.is_conditional(first),
+            "fn" => self.is_conditional(first) || is_inside(source, self.krate, first),
             "use" => self.imports_a_condition(first + 1),
             _ => false,
         }

@@ -8,20 +8,13 @@ mod handle_list;
 #[path = "../../../forgeni/src/kit/mod.rs"]
 #[allow(dead_code)] // Not all of it is used here.
 mod kit;
-#[rustfmt::skip]
-#[path = "../../../forgeni/src/proved/mod.rs"]
-mod proved;
-#[allow(unused_imports, unused_macros)] // Only its impls are used here.
-#[path = "../../../forgeni/src/shown.rs"]
-mod shown;
-#[allow(unused_imports)] // Only its impls are used here.
-#[path = "../../../forgeni/src/sync.rs"]
-mod sync;
 
-use proved::ent_alloc::Limits;
-use proved::ent_replay::{read_schedule, write_outcome, Machine};
+include!("../../../forgeni/src/proved/modules.rs");
+
+use allocator::Limits;
 use std::error::Error;
 use std::io::{self, Read, Write};
+use traces::{read_schedule, write_outcome, Machine};
 
 fn main() -> Result<(), Box<dyn Error>> {
     let mut schedule = Vec::new();

@@ -1,6 +1,6 @@
 //! The runtime that a test is handed.
 
-use crate::kit::thread::{StdThreads, Threads};
+use crate::kit::thread::{Join, StdThreads};
 use std::cell::RefCell;
 use std::fs::Metadata;
 use std::io;
@@ -63,7 +63,7 @@ impl Files for HostRuntime {
 
 impl Print for HostRuntime {}
 
-impl Threads for HostRuntime {
+impl Join for HostRuntime {
     fn join(&self, first: &mut (dyn FnMut() + Send), second: &mut (dyn FnMut() + Send)) {
         StdThreads.join(first, second);
     }

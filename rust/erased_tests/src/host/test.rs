@@ -1,6 +1,6 @@
 //! What a test returns.
 
-use crate::proved::ent_replay::RunMemory;
+use crate::traces::RunMemory;
 use std::error::Error;
 use std::fmt;
 

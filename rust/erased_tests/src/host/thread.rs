@@ -1,6 +1,6 @@
 //! Work side by side.
 
-pub use crate::kit::thread::{join_mut, Threads};
+pub use crate::kit::thread::{join_mut, Join as Threads};
 pub use std::thread::yield_now;
 
 use crate::kit::alloc::AllocError;

@@ -1,7 +1,7 @@
 //! What no line of a case writes: a request of four thousand million handles, and a list with room.
 
-use crate::proved::ent_alloc::{Entities, Limits, Span};
-use crate::proved::ent_handle::Handle;
+use crate::allocator::{Entities, Limits, Span};
+use crate::handles::Handle;
 
 #[test]
 fn the_greatest_limits() {

@@ -1,6 +1,6 @@
 //! Claimers that claim in turn, and threads that claim side by side.
 
-use crate::proved::ent_runner::{Claimer, Claims};
+use crate::running::{Claimer, Claims};
 use std::sync::Barrier;
 use std::thread;
 

@@ -1,16 +1,16 @@
 //! How the faults of schedules, requests, queues, sync points and frames read, and what a system
 //! makes of one.
 
-use crate::proved::ent_handle::Memory;
-use crate::proved::ent_queue::QueueFault;
-use crate::proved::ent_replay::{Cause, ReadFault};
-use crate::proved::ent_runner::FrameFault;
-use crate::proved::ent_shared::Refused;
-use crate::proved::ent_world::{SyncFault, SyncReport};
+use crate::commands::ReserveError;
+use crate::handles::OutOfMemory;
+use crate::reserving::Refused;
+use crate::running::FrameFault;
+use crate::traces::{Cause, ReadFault};
+use crate::worlds::{Report, SyncFault};
 
-const SPACE: QueueFault = QueueFault::Space { wanted: 3, left: 2 };
+const SPACE: ReserveError = ReserveError::Space { wanted: 3, left: 2 };
 
-const QUOTA: QueueFault = QueueFault::Quota { left: 1 };
+const QUOTA: ReserveError = ReserveError::Quota { left: 1 };
 
 #[test]
 fn texts_of_the_faults_of_a_schedule() {
@@ -40,14 +40,14 @@ fn a_refusal_ends_no_system() {
 
 #[test]
 fn want_of_memory_ends_a_system() {
-    assert_eq!(QueueFault::Memory.or_memory(), Err(Memory));
+    assert_eq!(ReserveError::Memory.or_memory(), Err(OutOfMemory));
 }
 
 #[test]
 fn texts_of_the_faults_of_a_queue() {
     assert_eq!(SPACE.to_string(), "3 wanted and 2 left");
     assert_eq!(QUOTA.to_string(), "the quota left is 1");
-    assert_eq!(QueueFault::Memory.to_string(), "out of memory");
+    assert_eq!(ReserveError::Memory.to_string(), "out of memory");
 }
 
 fn at_command(command: usize, system: usize) -> SyncFault {
@@ -55,7 +55,7 @@ fn at_command(command: usize, system: usize) -> SyncFault {
         system,
         command,
         done: 7,
-        so_far: SyncReport {
+        so_far: Report {
             born: Vec::new(),
             faults: Vec::new(),
         },

@@ -1,6 +1,6 @@
 //! How handles are printed, their order and their hash, and decimals.
 
-use crate::proved::ent_handle::{read_decimal, Handle, TextFault};
+use crate::handles::{read_decimal, Handle, ParseHandleError};
 use std::collections::HashMap;
 
 #[test]
@@ -17,9 +17,9 @@ fn printed() {
 #[test]
 fn decimals() {
     assert_eq!(read_decimal(b"4294967295"), Ok(4294967295));
-    assert_eq!(read_decimal(b"4294967296"), Err(TextFault::Range));
-    assert_eq!(read_decimal(b"01"), Err(TextFault::Shape));
-    assert_eq!(read_decimal(b"+1"), Err(TextFault::Shape));
+    assert_eq!(read_decimal(b"4294967296"), Err(ParseHandleError::Range));
+    assert_eq!(read_decimal(b"01"), Err(ParseHandleError::Shape));
+    assert_eq!(read_decimal(b"+1"), Err(ParseHandleError::Shape));
 }
 
 #[test]

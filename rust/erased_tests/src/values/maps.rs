@@ -1,8 +1,8 @@
 //! Worked use of maps by handle: one map of texts, which own memory, one of nothing, which has no size,
 //! and one of numbers, which are `Copy`.
 
-use crate::proved::ent_handle::Handle;
-use crate::proved::ent_storage::handle_map::{HandleMap, InsertError};
+use crate::components::handle_map::{HandleMap, InsertError};
+use crate::handles::Handle;
 
 // Slot 2 has an early and a late occupant.
 fn early() -> Handle {

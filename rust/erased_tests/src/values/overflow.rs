@@ -1,9 +1,9 @@
 //! Phases in blocks whose callers go past their blocks. If there is memory, opening and ending succeed, which no clause can
 //! say: a body that never asks for memory and says that it ran out meets them all.
 
-use crate::proved::ent_alloc::{AllocFault, Entities, Limits, Refused, Source};
-use crate::proved::ent_blocks::{open_with_overflow, Overflow, OverflowReserver};
-use crate::proved::ent_handle::Handle;
+use crate::allocator::{AllocError, Entities, Limits, Refused, Source};
+use crate::handles::Handle;
+use crate::in_blocks::{open_with_overflow, Overflow, OverflowReserver};
 
 fn handle(index: u32, generation: u32) -> Handle {
     Handle::new(index, generation).expect("within the ranges")
@@ -61,7 +61,7 @@ fn two_callers_go_past_their_blocks() {
         .map(|(index, generation)| handle(index, generation));
     assert_flushes(&mut entities, &born);
     assert_eq!(entities.alloc(), Ok(handle(6, 1)));
-    assert_eq!(entities.alloc(), Err(AllocFault::Space));
+    assert_eq!(entities.alloc(), Err(AllocError::Space));
 }
 
 #[test]
@@ -102,7 +102,7 @@ fn lost_callers_count_as_used_up() {
         .map(|(index, generation)| handle(index, generation));
     assert_flushes(&mut entities, &born);
     assert_eq!(entities.alloc(), Ok(handle(0, 2)));
-    assert_eq!(entities.alloc(), Err(AllocFault::Space));
+    assert_eq!(entities.alloc(), Err(AllocError::Space));
 }
 
 #[test]
@@ -124,7 +124,9 @@ fn close_lost_with_all_callers() {
 #[test]
 fn it_is_a_source() {
     let mut entities = allocator();
-    entities.try_set_row(handle(2, 1), 7).expect("memory for a row");
+    entities
+        .try_set_row(handle(2, 1), 7)
+        .expect("memory for a row");
     let (phase, mut callers) = open(entities, &[1]);
     assert!(phase.was_alive(handle(2, 1)) && !phase.was_alive(handle(1, 2)));
     assert_eq!(phase.had_row(handle(2, 1)), Some(7));

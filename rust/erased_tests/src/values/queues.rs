@@ -1,10 +1,10 @@
 //! Commands of each kind: how their queue reads, and what a sync point makes of them.
 
-use crate::proved::ent_alloc::Limits;
-use crate::proved::ent_handle::{Birth, ComponentId, Handle};
-use crate::proved::ent_queue::{Bundle, BundleRef, CommandQueue, Commands, Entry, QueueFault};
-use crate::proved::ent_shared::Refused;
-use crate::proved::ent_world::World;
+use crate::allocator::Limits;
+use crate::commands::{Bundle, BundleRef, Entry, IssuedCommands, ReserveError, SystemCommands};
+use crate::handles::{Birth, ComponentId, Handle};
+use crate::reserving::Refused;
+use crate::worlds::World;
 
 const HP: ComponentId = ComponentId(0);
 
@@ -22,7 +22,7 @@ fn bundle(items: &[(ComponentId, i64)]) -> Bundle {
 }
 
 /// Issues a command of each kind, over five slots.
-fn issue(commands: &mut Commands<'_>) {
+fn issue(commands: &mut SystemCommands<'_>) {
     assert_eq!(commands.spawn(&bundle(BOTH)).ok(), Some(first(0)));
     let three = commands.spawn_many(3, &bundle(BOTH)).ok();
     assert_eq!(
@@ -30,19 +30,19 @@ fn issue(commands: &mut Commands<'_>) {
         [first(1), first(2), first(3)]
     );
     let fault = commands.spawn_many(3, &bundle(BOTH)).err();
-    assert_eq!(fault, Some(QueueFault::Space { wanted: 3, left: 1 }));
+    assert_eq!(fault, Some(ReserveError::Space { wanted: 3, left: 1 }));
     assert!(commands.insert(first(1), &bundle(&[(HP, 9)])).is_ok());
     assert!(commands.remove(first(2), HP).is_ok());
     assert!(commands.despawn(first(3)).is_ok());
 }
 
 /// A world over five slots, and the queue of a phase in which one system issues.
-fn phase() -> (World, CommandQueue) {
+fn phase() -> (World, IssuedCommands) {
     let limits = Limits::new(5, 7).expect("limits");
     let opened = World::new(limits).open(1).ok();
     let (opened, mut reservers) = opened.expect("memory for a reserver");
     let reserver = reservers.get_mut(0).expect("a reserver");
-    let mut commands = Commands::new(opened.shared(), reserver);
+    let mut commands = SystemCommands::new(opened.shared(), reserver);
     issue(&mut commands);
     let queue = commands.finish();
     (opened.close(reservers), queue)

@@ -1,7 +1,7 @@
 //! The lists of handles in outcomes.
 
-use crate::proved::ent_handle::Handle;
-use crate::proved::ent_replay::HandleList;
+use crate::handles::Handle;
+use crate::traces::HandleList;
 
 #[test]
 fn lists_of_handles() {

@@ -1,14 +1,16 @@
 //! Entities as bytes: a worked image, each change of it, and one of many entities.
 
-use crate::proved::ent_handle::{Birth, ComponentId, Handle};
-use crate::proved::ent_storage::{write_word, Storage, StorageImageFault};
+use crate::components::{write_word, Storage, StorageImageFault};
+use crate::handles::{Birth, ComponentId, Handle};
 
 /// Width 2. The first entity has the component 1, and the second one none.
 const IMAGE: [u8; 48] = [
     2, 0, 0, 0, // the width
     1, 0, 0, 0, 0, 0, 0, 0, 2, 0, 0, 0, 3, 0, 0, 0, // frame 1, system 2, ordinal 3
-    0, 1, 0xfe, 0xff, 0xff, 0xff, 0xff, 0xff, 0xff, 0xff, // no component 0, and component 1 is -2
-    2, 1, 0, 0, 0, 0, 0, 0, 0xff, 0xff, 0xff, 0xff, 0, 0, 0, 0, // frame 258, no system, ordinal 0
+    0, 1, 0xfe, 0xff, 0xff, 0xff, 0xff, 0xff, 0xff,
+    0xff, // no component 0, and component 1 is -2
+    2, 1, 0, 0, 0, 0, 0, 0, 0xff, 0xff, 0xff, 0xff, 0, 0, 0,
+    0, // frame 258, no system, ordinal 0
     0, 0, // no components
 ];
 
@@ -31,10 +33,19 @@ fn image(storage: &Storage, handles: &[Handle]) -> Vec<u8> {
 fn worked_image() {
     let [first, second] = handles();
     let storage = Storage::read_image(&handles(), 2, &IMAGE).expect("two entities");
-    let birth = |frame, system, ordinal| Some(Birth { frame, system, ordinal });
+    let birth = |frame, system, ordinal| {
+        Some(Birth {
+            frame,
+            system,
+            ordinal,
+        })
+    };
     assert_eq!(storage.birth(first), birth(1, 2, 3));
     assert_eq!(storage.birth(second), birth(258, u32::MAX, 0));
-    assert!(storage.items(first).expect("the first").eq([(ComponentId(1), -2)]));
+    assert!(storage
+        .items(first)
+        .expect("the first")
+        .eq([(ComponentId(1), -2)]));
     assert_eq!(storage.items(second).expect("the second").count(), 0);
     assert_eq!(image(&storage, &handles()), IMAGE);
 }
@@ -42,7 +53,10 @@ fn worked_image() {
 #[test]
 fn each_cut_is_refused() {
     for end in 0..IMAGE.len() {
-        assert!(Storage::read_image(&handles(), 2, &IMAGE[..end]).is_err(), "{end}");
+        assert!(
+            Storage::read_image(&handles(), 2, &IMAGE[..end]).is_err(),
+            "{end}"
+        );
     }
     let longer = [&IMAGE[..], &[0]].concat();
     let refused = Storage::read_image(&handles(), 2, &longer).map(|_| ());
@@ -71,7 +85,10 @@ fn each_change_is_refused_or_another_image() {
 fn width_that_no_entity_has_is_refused() {
     for width in [0, 1, 3, 256, 257, u32::MAX] {
         let bytes = [&width.to_le_bytes()[..], &IMAGE[4..]].concat();
-        assert!(Storage::read_image(&handles(), 2, &bytes).is_err(), "{width}");
+        assert!(
+            Storage::read_image(&handles(), 2, &bytes).is_err(),
+            "{width}"
+        );
     }
 }
 
@@ -82,10 +99,16 @@ fn many_entities() {
         .collect();
     let mut storage = Storage::new();
     for (index, handle) in (0..).zip(&handles) {
-        let birth = Birth { frame: 1, system: 0, ordinal: index };
+        let birth = Birth {
+            frame: 1,
+            system: 0,
+            ordinal: index,
+        };
         storage.born(*handle, birth).expect("a new entity");
         let items = [(ComponentId((index % 7) as u8), i64::from(index) - 50_000)];
-        storage.insert(*handle, &items).expect("memory for a component");
+        storage
+            .insert(*handle, &items)
+            .expect("memory for a component");
     }
     let bytes = image(&storage, &handles);
     assert_eq!(bytes.len(), 4 + 100_000 * (16 + 7 + 8));

@@ -29,13 +29,13 @@
 /// assert_eq!(run_logs_on(&Named, &mut Entities::new(), &[halt; 8], 2)?.len(), 8);
 /// # Ok::<(), Box<dyn std::error::Error>>(())
 /// ```
-pub trait Threads {
+pub trait Join {
     /// Calls both, side by side if it can, and returns when both have returned. It is best to call the second
     /// one in this thread at once: if there are more than two workers, that one calls `join` again.
     fn join(&self, first: &mut (dyn FnMut() + Send), second: &mut (dyn FnMut() + Send));
 }
 
-impl<J: Threads + ?Sized> Threads for &J {
+impl<J: Join + ?Sized> Join for &J {
     fn join(&self, first: &mut (dyn FnMut() + Send), second: &mut (dyn FnMut() + Send)) {
         (**self).join(first, second);
     }
@@ -56,7 +56,7 @@ impl<J: Threads + ?Sized> Threads for &J {
 #[derive(Clone, Copy, Debug, Default)]
 pub struct StdThreads;
 
-impl Threads for StdThreads {
+impl Join for StdThreads {
     /// Calls the second one, and the first one beside it if a thread can be started. A panic of one of
     /// them is handed on when both have ended. If std is refused the memory that it takes to start a
     /// thread, it may end the program.
@@ -79,7 +79,7 @@ impl Threads for StdThreads {
 /// Calls both, and returns what they return.
 ///
 /// The contract: each is called once, whatever `rt` does, and both have returned when it returns.
-pub fn join_mut<R: Threads, A: Send, B: Send>(
+pub fn join_mut<R: Join, A: Send, B: Send>(
     rt: &R,
     first: &mut (impl FnMut() -> A + Send),
     second: &mut (impl FnMut() -> B + Send),
@@ -123,7 +123,7 @@ mod tests {
     /// Calls the parts as many times as these numbers say, the second one first.
     struct Calls(usize, usize);
 
-    impl Threads for Calls {
+    impl Join for Calls {
         fn join(&self, first: &mut (dyn FnMut() + Send), second: &mut (dyn FnMut() + Send)) {
             (0..self.1).for_each(|_| second());
             (0..self.0).for_each(|_| first());

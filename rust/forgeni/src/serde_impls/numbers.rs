@@ -1,8 +1,8 @@
 //! The types that are a number or a few, and a value with one. Those of a few are written as a tuple,
 //! which takes no code for the names of fields.
 
+use crate::allocator::Limits;
 use crate::component::{Birth, ComponentId};
-use crate::proved::ent_alloc::Limits;
 use crate::{BlockSize, Tracked};
 use serde::de::{Deserialize, Deserializer, Error};
 use serde::ser::{Serialize, Serializer};

@@ -6,7 +6,7 @@ use super::env::Env;
 use super::streams::Stream;
 use super::time::Clock;
 use crate::kit::alloc::AllocError;
-use crate::kit::thread::{StdThreads, Threads};
+use crate::kit::thread::{Join, StdThreads};
 use std::fs::Metadata;
 use std::io;
 
@@ -47,7 +47,7 @@ impl Files for HostRuntime {
     }
 }
 
-impl Threads for HostRuntime {
+impl Join for HostRuntime {
     fn join(&self, first: &mut (dyn FnMut() + Send), second: &mut (dyn FnMut() + Send)) {
         StdThreads.join(first, second);
     }

@@ -8,8 +8,8 @@ mod input;
 mod named;
 mod pipe;
 
-pub use crate::proved::cli::devices::counted::Counted;
-pub use crate::proved::cli::devices::device::{Failed, Sink, Source};
-pub use crate::proved::cli::devices::input::{InputFault, read_all};
-pub use crate::proved::cli::devices::named::{NameFault, open_named, put_refusal};
-pub use crate::proved::cli::devices::pipe::{Muted, Noting};
+pub use crate::cli::devices::counted::Counted;
+pub use crate::cli::devices::device::{Failed, Sink, Source};
+pub use crate::cli::devices::input::{InputFault, read_all};
+pub use crate::cli::devices::named::{NameFault, open_named, put_refusal};
+pub use crate::cli::devices::pipe::{Muted, Noting};

@@ -3,7 +3,7 @@
 //! How a run of a program ends, and what the error stream gets then.
 
 use crate::kit::programs::string::String;
-use crate::proved::cli::devices::{NameFault, Sink, put_refusal};
+use crate::cli::devices::{NameFault, Sink, put_refusal};
 use crate::kit::alloc::AllocError;
 use std::io;
 use std::io::ErrorKind;

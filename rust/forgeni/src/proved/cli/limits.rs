@@ -3,7 +3,7 @@
 //! The limits that two options give.
 
 use crate::kit::programs::clap::ArgMatches;
-use crate::proved::ent_alloc::Limits;
+use crate::allocator::Limits;
 
 /// The limits that the two options give.
 #[inline]

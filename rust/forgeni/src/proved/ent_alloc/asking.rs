@@ -5,15 +5,16 @@
 
 use alloc::vec::Vec;
 use crate::kit::vec::FallibleVec;
-use crate::proved::ent_alloc::entities::Entities;
-use crate::proved::ent_alloc::refused::Refused;
-use crate::proved::ent_alloc::reserve_error::ReserveError;
-use crate::proved::ent_alloc::reserved::Reserved;
-use crate::proved::ent_handle::Handle;
+use crate::allocator::entities::Entities;
+use crate::allocator::refused::Refused;
+use crate::allocator::reserve_error::ReserveError;
+use crate::allocator::reserved::Reserved;
+use crate::handles::Handle;
 
 /// How many handles may be requested between two flushes.
 pub(super) const MOST: u64 = 1 << 50;
 
+/// # Requests
 impl Entities {
     /// Requests a handle, which the next [`flush`](Self::flush) brings to life. Until then `alloc`
     /// and `free` return `NeedsFlush`. It takes constant time, and no memory.
@@ -59,47 +60,68 @@ impl Entities {
         }
     }
 
-    /// Requests a handle if an old slot waits for it, by a single comparison. `None` if none waits,
-    /// and nothing has changed then.
+    /// Requests `n` handles at once, all of them or none, and lists them: those of old slots first,
+    /// the one that waits longest before the others, then those of new slots. The next
+    /// [`flush`](Self::flush) brings them to life.
+    ///
+    /// ```
+    /// use forgeni::{Entities, Limits, ReserveError};
+    ///
+    /// let mut entities = Entities::with_limits(Limits::new(3, 1).unwrap());
+    /// assert_eq!(entities.request_many(2)?.len(), 2);
+    /// let refused = ReserveError::Space { wanted: 2, left: 1 };
+    /// assert_eq!(entities.request_many(2), Err(refused));
+    ///
+    /// // What is left can be given again after a flush.
+    /// entities.flush(&mut Vec::new())?;
+    /// assert_eq!((entities.len(), entities.left()), (2, 1));
+    /// # Ok::<(), Box<dyn std::error::Error>>(())
+    /// ```
+    ///
+    /// # Errors
+    ///
+    /// - [`ReserveError::Quota`] if more than 2^50 handles were requested since the last flush, with
+    ///   these. Nothing has changed.
+    /// - [`ReserveError::Memory`] if there is no memory for the list. Nothing has changed, and no
+    ///   handle was requested.
+    /// - [`ReserveError::Space`] if fewer than `n` handles are left. The request counts all the
+    ///   same, and every later one is refused until the next flush. A caller that wants to go on
+    ///   with fewer looks at [`left`](Self::left) first.
+    ///
+    /// <details><summary>Contract</summary>
+    ///
+    /// In the words of the folder `specs/` of crate `ent_alloc`:
+    ///
+    /// ```text
+    /// ensures listed { IfOk result (λ handles.
+    ///     handles.items ≡ listed self.old.allocator.made (take n self.old.allocator.pool)) }
+    /// ensures within { IfOk result (λ handles.
+    ///     All (IsWithin self.old.allocator.limits) handles.items) }
+    /// ensures enough { OnOk result (n ≤ length self.old.allocator.pool) }
+    /// ensures quota { IsErrOf result (failed.Quota (2 ^ 50 - self.old.allocator.asked))
+    ///     ↔ (2 ^ 50 < self.old.allocator.asked + n) }
+    /// ensures space { IsErrOf result (failed.Space n (length self.old.allocator.pool))
+    ///     → length self.old.allocator.pool < n }
+    /// ensures memory { IsErrOf result failed.Memory → 0 < n }
+    /// ensures space_first { IsErrOf result failed.Memory
+    ///     → n ≤ length self.old.allocator.pool }
+    /// ensures refused { IfErr result (λ why. (why ≡ failed.Memory)
+    ///     ⊎ ((why ≡ failed.Space n (length self.old.allocator.pool))
+    ///     ⊎ (why ≡ failed.Quota (2 ^ 50 - self.old.allocator.asked)))) }
+    /// ensures step { ¬ (IsErrOf result failed.Memory) → self.old.allocator.asked + n ≤ 2 ^ 50
+    ///     → self.new.allocator ≡ after_take self.old.allocator n }
+    /// ensures unchanged { IsErrOf result failed.Memory → self.new ≡ self.old }
+    /// ensures over { 2 ^ 50 < self.old.allocator.asked + n → self.new ≡ self.old }
+    /// ensures rows { self.new.rows ≡ self.old.rows }
+    /// ensures rows_of_living { HasRowsOfLiving self.new }
+    /// ```
+    ///
+    /// </details>
     #[inline]
-    fn request_old(&mut self) -> Option<Handle>
-        // ensures reply { IfSome result (λ h. reply_to self.old.allocator 1 ≡ Ok (h ∷ [])) }
-        // ensures step { OnSome result (self.new.allocator ≡ after_take self.old.allocator 1) }
-        // ensures few { OnSome result (self.old.allocator.asked < 2 ^ 50) }
-        // ensures none { IfNone result (self.new ≡ self.old) }
-        // ensures sound { IsSound self.old.allocator }
-        // ensures rows { self.new.rows ≡ self.old.rows }
-        // ensures rows_of_living { HasRowsOfLiving self.new }
-    {
-        let handle = self.slots.pending_before(self.requests.asked)?;
-        self.requests = self.requests.and_one();
-        Some(handle)
-    }
-
-    /// Requests a handle, of an old slot or a new one.
-    #[inline]
-    fn request_any(&mut self) -> Result<Handle, Refused>
-        // ensures front { IfOk result (λ h. slice_get self.old.allocator.pool 0 ≡ Some h) }
-        // ensures reply { IfOk result (λ h. reply_to self.old.allocator 1 ≡ Ok (h ∷ [])) }
-        // ensures within { IfOk result (IsWithin self.old.allocator.limits) }
-        // ensures space { IsErrOf result (refused.Space 1 0)
-        //     ↔ ((self.old.allocator.asked < 2 ^ 50) × (self.old.allocator.pool ≡ [])) }
-        // ensures quota { IsErrOf result (refused.Quota 0) ↔ (2 ^ 50 ≤ self.old.allocator.asked) }
-        // ensures refused { IfErr result (λ why.
-        //     (why ≡ refused.Space 1 0) ⊎ (why ≡ refused.Quota 0)) }
-        // ensures step { self.old.allocator.asked < 2 ^ 50
-        //     → self.new.allocator ≡ after_take self.old.allocator 1 }
-        // ensures unchanged { 2 ^ 50 ≤ self.old.allocator.asked → self.new ≡ self.old }
-        // ensures rows { self.new.rows ≡ self.old.rows }
-        // ensures rows_of_living { HasRowsOfLiving self.new }
-    {
-        let high = self.cursor();
-        let left = MOST - self.asked();
-        if left == 0 {
-            return Err(Refused::Quota { left });
-        }
-        let _span = self.lower(1);
-        Ok(self.reply_one(high)?)
+    pub fn request_many(&mut self, n: u32) -> Result<Vec<Handle>, ReserveError> {
+        let mut handles = Vec::new();
+        self.request_into(&mut handles, n)?;
+        Ok(handles)
     }
 
     /// Requests `n` handles at once, all of them or none, and appends them to a list: those of old
@@ -181,69 +203,50 @@ impl Entities {
         append(handles, self.reply(span)?);
         Ok(())
     }
+}
 
-    /// Requests `n` handles at once, all of them or none, and lists them: those of old slots first,
-    /// the one that waits longest before the others, then those of new slots. The next
-    /// [`flush`](Self::flush) brings them to life.
-    ///
-    /// ```
-    /// use forgeni::{Entities, Limits, ReserveError};
-    ///
-    /// let mut entities = Entities::with_limits(Limits::new(3, 1).unwrap());
-    /// assert_eq!(entities.request_many(2)?.len(), 2);
-    /// let refused = ReserveError::Space { wanted: 2, left: 1 };
-    /// assert_eq!(entities.request_many(2), Err(refused));
-    ///
-    /// // What is left can be given again after a flush.
-    /// entities.flush(&mut Vec::new())?;
-    /// assert_eq!((entities.len(), entities.left()), (2, 1));
-    /// # Ok::<(), Box<dyn std::error::Error>>(())
-    /// ```
-    ///
-    /// # Errors
-    ///
-    /// - [`ReserveError::Quota`] if more than 2^50 handles were requested since the last flush, with
-    ///   these. Nothing has changed.
-    /// - [`ReserveError::Memory`] if there is no memory for the list. Nothing has changed, and no
-    ///   handle was requested.
-    /// - [`ReserveError::Space`] if fewer than `n` handles are left. The request counts all the
-    ///   same, and every later one is refused until the next flush. A caller that wants to go on
-    ///   with fewer looks at [`left`](Self::left) first.
-    ///
-    /// <details><summary>Contract</summary>
-    ///
-    /// In the words of the folder `specs/` of crate `ent_alloc`:
-    ///
-    /// ```text
-    /// ensures listed { IfOk result (λ handles.
-    ///     handles.items ≡ listed self.old.allocator.made (take n self.old.allocator.pool)) }
-    /// ensures within { IfOk result (λ handles.
-    ///     All (IsWithin self.old.allocator.limits) handles.items) }
-    /// ensures enough { OnOk result (n ≤ length self.old.allocator.pool) }
-    /// ensures quota { IsErrOf result (failed.Quota (2 ^ 50 - self.old.allocator.asked))
-    ///     ↔ (2 ^ 50 < self.old.allocator.asked + n) }
-    /// ensures space { IsErrOf result (failed.Space n (length self.old.allocator.pool))
-    ///     → length self.old.allocator.pool < n }
-    /// ensures memory { IsErrOf result failed.Memory → 0 < n }
-    /// ensures space_first { IsErrOf result failed.Memory
-    ///     → n ≤ length self.old.allocator.pool }
-    /// ensures refused { IfErr result (λ why. (why ≡ failed.Memory)
-    ///     ⊎ ((why ≡ failed.Space n (length self.old.allocator.pool))
-    ///     ⊎ (why ≡ failed.Quota (2 ^ 50 - self.old.allocator.asked)))) }
-    /// ensures step { ¬ (IsErrOf result failed.Memory) → self.old.allocator.asked + n ≤ 2 ^ 50
-    ///     → self.new.allocator ≡ after_take self.old.allocator n }
-    /// ensures unchanged { IsErrOf result failed.Memory → self.new ≡ self.old }
-    /// ensures over { 2 ^ 50 < self.old.allocator.asked + n → self.new ≡ self.old }
-    /// ensures rows { self.new.rows ≡ self.old.rows }
-    /// ensures rows_of_living { HasRowsOfLiving self.new }
-    /// ```
-    ///
-    /// </details>
+impl Entities {
+    /// Requests a handle if an old slot waits for it, by a single comparison. `None` if none waits,
+    /// and nothing has changed then.
     #[inline]
-    pub fn request_many(&mut self, n: u32) -> Result<Vec<Handle>, ReserveError> {
-        let mut handles = Vec::new();
-        self.request_into(&mut handles, n)?;
-        Ok(handles)
+    fn request_old(&mut self) -> Option<Handle>
+        // ensures reply { IfSome result (λ h. reply_to self.old.allocator 1 ≡ Ok (h ∷ [])) }
+        // ensures step { OnSome result (self.new.allocator ≡ after_take self.old.allocator 1) }
+        // ensures few { OnSome result (self.old.allocator.asked < 2 ^ 50) }
+        // ensures none { IfNone result (self.new ≡ self.old) }
+        // ensures sound { IsSound self.old.allocator }
+        // ensures rows { self.new.rows ≡ self.old.rows }
+        // ensures rows_of_living { HasRowsOfLiving self.new }
+    {
+        let handle = self.slots.pending_before(self.requests.asked)?;
+        self.requests = self.requests.and_one();
+        Some(handle)
+    }
+
+    /// Requests a handle, of an old slot or a new one.
+    #[inline]
+    fn request_any(&mut self) -> Result<Handle, Refused>
+        // ensures front { IfOk result (λ h. slice_get self.old.allocator.pool 0 ≡ Some h) }
+        // ensures reply { IfOk result (λ h. reply_to self.old.allocator 1 ≡ Ok (h ∷ [])) }
+        // ensures within { IfOk result (IsWithin self.old.allocator.limits) }
+        // ensures space { IsErrOf result (refused.Space 1 0)
+        //     ↔ ((self.old.allocator.asked < 2 ^ 50) × (self.old.allocator.pool ≡ [])) }
+        // ensures quota { IsErrOf result (refused.Quota 0) ↔ (2 ^ 50 ≤ self.old.allocator.asked) }
+        // ensures refused { IfErr result (λ why.
+        //     (why ≡ refused.Space 1 0) ⊎ (why ≡ refused.Quota 0)) }
+        // ensures step { self.old.allocator.asked < 2 ^ 50
+        //     → self.new.allocator ≡ after_take self.old.allocator 1 }
+        // ensures unchanged { 2 ^ 50 ≤ self.old.allocator.asked → self.new ≡ self.old }
+        // ensures rows { self.new.rows ≡ self.old.rows }
+        // ensures rows_of_living { HasRowsOfLiving self.new }
+    {
+        let high = self.cursor();
+        let left = MOST - self.asked();
+        if left == 0 {
+            return Err(Refused::Quota { left });
+        }
+        let _span = self.lower(1);
+        Ok(self.reply_one(high)?)
     }
 }
 

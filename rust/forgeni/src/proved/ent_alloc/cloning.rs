@@ -4,9 +4,10 @@
 
 use alloc::vec::Vec;
 use crate::kit::vec::FallibleVec;
-use crate::proved::ent_alloc::entities::Entities;
-use crate::proved::ent_handle::Memory;
+use crate::allocator::entities::Entities;
+use crate::handles::OutOfMemory;
 
+/// # Snapshots
 impl Entities {
     /// Another allocator in the same state: the same entities are alive, with the same rows, the
     /// same handles are reserved, and the limits are the same. So both return the same for the same
@@ -28,7 +29,7 @@ impl Entities {
     ///
     /// # Errors
     ///
-    /// [`OutOfMemory`](Memory) if there is no memory for the slots.
+    /// [`OutOfMemory`] if there is no memory for the slots.
     ///
     /// <details><summary>Contract</summary>
     ///
@@ -42,7 +43,7 @@ impl Entities {
     ///
     /// </details>
     #[inline]
-    pub fn try_clone(&self) -> Result<Entities, Memory> {
+    pub fn try_clone(&self) -> Result<Entities, OutOfMemory> {
         Ok(Entities {
             slots: self.slots.try_clone()?,
             requests: self.requests,
@@ -72,7 +73,7 @@ impl Entities {
     ///
     /// # Errors
     ///
-    /// [`OutOfMemory`](Memory) if there is no memory for slots that the source has beyond those of this
+    /// [`OutOfMemory`] if there is no memory for slots that the source has beyond those of this
     /// allocator. Nothing has changed then: all room is asked for first.
     ///
     /// <details><summary>Contract</summary>
@@ -91,7 +92,7 @@ impl Entities {
     ///
     /// </details>
     #[inline]
-    pub fn try_clone_from(&mut self, source: &Entities) -> Result<(), Memory> {
+    pub fn try_clone_from(&mut self, source: &Entities) -> Result<(), OutOfMemory> {
         self.slots.try_clone_from(&source.slots)?;
         self.requests = source.requests;
         Ok(())
@@ -100,7 +101,7 @@ impl Entities {
 
 /// Makes room for so many items in all.
 #[inline]
-pub(super) fn reserve_for<T>(list: &mut Vec<T>, count: usize) -> Result<(), Memory>
+pub(super) fn reserve_for<T>(list: &mut Vec<T>, count: usize) -> Result<(), OutOfMemory>
     // ensures ok { OnOk result (count ≤ vec_capacity list.new) }
     // ensures items { list.new.items ≡ list.old.items }
     // ensures memory { OnErr result (vec_len list.old < count) }

@@ -1,15 +1,15 @@
 // Made of crates/ent_alloc/src/entities.rt by rust/erase. It isn't edited by hand.
 
 use alloc::vec::Vec;
-use crate::proved::ent_alloc::absent::Absent;
-use crate::proved::ent_alloc::fault::{AllocFault, FreeFault, Freed};
-use crate::proved::ent_alloc::limits::Limits;
-use crate::proved::ent_alloc::living::Living;
-use crate::proved::ent_alloc::requests::Requests;
-use crate::proved::ent_alloc::slot_record::Occupancy;
-use crate::proved::ent_alloc::slots::Slots;
-use crate::proved::ent_alloc::state::State;
-use crate::proved::ent_handle::{Handle, Memory};
+use crate::allocator::absent::Absent;
+use crate::allocator::fault::{AllocError, FreeError, Freed};
+use crate::allocator::limits::Limits;
+use crate::allocator::living::Living;
+use crate::allocator::requests::Requests;
+use crate::allocator::slot_record::Occupancy;
+use crate::allocator::slots::Slots;
+use crate::allocator::state::State;
+use crate::handles::{Handle, OutOfMemory};
 
 /// Gives out the handles of entities and knows which are alive, as Bevy's `Entities` does.
 ///
@@ -35,7 +35,43 @@ pub struct Entities {
     pub(super) requests: Requests,
 }
 
+/// # Making one
 impl Entities {
+    /// An allocator with no entities and these limits. It takes no memory, whatever the limits are.
+    ///
+    /// It never gives the greatest handle, 4294967294v2147483647: where both limits are the
+    /// greatest, each slot has one generation less.
+    ///
+    /// ```
+    /// use forgeni::{AllocError, Entities, Limits};
+    ///
+    /// let mut entities = Entities::with_limits(Limits::new(2, 1).unwrap());
+    /// entities.alloc_many(2)?;
+    /// assert_eq!(entities.alloc(), Err(AllocError::Space));
+    /// # Ok::<(), AllocError>(())
+    /// ```
+    ///
+    /// <details><summary>Contract</summary>
+    ///
+    /// In the words of the folder `specs/` of crate `ent_alloc`:
+    ///
+    /// ```text
+    /// ensures allocator { result.allocator ≡ opening (without_placeholder limits) }
+    /// ensures rows { result.rows ≡ map.empty }
+    /// ensures rows_of_living { HasRowsOfLiving result }
+    ///
+    /// // Whatever calls come then, no handle is given twice, and none that was given is given again.
+    /// ensures given_once { (steps : List Step) → IsRun result.allocator steps
+    ///     → AreSpent (after_run result.allocator steps) (given_in_run result.allocator steps) }
+    /// ```
+    ///
+    /// </details>
+    #[must_use]
+    #[inline]
+    pub const fn with_limits(limits: Limits) -> Self {
+        Entities::with_exact_limits(limits.keeping_placeholder())
+    }
+
     /// An allocator with no entities, which gives all handles within its limits, including the
     /// greatest one, which [`with_limits`](Self::with_limits) never gives. It takes no memory,
     /// whatever the limits are.
@@ -75,19 +111,188 @@ impl Entities {
             requests: Requests::none(),
         }
     }
+}
 
-    /// An allocator with no entities and these limits. It takes no memory, whatever the limits are.
-    ///
-    /// It never gives the greatest handle, 4294967294v2147483647: where both limits are the
-    /// greatest, each slot has one generation less.
+/// # Handles
+impl Entities {
+    /// Gives a handle that is alive at once: the next one of the slot that was freed last, or the
+    /// first one of a new slot if none waits. It takes constant time.
     ///
     /// ```
-    /// use forgeni::{AllocError, Entities, Limits};
+    /// use forgeni::Entities;
     ///
-    /// let mut entities = Entities::with_limits(Limits::new(2, 1).unwrap());
-    /// entities.alloc_many(2)?;
-    /// assert_eq!(entities.alloc(), Err(AllocError::Space));
-    /// # Ok::<(), AllocError>(())
+    /// let mut entities = Entities::new();
+    /// let player = entities.alloc()?;
+    /// assert_eq!((player.to_string(), entities.len()), ("0v1".to_owned(), 1));
+    /// # Ok::<(), forgeni::AllocError>(())
+    /// ```
+    ///
+    /// # Errors
+    ///
+    /// In each case nothing has changed.
+    ///
+    /// - [`AllocError::NeedsFlush`] if handles were requested since the
+    ///   last flush, even if the request was refused.
+    /// - [`AllocError::Space`] if every slot has a living entity or is retired.
+    /// - [`AllocError::Memory`] if there is no memory for a new slot. It is
+    ///   never returned if an old slot waits.
+    // Not inlined, its result goes through memory.
+    #[inline(always)]
+    pub fn alloc(&mut self) -> Result<Handle, AllocError>
+        // ensures front { IfOk result (λ h. slice_get self.old.allocator.pool 0 ≡ Some h) }
+        // ensures within { IfOk result (IsWithin self.old.allocator.limits) }
+        // ensures ok { IfOk result (λ h. self.new.allocator ≡ after_alloc self.old.allocator h) }
+        // ensures rows { self.new.rows ≡ self.old.rows }
+        // ensures no_row { IfOk result (λ h. map.get self.new.rows h ≡ None) }
+        // ensures rows_of_living { HasRowsOfLiving self.new }
+        // ensures needs_flush { IsErrOf result AllocError.NeedsFlush
+        //     ↔ (0 < self.old.allocator.asked) }
+        // ensures space { IsErrOf result AllocError.Space
+        //     ↔ ((self.old.allocator.asked ≡ 0) × (self.old.allocator.pool ≡ [])) }
+        // ensures memory { IsErrOf result AllocError.Memory → top self.old.allocator ≡ 0 }
+        // ensures err { OnErr result (self.new ≡ self.old) }
+    {
+        if self.needs_flush() {
+            Err(AllocError::NeedsFlush)
+        } else if let Some(handle) = self.slots.reuse_last() {
+            Ok(handle)
+        } else if self.room() > 0 {
+            Ok(self.slots.make_one()?)
+        } else {
+            Err(AllocError::Space)
+        }
+    }
+
+    /// Frees a living entity. Its slot is the next one to be given again, in its next generation.
+    /// It takes constant time.
+    ///
+    /// After the last generation the slot is retired: it is never given again, and [`Freed::next`]
+    /// is `None`. So no handle is ever given twice. Bevy starts again with the first generation
+    /// there, and warns of it.
+    ///
+    /// ```
+    /// use forgeni::Entities;
+    ///
+    /// let mut entities = Entities::new();
+    /// let old = entities.alloc()?;
+    /// let freed = entities.free(old)?;
+    /// let new = entities.alloc()?;
+    /// assert_eq!(freed.next, Some(new));
+    /// assert!(new.index() == old.index() && new.generation() == old.generation() + 1);
+    /// assert!(entities.is_alive(new) && !entities.is_alive(old));
+    /// # Ok::<(), Box<dyn std::error::Error>>(())
+    /// ```
+    ///
+    /// # Errors
+    ///
+    /// In each case nothing has changed.
+    ///
+    /// - [`FreeError::NeedsFlush`] if handles were requested since the last
+    ///   flush, even if the request was refused.
+    /// - [`FreeError::NotAlive`] if the entity isn't alive.
+    /// - [`FreeError::Memory`] if there is no memory for one more slot that
+    ///   waits. It is never returned if the slot is retired.
+    // Not inlined, its result goes through memory.
+    #[inline(always)]
+    pub fn free(&mut self, handle: Handle) -> Result<Freed, FreeError>
+        // ensures ok { OnOk result (self.new.allocator ≡ after_free self.old.allocator handle) }
+        // ensures row { OnOk result (self.new.rows ≡ map.remove self.old.rows handle) }
+        // ensures rows_of_living { HasRowsOfLiving self.new }
+        // ensures next { IfOk result (λ freed. freed.next ≡ next self.old.allocator.limits handle) }
+        // ensures lived { OnOk result (set.contains self.old.allocator.live handle ≡ true) }
+        // ensures needs_flush { IsErrOf result FreeError.NeedsFlush
+        //     ↔ (0 < self.old.allocator.asked) }
+        // ensures not_alive { IsErrOf result FreeError.NotAlive
+        //     ↔ ((self.old.allocator.asked ≡ 0)
+        //     × (set.contains self.old.allocator.live handle ≡ false)) }
+
+        // The slot of a handle of the last generation is retired, which takes no memory.
+        // ensures memory { IsErrOf result FreeError.Memory
+        //     → handle.generation ≢ self.old.allocator.limits.generations }
+        // ensures err { OnErr result (self.new ≡ self.old) }
+    {
+        if self.needs_flush() {
+            return Err(FreeError::NeedsFlush);
+        }
+        let next = self.slots.free(handle)?;
+        Ok(Freed { next })
+    }
+
+    /// Brings to life what is reserved, and appends it to `out`: first the handles of new slots, then
+    /// those of old ones. What a refused request passed over can be given again. If nothing is
+    /// reserved, it appends nothing. It takes time for each handle that it appends, however long the
+    /// list is.
+    ///
+    /// If the list has room for the handles and no slot is new, the call takes no memory. So a list
+    /// that is cleared and used again takes none eventually.
+    ///
+    /// ```
+    /// use forgeni::Entities;
+    ///
+    /// let mut entities = Entities::new();
+    /// let mut born = Vec::new();
+    /// for _ in 0..10 {
+    ///     entities.request_many(100)?;
+    ///     born.clear();
+    ///     entities.flush(&mut born)?;
+    ///     for &handle in &born {
+    ///         entities.free(handle)?;
+    ///     }
+    /// }
+    /// assert_eq!((born.len(), entities.total()), (100, 100));
+    /// # Ok::<(), Box<dyn std::error::Error>>(())
+    /// ```
+    ///
+    /// # Errors
+    ///
+    /// [`OutOfMemory`] if there is no memory for new slots or for the list. Nothing has changed then,
+    /// neither here nor in `out`: all room is asked for before the first handle is listed.
+    ///
+    /// <details><summary>Contract</summary>
+    ///
+    /// In the words of the folder `specs/` of crate `ent_alloc`:
+    ///
+    /// ```text
+    /// ensures ok { OnOk result (self.new.allocator ≡ after_flush self.old.allocator) }
+    /// ensures rows { self.new.rows ≡ self.old.rows }
+    /// ensures born { OnOk result (out.new.items ≡ out.old.items ++ born self.old.allocator) }
+    /// ensures no_rows { OnOk result
+    ///     (All (λ h. map.get self.new.rows h ≡ None) (born self.old.allocator)) }
+    /// ensures rows_of_living { HasRowsOfLiving self.new }
+    /// ensures err { OnErr result (self.new ≡ self.old) }
+    /// ensures unchanged { OnErr result (out.new.items ≡ out.old.items) }
+    /// ensures capacity { OnErr result (vec_capacity out.new ≡ vec_capacity out.old) }
+    ///
+    /// // Memory runs out only for new slots, or for a list that lacks room.
+    /// ensures memory { OnErr result ((0 < made_at_flush self.old.allocator)
+    ///     ⊎ (vec_capacity out.old < vec_len out.old + length self.old.allocator.taken)) }
+    /// ```
+    ///
+    /// </details>
+    #[inline]
+    pub fn flush(&mut self, out: &mut Vec<Handle>) -> Result<(), OutOfMemory> {
+        let waiting = self.slots.waiting();
+        let kept = self.requests.kept(waiting);
+        let fresh = self.requests.fresh(waiting);
+        self.slots.bring_to_life(kept, fresh, out)?;
+        self.requests = Requests::none();
+        Ok(())
+    }
+}
+
+/// # Looking at entities
+impl Entities {
+    /// Whether the handle is alive. It takes constant time.
+    ///
+    /// ```
+    /// use forgeni::Entities;
+    ///
+    /// let mut entities = Entities::new();
+    /// let target = entities.alloc()?;
+    /// assert!(entities.is_alive(target));
+    /// entities.free(target)?;
+    /// assert!(!entities.is_alive(target));
+    /// # Ok::<(), Box<dyn std::error::Error>>(())
     /// ```
     ///
     /// <details><summary>Contract</summary>
@@ -95,39 +300,249 @@ impl Entities {
     /// In the words of the folder `specs/` of crate `ent_alloc`:
     ///
     /// ```text
-    /// ensures allocator { result.allocator ≡ opening (without_placeholder limits) }
-    /// ensures rows { result.rows ≡ map.empty }
-    /// ensures rows_of_living { HasRowsOfLiving result }
-    ///
-    /// // Whatever calls come then, no handle is given twice, and none that was given is given again.
-    /// ensures given_once { (steps : List Step) → IsRun result.allocator steps
-    ///     → AreSpent (after_run result.allocator steps) (given_in_run result.allocator steps) }
+    /// ensures { result ≡ set.contains self.now.allocator.live handle }
     /// ```
     ///
     /// </details>
     #[must_use]
     #[inline]
-    pub const fn with_limits(limits: Limits) -> Self {
-        Entities::with_exact_limits(limits.keeping_placeholder())
+    pub fn is_alive(&self, handle: Handle) -> bool {
+        self.slots.is_alive(handle)
     }
 
-    /// The limits within which it gives handles.
+    /// What became of a handle: whether it is alive, reserved, or neither. It takes constant time.
+    ///
+    /// ```
+    /// use forgeni::{Entities, State};
+    ///
+    /// let mut entities = Entities::new();
+    /// let soon = entities.request()?;
+    /// assert_eq!(entities.state(soon), State::Reserved);
+    /// entities.flush(&mut Vec::new())?;
+    /// assert_eq!(entities.state(soon), State::Alive);
+    /// entities.free(soon)?;
+    /// assert_eq!(entities.state(soon), State::Gone);
+    /// # Ok::<(), Box<dyn std::error::Error>>(())
+    /// ```
     ///
     /// <details><summary>Contract</summary>
     ///
     /// In the words of the folder `specs/` of crate `ent_alloc`:
     ///
     /// ```text
-    /// ensures { result ≡ self.now.allocator.limits }
+    /// ensures { result ≡ state_of self.now.allocator handle }
     /// ```
     ///
     /// </details>
     #[must_use]
     #[inline]
-    pub fn limits(&self) -> Limits {
-        self.slots.limits()
+    pub fn state(&self, handle: Handle) -> State {
+        let reserved = match self.slots.occupancy_of(handle) {
+            Some(Occupancy::Alive | Occupancy::AliveWithRow { .. }) => return State::Alive,
+            Some(Occupancy::Pending { position }) => {
+                self.requests.kept(self.slots.waiting()) <= position as usize
+            }
+            Some(Occupancy::Retired) => false,
+            None if self.slots.is_made(handle) => false,
+            None => {
+                let fresh = self.requests.fresh(self.slots.waiting());
+                self.slots.is_next(handle, fresh)
+            }
+        };
+        if reserved {
+            State::Reserved
+        } else {
+            State::Gone
+        }
     }
 
+    /// Whether the entity is alive or reserved, as `contains` of Bevy and hecs tells. It takes
+    /// constant time.
+    ///
+    /// ```
+    /// use forgeni::Entities;
+    ///
+    /// let mut entities = Entities::new();
+    /// let soon = entities.request()?;
+    /// assert!(entities.contains(soon) && !entities.is_alive(soon));
+    /// entities.flush(&mut Vec::new())?;
+    /// assert!(entities.contains(soon) && entities.is_alive(soon));
+    /// # Ok::<(), Box<dyn std::error::Error>>(())
+    /// ```
+    ///
+    /// <details><summary>Contract</summary>
+    ///
+    /// In the words of the folder `specs/` of crate `ent_alloc`:
+    ///
+    /// ```text
+    /// ensures { result ≡ (set.contains self.now.allocator.live handle
+    ///     || stands_in self.now.allocator.taken handle) }
+    /// ```
+    ///
+    /// </details>
+    #[must_use]
+    #[inline]
+    pub fn contains(&self, handle: Handle) -> bool {
+        match self.state(handle) {
+            State::Alive | State::Reserved => true,
+            State::Gone => false,
+        }
+    }
+
+    /// The handles of the living entities, by rising slot. It takes no memory, and time for each
+    /// slot.
+    ///
+    /// ```
+    /// use forgeni::Entities;
+    ///
+    /// let mut entities = Entities::new();
+    /// let all = entities.alloc_many(3)?;
+    /// entities.free(all[1])?;
+    /// assert!(entities.iter().eq([all[0], all[2]]));
+    /// # Ok::<(), Box<dyn std::error::Error>>(())
+    /// ```
+    ///
+    /// <details><summary>Contract</summary>
+    ///
+    /// In the words of the folder `specs/` of crate `ent_alloc`:
+    ///
+    /// ```text
+    /// ensures living { set.from_list result ≡ self.now.allocator.live }
+    /// ensures rising { AllPairs (λ g h. g.index < h.index) result }
+    /// ensures count { length result ≡ set.len self.now.allocator.live }
+    /// ```
+    ///
+    /// </details>
+    #[inline]
+    pub fn iter(&self) -> Living<'_> {
+        self.slots.occupants()
+    }
+
+    /// The row of a living entity: a number that a program keeps with it, such as the place of its
+    /// components. `None` if the handle isn't alive, or if no row was set since it came to life. It
+    /// takes constant time.
+    ///
+    /// ```
+    /// use forgeni::Entities;
+    ///
+    /// let mut entities = Entities::new();
+    /// let (cart, horse) = (entities.alloc()?, entities.alloc()?);
+    /// let mut wheels = vec![];
+    /// entities.try_set_row(cart, wheels.len() as u32)?;
+    /// wheels.push(4);
+    /// // An engine's own table, by the row that it keeps with the entity.
+    /// assert_eq!(entities.row(cart).map(|row| wheels[row as usize]), Some(4));
+    /// assert_eq!(entities.row(horse), None);
+    /// # Ok::<(), Box<dyn std::error::Error>>(())
+    /// ```
+    ///
+    /// <details><summary>Contract</summary>
+    ///
+    /// In the words of the folder `specs/` of crate `ent_alloc`:
+    ///
+    /// ```text
+    /// ensures value { result ≡ map.get self.now.rows handle }
+    /// ensures alive { OnSome result (set.contains self.now.allocator.live handle ≡ true) }
+    /// ```
+    ///
+    /// </details>
+    #[must_use]
+    #[inline]
+    pub fn row(&self, handle: Handle) -> Option<u32> {
+        self.slots.row(handle)
+    }
+
+    /// Keeps a row with a living entity until the entity is freed, in place of the row that was set
+    /// before. It takes constant time, and no memory.
+    ///
+    /// ```
+    /// use forgeni::{Absent, Entities};
+    ///
+    /// let mut entities = Entities::new();
+    /// let one = entities.alloc()?;
+    /// entities.try_set_row(one, 7)?;
+    /// assert_eq!(entities.row(one), Some(7));
+    /// entities.free(one)?;
+    /// assert_eq!(entities.row(one), None);
+    /// assert_eq!(entities.try_set_row(one, 8), Err(Absent));
+    /// # Ok::<(), Box<dyn std::error::Error>>(())
+    /// ```
+    ///
+    /// # Errors
+    ///
+    /// [`Absent`] if the handle isn't alive. Nothing has changed then.
+    ///
+    /// <details><summary>Contract</summary>
+    ///
+    /// In the words of the folder `specs/` of crate `ent_alloc`:
+    ///
+    /// ```text
+    /// ensures row { OnOk result (self.new.rows ≡ map.insert self.old.rows handle row) }
+    /// ensures lives { OnOk result (set.contains self.old.allocator.live handle ≡ true) }
+    /// ensures absent { OnErr result (set.contains self.old.allocator.live handle ≡ false) }
+    /// ensures unchanged { OnErr result (self.new ≡ self.old) }
+    /// ensures allocator { self.new.allocator ≡ self.old.allocator }
+    /// ensures rows_of_living { HasRowsOfLiving self.new }
+    /// ```
+    ///
+    /// </details>
+    #[inline]
+    pub fn try_set_row(&mut self, handle: Handle, row: u32) -> Result<(), Absent> {
+        if self.slots.is_alive(handle) {
+            self.set_row(handle, row);
+            Ok(())
+        } else {
+            Err(Absent)
+        }
+    }
+
+    /// The place of a handle among those that there were to give at the last flush, counted from 0
+    /// in the order in which they are given. Requests don't change it. `None` if it isn't among
+    /// them. It takes constant time.
+    ///
+    /// ```
+    /// use forgeni::Entities;
+    ///
+    /// let mut entities = Entities::new();
+    /// let old = entities.alloc_many(2)?;
+    /// let first = entities.free(old[0])?.next.ok_or("it is retired")?;
+    /// let second = entities.free(old[1])?.next.ok_or("it is retired")?;
+    /// // The slot that was freed last is given first.
+    /// assert_eq!((entities.place(second), entities.place(first)), (Some(0), Some(1)));
+    /// # Ok::<(), Box<dyn std::error::Error>>(())
+    /// ```
+    ///
+    /// <details><summary>Contract</summary>
+    ///
+    /// In the words of the folder `specs/` of crate `ent_alloc`:
+    ///
+    /// ```text
+    /// ensures found { IfSome result (λ place.
+    ///     slice_get (available self.now.allocator) place ≡ Some handle) }
+    /// ensures none { IfNone result (stands_in (available self.now.allocator) handle ≡ false) }
+    /// ```
+    ///
+    /// </details>
+    #[must_use]
+    #[inline]
+    pub fn place(&self, handle: Handle) -> Option<u32> {
+        let waiting = self.slots.waiting();
+        match self.slots.occupancy_of(handle) {
+            Some(Occupancy::Pending { position }) => Some(waiting - 1 - position),
+            Some(Occupancy::Alive) => None,
+            Some(Occupancy::AliveWithRow { .. }) => None,
+            Some(Occupancy::Retired) => None,
+            None if self.slots.is_made(handle) => None,
+            None if self.slots.is_next(handle, self.room()) => {
+                Some(waiting + (handle.index() - self.slots.made()))
+            }
+            None => None,
+        }
+    }
+}
+
+/// # Counts
+impl Entities {
     /// How many entities are alive.
     ///
     /// ```
@@ -185,6 +600,97 @@ impl Entities {
     #[inline]
     pub fn is_empty(&self) -> bool {
         self.len() == 0
+    }
+
+    /// How many handles the next flush brings to life.
+    ///
+    /// ```
+    /// use forgeni::Entities;
+    ///
+    /// let mut entities = Entities::new();
+    /// entities.request_many(40)?;
+    /// // So the flush takes no memory for its list.
+    /// let mut born = Vec::with_capacity(entities.reserved() as usize);
+    /// entities.flush(&mut born)?;
+    /// assert_eq!((born.len(), entities.reserved()), (40, 0));
+    /// # Ok::<(), Box<dyn std::error::Error>>(())
+    /// ```
+    ///
+    /// <details><summary>Contract</summary>
+    ///
+    /// In the words of the folder `specs/` of crate `ent_alloc`:
+    ///
+    /// ```text
+    /// ensures { result ≡ length self.now.allocator.taken }
+    /// ```
+    ///
+    /// </details>
+    #[must_use]
+    #[inline]
+    pub fn reserved(&self) -> u32 {
+        self.requests.served
+    }
+
+    /// Whether any handle was requested since the last flush.
+    ///
+    /// ```
+    /// use forgeni::Entities;
+    ///
+    /// let mut entities = Entities::new();
+    /// entities.request()?;
+    /// if entities.needs_flush() {
+    ///     entities.flush(&mut Vec::new())?;
+    /// }
+    /// assert_eq!(entities.alloc()?.index(), 1);
+    /// # Ok::<(), Box<dyn std::error::Error>>(())
+    /// ```
+    ///
+    /// <details><summary>Contract</summary>
+    ///
+    /// In the words of the folder `specs/` of crate `ent_alloc`:
+    ///
+    /// ```text
+    /// ensures { IsTrue result ↔ (0 < self.now.allocator.asked) }
+    /// ```
+    ///
+    /// </details>
+    #[must_use]
+    #[inline]
+    pub fn needs_flush(&self) -> bool {
+        self.asked() > 0
+    }
+
+    /// How many slots are retired: the entity of their last generation was freed, and they give no
+    /// more handles. It takes constant time.
+    ///
+    /// ```
+    /// use forgeni::{Entities, Limits};
+    ///
+    /// let mut entities = Entities::with_limits(Limits::new(100, 1).unwrap());
+    /// let once = entities.alloc()?;
+    /// // A slot has just one generation here.
+    /// assert_eq!(entities.free(once)?.next, None);
+    /// assert_eq!((entities.retired(), entities.left()), (1, 99));
+    /// # Ok::<(), Box<dyn std::error::Error>>(())
+    /// ```
+    ///
+    /// <details><summary>Contract</summary>
+    ///
+    /// In the words of the folder `specs/` of crate `ent_alloc`:
+    ///
+    /// ```text
+    /// ensures value { result ≡ retired self.now.allocator }
+    ///
+    /// // Each slot that was made has a living occupant, waits for the next one, or is retired.
+    /// ensures rest { set.len self.now.allocator.live + top self.now.allocator + result
+    ///     ≡ self.now.allocator.made }
+    /// ```
+    ///
+    /// </details>
+    #[must_use]
+    #[inline]
+    pub fn retired(&self) -> u32 {
+        self.total() - self.slots.live() - self.slots.waiting()
     }
 
     /// How many slots were made: each has or had an entity. A retired slot still counts.
@@ -298,39 +804,6 @@ impl Entities {
         self.slots.waiting()
     }
 
-    /// How many slots are retired: the entity of their last generation was freed, and they give no
-    /// more handles. It takes constant time.
-    ///
-    /// ```
-    /// use forgeni::{Entities, Limits};
-    ///
-    /// let mut entities = Entities::with_limits(Limits::new(100, 1).unwrap());
-    /// let once = entities.alloc()?;
-    /// // A slot has just one generation here.
-    /// assert_eq!(entities.free(once)?.next, None);
-    /// assert_eq!((entities.retired(), entities.left()), (1, 99));
-    /// # Ok::<(), Box<dyn std::error::Error>>(())
-    /// ```
-    ///
-    /// <details><summary>Contract</summary>
-    ///
-    /// In the words of the folder `specs/` of crate `ent_alloc`:
-    ///
-    /// ```text
-    /// ensures value { result ≡ retired self.now.allocator }
-    ///
-    /// // Each slot that was made has a living occupant, waits for the next one, or is retired.
-    /// ensures rest { set.len self.now.allocator.live + top self.now.allocator + result
-    ///     ≡ self.now.allocator.made }
-    /// ```
-    ///
-    /// </details>
-    #[must_use]
-    #[inline]
-    pub fn retired(&self) -> u32 {
-        self.total() - self.slots.live() - self.slots.waiting()
-    }
-
     /// The number that each request lowers by its count. It is `top` if nothing was requested since
     /// the last flush; below 0 it counts fresh slots.
     ///
@@ -394,441 +867,24 @@ impl Entities {
     pub fn asked(&self) -> u64 {
         self.requests.asked
     }
+}
 
-    /// Whether any handle was requested since the last flush.
-    ///
-    /// ```
-    /// use forgeni::Entities;
-    ///
-    /// let mut entities = Entities::new();
-    /// entities.request()?;
-    /// if entities.needs_flush() {
-    ///     entities.flush(&mut Vec::new())?;
-    /// }
-    /// assert_eq!(entities.alloc()?.index(), 1);
-    /// # Ok::<(), Box<dyn std::error::Error>>(())
-    /// ```
+impl Entities {
+    /// The limits within which it gives handles.
     ///
     /// <details><summary>Contract</summary>
     ///
     /// In the words of the folder `specs/` of crate `ent_alloc`:
     ///
     /// ```text
-    /// ensures { IsTrue result ↔ (0 < self.now.allocator.asked) }
+    /// ensures { result ≡ self.now.allocator.limits }
     /// ```
     ///
     /// </details>
     #[must_use]
     #[inline]
-    pub fn needs_flush(&self) -> bool {
-        self.asked() > 0
-    }
-
-    /// How many handles the next flush brings to life.
-    ///
-    /// ```
-    /// use forgeni::Entities;
-    ///
-    /// let mut entities = Entities::new();
-    /// entities.request_many(40)?;
-    /// // So the flush takes no memory for its list.
-    /// let mut born = Vec::with_capacity(entities.reserved() as usize);
-    /// entities.flush(&mut born)?;
-    /// assert_eq!((born.len(), entities.reserved()), (40, 0));
-    /// # Ok::<(), Box<dyn std::error::Error>>(())
-    /// ```
-    ///
-    /// <details><summary>Contract</summary>
-    ///
-    /// In the words of the folder `specs/` of crate `ent_alloc`:
-    ///
-    /// ```text
-    /// ensures { result ≡ length self.now.allocator.taken }
-    /// ```
-    ///
-    /// </details>
-    #[must_use]
-    #[inline]
-    pub fn reserved(&self) -> u32 {
-        self.requests.served
-    }
-
-    /// Gives a handle that is alive at once: the next one of the slot that was freed last, or the
-    /// first one of a new slot if none waits. It takes constant time.
-    ///
-    /// ```
-    /// use forgeni::Entities;
-    ///
-    /// let mut entities = Entities::new();
-    /// let player = entities.alloc()?;
-    /// assert_eq!((player.to_string(), entities.len()), ("0v1".to_owned(), 1));
-    /// # Ok::<(), forgeni::AllocError>(())
-    /// ```
-    ///
-    /// # Errors
-    ///
-    /// In each case nothing has changed.
-    ///
-    /// - [`AllocError::NeedsFlush`](AllocFault::NeedsFlush) if handles were requested since the
-    ///   last flush, even if the request was refused.
-    /// - [`AllocError::Space`](AllocFault::Space) if every slot has a living entity or is retired.
-    /// - [`AllocError::Memory`](AllocFault::Memory) if there is no memory for a new slot. It is
-    ///   never returned if an old slot waits.
-    // Not inlined, its result goes through memory.
-    #[inline(always)]
-    pub fn alloc(&mut self) -> Result<Handle, AllocFault>
-        // ensures front { IfOk result (λ h. slice_get self.old.allocator.pool 0 ≡ Some h) }
-        // ensures within { IfOk result (IsWithin self.old.allocator.limits) }
-        // ensures ok { IfOk result (λ h. self.new.allocator ≡ after_alloc self.old.allocator h) }
-        // ensures rows { self.new.rows ≡ self.old.rows }
-        // ensures no_row { IfOk result (λ h. map.get self.new.rows h ≡ None) }
-        // ensures rows_of_living { HasRowsOfLiving self.new }
-        // ensures needs_flush { IsErrOf result AllocFault.NeedsFlush
-        //     ↔ (0 < self.old.allocator.asked) }
-        // ensures space { IsErrOf result AllocFault.Space
-        //     ↔ ((self.old.allocator.asked ≡ 0) × (self.old.allocator.pool ≡ [])) }
-        // ensures memory { IsErrOf result AllocFault.Memory → top self.old.allocator ≡ 0 }
-        // ensures err { OnErr result (self.new ≡ self.old) }
-    {
-        if self.needs_flush() {
-            Err(AllocFault::NeedsFlush)
-        } else if let Some(handle) = self.slots.reuse_last() {
-            Ok(handle)
-        } else if self.room() > 0 {
-            Ok(self.slots.make_one()?)
-        } else {
-            Err(AllocFault::Space)
-        }
-    }
-
-    /// Frees a living entity. Its slot is the next one to be given again, in its next generation.
-    /// It takes constant time.
-    ///
-    /// After the last generation the slot is retired: it is never given again, and [`Freed::next`]
-    /// is `None`. So no handle is ever given twice. Bevy starts again with the first generation
-    /// there, and warns of it.
-    ///
-    /// ```
-    /// use forgeni::Entities;
-    ///
-    /// let mut entities = Entities::new();
-    /// let old = entities.alloc()?;
-    /// let freed = entities.free(old)?;
-    /// let new = entities.alloc()?;
-    /// assert_eq!(freed.next, Some(new));
-    /// assert!(new.index() == old.index() && new.generation() == old.generation() + 1);
-    /// assert!(entities.is_alive(new) && !entities.is_alive(old));
-    /// # Ok::<(), Box<dyn std::error::Error>>(())
-    /// ```
-    ///
-    /// # Errors
-    ///
-    /// In each case nothing has changed.
-    ///
-    /// - [`FreeError::NeedsFlush`](FreeFault::NeedsFlush) if handles were requested since the last
-    ///   flush, even if the request was refused.
-    /// - [`FreeError::NotAlive`](FreeFault::NotAlive) if the entity isn't alive.
-    /// - [`FreeError::Memory`](FreeFault::Memory) if there is no memory for one more slot that
-    ///   waits. It is never returned if the slot is retired.
-    // Not inlined, its result goes through memory.
-    #[inline(always)]
-    pub fn free(&mut self, handle: Handle) -> Result<Freed, FreeFault>
-        // ensures ok { OnOk result (self.new.allocator ≡ after_free self.old.allocator handle) }
-        // ensures row { OnOk result (self.new.rows ≡ map.remove self.old.rows handle) }
-        // ensures rows_of_living { HasRowsOfLiving self.new }
-        // ensures next { IfOk result (λ freed. freed.next ≡ next self.old.allocator.limits handle) }
-        // ensures lived { OnOk result (set.contains self.old.allocator.live handle ≡ true) }
-        // ensures needs_flush { IsErrOf result FreeFault.NeedsFlush
-        //     ↔ (0 < self.old.allocator.asked) }
-        // ensures not_alive { IsErrOf result FreeFault.NotAlive
-        //     ↔ ((self.old.allocator.asked ≡ 0)
-        //     × (set.contains self.old.allocator.live handle ≡ false)) }
-
-        // The slot of a handle of the last generation is retired, which takes no memory.
-        // ensures memory { IsErrOf result FreeFault.Memory
-        //     → handle.generation ≢ self.old.allocator.limits.generations }
-        // ensures err { OnErr result (self.new ≡ self.old) }
-    {
-        if self.needs_flush() {
-            return Err(FreeFault::NeedsFlush);
-        }
-        let next = self.slots.free(handle)?;
-        Ok(Freed { next })
-    }
-
-    /// Brings to life what is reserved, and appends it to `out`: first the handles of new slots, then
-    /// those of old ones. What a refused request passed over can be given again. If nothing is
-    /// reserved, it appends nothing. It takes time for each handle that it appends, however long the
-    /// list is.
-    ///
-    /// If the list has room for the handles and no slot is new, the call takes no memory. So a list
-    /// that is cleared and used again takes none eventually.
-    ///
-    /// ```
-    /// use forgeni::Entities;
-    ///
-    /// let mut entities = Entities::new();
-    /// let mut born = Vec::new();
-    /// for _ in 0..10 {
-    ///     entities.request_many(100)?;
-    ///     born.clear();
-    ///     entities.flush(&mut born)?;
-    ///     for &handle in &born {
-    ///         entities.free(handle)?;
-    ///     }
-    /// }
-    /// assert_eq!((born.len(), entities.total()), (100, 100));
-    /// # Ok::<(), Box<dyn std::error::Error>>(())
-    /// ```
-    ///
-    /// # Errors
-    ///
-    /// [`OutOfMemory`](Memory) if there is no memory for new slots or for the list. Nothing has changed then,
-    /// neither here nor in `out`: all room is asked for before the first handle is listed.
-    ///
-    /// <details><summary>Contract</summary>
-    ///
-    /// In the words of the folder `specs/` of crate `ent_alloc`:
-    ///
-    /// ```text
-    /// ensures ok { OnOk result (self.new.allocator ≡ after_flush self.old.allocator) }
-    /// ensures rows { self.new.rows ≡ self.old.rows }
-    /// ensures born { OnOk result (out.new.items ≡ out.old.items ++ born self.old.allocator) }
-    /// ensures no_rows { OnOk result
-    ///     (All (λ h. map.get self.new.rows h ≡ None) (born self.old.allocator)) }
-    /// ensures rows_of_living { HasRowsOfLiving self.new }
-    /// ensures err { OnErr result (self.new ≡ self.old) }
-    /// ensures unchanged { OnErr result (out.new.items ≡ out.old.items) }
-    /// ensures capacity { OnErr result (vec_capacity out.new ≡ vec_capacity out.old) }
-    ///
-    /// // Memory runs out only for new slots, or for a list that lacks room.
-    /// ensures memory { OnErr result ((0 < made_at_flush self.old.allocator)
-    ///     ⊎ (vec_capacity out.old < vec_len out.old + length self.old.allocator.taken)) }
-    /// ```
-    ///
-    /// </details>
-    #[inline]
-    pub fn flush(&mut self, out: &mut Vec<Handle>) -> Result<(), Memory> {
-        let waiting = self.slots.waiting();
-        let kept = self.requests.kept(waiting);
-        let fresh = self.requests.fresh(waiting);
-        self.slots.bring_to_life(kept, fresh, out)?;
-        self.requests = Requests::none();
-        Ok(())
-    }
-
-    /// What became of a handle: whether it is alive, reserved, or neither. It takes constant time.
-    ///
-    /// ```
-    /// use forgeni::{Entities, State};
-    ///
-    /// let mut entities = Entities::new();
-    /// let soon = entities.request()?;
-    /// assert_eq!(entities.state(soon), State::Reserved);
-    /// entities.flush(&mut Vec::new())?;
-    /// assert_eq!(entities.state(soon), State::Alive);
-    /// entities.free(soon)?;
-    /// assert_eq!(entities.state(soon), State::Gone);
-    /// # Ok::<(), Box<dyn std::error::Error>>(())
-    /// ```
-    ///
-    /// <details><summary>Contract</summary>
-    ///
-    /// In the words of the folder `specs/` of crate `ent_alloc`:
-    ///
-    /// ```text
-    /// ensures { result ≡ state_of self.now.allocator handle }
-    /// ```
-    ///
-    /// </details>
-    #[must_use]
-    #[inline]
-    pub fn state(&self, handle: Handle) -> State {
-        let reserved = match self.slots.occupancy_of(handle) {
-            Some(Occupancy::Alive | Occupancy::AliveWithRow { .. }) => return State::Alive,
-            Some(Occupancy::Pending { position }) => {
-                self.requests.kept(self.slots.waiting()) <= position as usize
-            }
-            Some(Occupancy::Retired) => false,
-            None if self.slots.is_made(handle) => false,
-            None => {
-                let fresh = self.requests.fresh(self.slots.waiting());
-                self.slots.is_next(handle, fresh)
-            }
-        };
-        if reserved {
-            State::Reserved
-        } else {
-            State::Gone
-        }
-    }
-
-    /// Whether the handle is alive. It takes constant time.
-    ///
-    /// ```
-    /// use forgeni::Entities;
-    ///
-    /// let mut entities = Entities::new();
-    /// let target = entities.alloc()?;
-    /// assert!(entities.is_alive(target));
-    /// entities.free(target)?;
-    /// assert!(!entities.is_alive(target));
-    /// # Ok::<(), Box<dyn std::error::Error>>(())
-    /// ```
-    ///
-    /// <details><summary>Contract</summary>
-    ///
-    /// In the words of the folder `specs/` of crate `ent_alloc`:
-    ///
-    /// ```text
-    /// ensures { result ≡ set.contains self.now.allocator.live handle }
-    /// ```
-    ///
-    /// </details>
-    #[must_use]
-    #[inline]
-    pub fn is_alive(&self, handle: Handle) -> bool {
-        self.slots.is_alive(handle)
-    }
-
-    /// Whether the entity is alive or reserved, as `contains` of Bevy and hecs tells. It takes
-    /// constant time.
-    ///
-    /// ```
-    /// use forgeni::Entities;
-    ///
-    /// let mut entities = Entities::new();
-    /// let soon = entities.request()?;
-    /// assert!(entities.contains(soon) && !entities.is_alive(soon));
-    /// entities.flush(&mut Vec::new())?;
-    /// assert!(entities.contains(soon) && entities.is_alive(soon));
-    /// # Ok::<(), Box<dyn std::error::Error>>(())
-    /// ```
-    ///
-    /// <details><summary>Contract</summary>
-    ///
-    /// In the words of the folder `specs/` of crate `ent_alloc`:
-    ///
-    /// ```text
-    /// ensures { result ≡ (set.contains self.now.allocator.live handle
-    ///     || stands_in self.now.allocator.taken handle) }
-    /// ```
-    ///
-    /// </details>
-    #[must_use]
-    #[inline]
-    pub fn contains(&self, handle: Handle) -> bool {
-        match self.state(handle) {
-            State::Alive | State::Reserved => true,
-            State::Gone => false,
-        }
-    }
-
-    /// The handles of the living entities, by rising slot. It takes no memory, and time for each
-    /// slot.
-    ///
-    /// ```
-    /// use forgeni::Entities;
-    ///
-    /// let mut entities = Entities::new();
-    /// let all = entities.alloc_many(3)?;
-    /// entities.free(all[1])?;
-    /// assert!(entities.iter().eq([all[0], all[2]]));
-    /// # Ok::<(), Box<dyn std::error::Error>>(())
-    /// ```
-    ///
-    /// <details><summary>Contract</summary>
-    ///
-    /// In the words of the folder `specs/` of crate `ent_alloc`:
-    ///
-    /// ```text
-    /// ensures living { set.from_list result ≡ self.now.allocator.live }
-    /// ensures rising { AllPairs (λ g h. g.index < h.index) result }
-    /// ensures count { length result ≡ set.len self.now.allocator.live }
-    /// ```
-    ///
-    /// </details>
-    #[inline]
-    pub fn iter(&self) -> Living<'_> {
-        self.slots.occupants()
-    }
-
-    /// The place of a handle among those that there were to give at the last flush, counted from 0
-    /// in the order in which they are given. Requests don't change it. `None` if it isn't among
-    /// them. It takes constant time.
-    ///
-    /// ```
-    /// use forgeni::Entities;
-    ///
-    /// let mut entities = Entities::new();
-    /// let old = entities.alloc_many(2)?;
-    /// let first = entities.free(old[0])?.next.ok_or("it is retired")?;
-    /// let second = entities.free(old[1])?.next.ok_or("it is retired")?;
-    /// // The slot that was freed last is given first.
-    /// assert_eq!((entities.place(second), entities.place(first)), (Some(0), Some(1)));
-    /// # Ok::<(), Box<dyn std::error::Error>>(())
-    /// ```
-    ///
-    /// <details><summary>Contract</summary>
-    ///
-    /// In the words of the folder `specs/` of crate `ent_alloc`:
-    ///
-    /// ```text
-    /// ensures found { IfSome result (λ place.
-    ///     slice_get (available self.now.allocator) place ≡ Some handle) }
-    /// ensures none { IfNone result (stands_in (available self.now.allocator) handle ≡ false) }
-    /// ```
-    ///
-    /// </details>
-    #[must_use]
-    #[inline]
-    pub fn place(&self, handle: Handle) -> Option<u32> {
-        let waiting = self.slots.waiting();
-        match self.slots.occupancy_of(handle) {
-            Some(Occupancy::Pending { position }) => Some(waiting - 1 - position),
-            Some(Occupancy::Alive) => None,
-            Some(Occupancy::AliveWithRow { .. }) => None,
-            Some(Occupancy::Retired) => None,
-            None if self.slots.is_made(handle) => None,
-            None if self.slots.is_next(handle, self.room()) => {
-                Some(waiting + (handle.index() - self.slots.made()))
-            }
-            None => None,
-        }
-    }
-
-    /// The row of a living entity: a number that a program keeps with it, such as the place of its
-    /// components. `None` if the handle isn't alive, or if no row was set since it came to life. It
-    /// takes constant time.
-    ///
-    /// ```
-    /// use forgeni::Entities;
-    ///
-    /// let mut entities = Entities::new();
-    /// let (cart, horse) = (entities.alloc()?, entities.alloc()?);
-    /// let mut wheels = vec![];
-    /// entities.try_set_row(cart, wheels.len() as u32)?;
-    /// wheels.push(4);
-    /// // An engine's own table, by the row that it keeps with the entity.
-    /// assert_eq!(entities.row(cart).map(|row| wheels[row as usize]), Some(4));
-    /// assert_eq!(entities.row(horse), None);
-    /// # Ok::<(), Box<dyn std::error::Error>>(())
-    /// ```
-    ///
-    /// <details><summary>Contract</summary>
-    ///
-    /// In the words of the folder `specs/` of crate `ent_alloc`:
-    ///
-    /// ```text
-    /// ensures value { result ≡ map.get self.now.rows handle }
-    /// ensures alive { OnSome result (set.contains self.now.allocator.live handle ≡ true) }
-    /// ```
-    ///
-    /// </details>
-    #[must_use]
-    #[inline]
-    pub fn row(&self, handle: Handle) -> Option<u32> {
-        self.slots.row(handle)
+    pub fn limits(&self) -> Limits {
+        self.slots.limits()
     }
 
     /// Keeps a row with a living entity until the entity is freed. It takes the place of the row
@@ -841,49 +897,5 @@ impl Entities {
         // ensures allocator { self.new.allocator ≡ self.old.allocator }
     {
         self.slots.set_row(handle, row);
-    }
-
-    /// Keeps a row with a living entity until the entity is freed, in place of the row that was set
-    /// before. It takes constant time, and no memory.
-    ///
-    /// ```
-    /// use forgeni::{Absent, Entities};
-    ///
-    /// let mut entities = Entities::new();
-    /// let one = entities.alloc()?;
-    /// entities.try_set_row(one, 7)?;
-    /// assert_eq!(entities.row(one), Some(7));
-    /// entities.free(one)?;
-    /// assert_eq!(entities.row(one), None);
-    /// assert_eq!(entities.try_set_row(one, 8), Err(Absent));
-    /// # Ok::<(), Box<dyn std::error::Error>>(())
-    /// ```
-    ///
-    /// # Errors
-    ///
-    /// [`Absent`] if the handle isn't alive. Nothing has changed then.
-    ///
-    /// <details><summary>Contract</summary>
-    ///
-    /// In the words of the folder `specs/` of crate `ent_alloc`:
-    ///
-    /// ```text
-    /// ensures row { OnOk result (self.new.rows ≡ map.insert self.old.rows handle row) }
-    /// ensures lives { OnOk result (set.contains self.old.allocator.live handle ≡ true) }
-    /// ensures absent { OnErr result (set.contains self.old.allocator.live handle ≡ false) }
-    /// ensures unchanged { OnErr result (self.new ≡ self.old) }
-    /// ensures allocator { self.new.allocator ≡ self.old.allocator }
-    /// ensures rows_of_living { HasRowsOfLiving self.new }
-    /// ```
-    ///
-    /// </details>
-    #[inline]
-    pub fn try_set_row(&mut self, handle: Handle, row: u32) -> Result<(), Absent> {
-        if self.slots.is_alive(handle) {
-            self.set_row(handle, row);
-            Ok(())
-        } else {
-            Err(Absent)
-        }
     }
 }

@@ -1,8 +1,8 @@
 // Made of crates/ent_alloc/src/fault.rt by rust/erase. It isn't edited by hand.
 
-use crate::proved::ent_handle::{Handle, Memory};
+use crate::handles::{Handle, OutOfMemory};
 
-/// Why [`Entities::alloc`](crate::proved::ent_alloc::Entities::alloc) gave no handle. Nothing has changed.
+/// Why [`Entities::alloc`](crate::allocator::Entities::alloc) gave no handle. Nothing has changed.
 ///
 /// ```
 /// use forgeni::{AllocError, Entities};
@@ -20,7 +20,7 @@ use crate::proved::ent_handle::{Handle, Memory};
 /// # Ok::<(), Box<dyn std::error::Error>>(())
 /// ```
 #[derive(Clone, Copy, Debug, PartialEq, Eq, Hash)]
-pub enum AllocFault {
+pub enum AllocError {
     /// Handles were requested since the last flush, even if the request was refused.
     NeedsFlush,
     /// Every slot has a living entity or is retired.
@@ -29,26 +29,26 @@ pub enum AllocFault {
     Memory,
 }
 
-impl core::fmt::Display for AllocFault {
+impl core::fmt::Display for AllocError {
     fn fmt(&self, f: &mut core::fmt::Formatter<'_>) -> core::fmt::Result {
         match self {
-            AllocFault::NeedsFlush => write!(f, "a flush is needed first"),
-            AllocFault::Space => write!(f, "no slot is free"),
-            AllocFault::Memory => write!(f, "out of memory"),
+            AllocError::NeedsFlush => write!(f, "a flush is needed first"),
+            AllocError::Space => write!(f, "no slot is free"),
+            AllocError::Memory => write!(f, "out of memory"),
         }
     }
 }
 
-impl core::error::Error for AllocFault {}
+impl core::error::Error for AllocError {}
 
-impl From<Memory> for AllocFault {
+impl From<OutOfMemory> for AllocError {
     #[inline]
-    fn from(_refused: Memory) -> Self {
-        AllocFault::Memory
+    fn from(_refused: OutOfMemory) -> Self {
+        AllocError::Memory
     }
 }
 
-/// Why [`Entities::free`](crate::proved::ent_alloc::Entities::free) freed nothing. Nothing has changed.
+/// Why [`Entities::free`](crate::allocator::Entities::free) freed nothing. Nothing has changed.
 ///
 /// ```
 /// use forgeni::{Entities, FreeError};
@@ -64,7 +64,7 @@ impl From<Memory> for AllocFault {
 /// # Ok::<(), Box<dyn std::error::Error>>(())
 /// ```
 #[derive(Clone, Copy, Debug, PartialEq, Eq, Hash)]
-pub enum FreeFault {
+pub enum FreeError {
     /// Handles were requested since the last flush, even if the request was refused.
     NeedsFlush,
     /// The handle isn't alive.
@@ -73,26 +73,26 @@ pub enum FreeFault {
     Memory,
 }
 
-impl core::fmt::Display for FreeFault {
+impl core::fmt::Display for FreeError {
     fn fmt(&self, f: &mut core::fmt::Formatter<'_>) -> core::fmt::Result {
         match self {
-            FreeFault::NeedsFlush => write!(f, "a flush is needed first"),
-            FreeFault::NotAlive => write!(f, "the entity is not alive"),
-            FreeFault::Memory => write!(f, "out of memory"),
+            FreeError::NeedsFlush => write!(f, "a flush is needed first"),
+            FreeError::NotAlive => write!(f, "the entity is not alive"),
+            FreeError::Memory => write!(f, "out of memory"),
         }
     }
 }
 
-impl core::error::Error for FreeFault {}
+impl core::error::Error for FreeError {}
 
-impl From<Memory> for FreeFault {
+impl From<OutOfMemory> for FreeError {
     #[inline]
-    fn from(_refused: Memory) -> Self {
-        FreeFault::Memory
+    fn from(_refused: OutOfMemory) -> Self {
+        FreeError::Memory
     }
 }
 
-/// What [`Entities::free`](crate::proved::ent_alloc::Entities::free) returns.
+/// What [`Entities::free`](crate::allocator::Entities::free) returns.
 ///
 /// ```
 /// use forgeni::{Entities, Freed};

@@ -4,11 +4,11 @@
 
 use alloc::vec::Vec;
 use crate::kit::vec::FallibleVec;
-use crate::proved::ent_alloc::entities::Entities;
-use crate::proved::ent_alloc::packed_slot::PackedSlot;
-use crate::proved::ent_alloc::portion::Portion;
-use crate::proved::ent_alloc::slots::Slots;
-use crate::proved::ent_handle::Memory;
+use crate::allocator::entities::Entities;
+use crate::allocator::packed_slot::PackedSlot;
+use crate::allocator::portion::Portion;
+use crate::allocator::slots::Slots;
+use crate::handles::OutOfMemory;
 
 /// Makes `count` slots, which wait after all others. There is room in both lists.
 #[inline]
@@ -52,7 +52,7 @@ impl Slots {
     /// Makes slots that wait after all others for their first occupants. All room is asked for
     /// first: if memory runs out, nothing has changed.
     #[inline]
-    pub(super) fn make_waiting(&mut self, count: u32) -> Result<(), Memory>
+    pub(super) fn make_waiting(&mut self, count: u32) -> Result<(), OutOfMemory>
         // requires { self.old.made + count ≤ self.old.limits.slots }
         // ensures ok { OnOk result (self.new ≡ record self.old {
         //   pending = self.old.pending ++ fresh_handles self.old.made count;
@@ -175,7 +175,7 @@ impl Slots {
         portions: &[Portion],
         count: u32,
         reach: u32,
-    ) -> Result<Vec<u32>, Memory>
+    ) -> Result<Vec<u32>, OutOfMemory>
         // requires used { AreUsed portions.now }
         // requires within { size_of portions.now ≤ length (idle self.now) }
         // requires few { size_of portions.now < 2 ^ 32 }
@@ -255,7 +255,7 @@ impl Entities {
     /// Makes the pool begin with the handles of these slots, in this order. They are those that it
     /// begins with already.
     #[inline]
-    fn set_front(&mut self, front: &[u32]) -> Result<(), Memory>
+    fn set_front(&mut self, front: &[u32]) -> Result<(), OutOfMemory>
         // requires flushed { self.old.allocator.asked ≡ 0 }
         // requires few { length front.now ≤ length self.old.allocator.pool }
         // requires same { AreSlotsOf (take (length front.now) self.old.allocator.pool) front.now }
@@ -284,9 +284,9 @@ impl Entities {
     ///
     /// # Errors
     ///
-    /// [`Memory`] if there is no memory for that. Nothing has changed then.
+    /// [`OutOfMemory`] if there is no memory for that. Nothing has changed then.
     #[inline]
-    pub(crate) fn take_portions(&mut self, portions: &[Portion]) -> Result<(), Memory>
+    pub(crate) fn take_portions(&mut self, portions: &[Portion]) -> Result<(), OutOfMemory>
         // requires flushed { self.old.allocator.asked ≡ 0 }
         // requires used { AreUsed portions.now }
         // requires within { size_of portions.now ≤ length self.old.allocator.pool }
@@ -308,7 +308,7 @@ impl Entities {
 
     /// Makes the pool begin with what was used, if something is left before the last one of it.
     #[inline]
-    fn arrange(&mut self, portions: &[Portion], count: u32) -> Result<(), Memory>
+    fn arrange(&mut self, portions: &[Portion], count: u32) -> Result<(), OutOfMemory>
         // requires flushed { self.old.allocator.asked ≡ 0 }
         // requires used { AreUsed portions.now }
         // requires within { size_of portions.now ≤ length self.old.allocator.pool }

@@ -3,11 +3,12 @@
 //! Many handles that are alive at once.
 
 use alloc::vec::Vec;
-use crate::proved::ent_alloc::entities::Entities;
-use crate::proved::ent_alloc::fault::AllocFault;
-use crate::proved::ent_alloc::requests::Requests;
-use crate::proved::ent_handle::Handle;
+use crate::allocator::entities::Entities;
+use crate::allocator::fault::AllocError;
+use crate::allocator::requests::Requests;
+use crate::handles::Handle;
 
+/// # Several at once
 impl Entities {
     /// Gives `n` handles that are alive at once, all of them or none: those of `n` calls of
     /// [`alloc`](Self::alloc), in their order. It is faster than these calls.
@@ -25,10 +26,10 @@ impl Entities {
     ///
     /// In each case nothing has changed, and no handle was given.
     ///
-    /// - [`AllocError::NeedsFlush`](AllocFault::NeedsFlush) if handles were requested since the
+    /// - [`AllocError::NeedsFlush`] if handles were requested since the
     ///   last flush, even if the request was refused.
-    /// - [`AllocError::Space`](AllocFault::Space) if fewer than `n` handles can be given.
-    /// - [`AllocError::Memory`](AllocFault::Memory) if there is no memory for the list or for new
+    /// - [`AllocError::Space`] if fewer than `n` handles can be given.
+    /// - [`AllocError::Memory`] if there is no memory for the list or for new
     ///   slots.
     ///
     /// <details><summary>Contract</summary>
@@ -51,22 +52,22 @@ impl Entities {
     /// ensures no_rows { OnOk result
     ///     (All (λ h. map.get self.new.rows h ≡ None) (take n self.old.allocator.pool)) }
     /// ensures rows_of_living { HasRowsOfLiving self.new }
-    /// ensures needs_flush { IsErrOf result AllocFault.NeedsFlush
+    /// ensures needs_flush { IsErrOf result AllocError.NeedsFlush
     ///     ↔ (0 < self.old.allocator.asked) }
-    /// ensures space { IsErrOf result AllocFault.Space
+    /// ensures space { IsErrOf result AllocError.Space
     ///     ↔ ((self.old.allocator.asked ≡ 0) × (length self.old.allocator.pool < n)) }
-    /// ensures memory { IsErrOf result AllocFault.Memory → 0 < n }
+    /// ensures memory { IsErrOf result AllocError.Memory → 0 < n }
     /// ensures err { OnErr result (self.new ≡ self.old) }
     /// ```
     ///
     /// </details>
     #[inline]
-    pub fn alloc_many(&mut self, n: u32) -> Result<Vec<Handle>, AllocFault> {
+    pub fn alloc_many(&mut self, n: u32) -> Result<Vec<Handle>, AllocError> {
         if self.needs_flush() {
-            return Err(AllocFault::NeedsFlush);
+            return Err(AllocError::NeedsFlush);
         }
         if n > self.left() {
-            return Err(AllocFault::Space);
+            return Err(AllocError::Space);
         }
         let wanted = Requests {
             asked: u64::from(n),

@@ -4,14 +4,14 @@
 
 use alloc::vec::Vec;
 use crate::kit::vec::FallibleVec;
-use crate::proved::ent_alloc::asking::MOST;
-use crate::proved::ent_alloc::entities::Entities;
-use crate::proved::ent_alloc::image_fault::ImageFault;
-use crate::proved::ent_alloc::image_slots::SLOT;
-use crate::proved::ent_alloc::limits::Limits;
-use crate::proved::ent_alloc::requests::Requests;
-use crate::proved::ent_alloc::slots::Slots;
-use crate::proved::ent_handle::{Memory, read_long, read_word, write_long, write_word};
+use crate::allocator::asking::MOST;
+use crate::allocator::entities::Entities;
+use crate::allocator::image_fault::ImageFault;
+use crate::allocator::image_slots::SLOT;
+use crate::allocator::limits::Limits;
+use crate::allocator::requests::Requests;
+use crate::allocator::slots::Slots;
+use crate::handles::{OutOfMemory, read_long, read_word, write_long, write_word};
 
 /// The letters `FORGENI` and a zero, the first one lowest.
 const MAGIC: u64 = 0x0049_4e45_4752_4f46;
@@ -142,6 +142,7 @@ fn allowed(read: Result<Entities, ImageFault>, most: u32) -> Result<Entities, Im
     Ok(entities)
 }
 
+/// # Saves
 impl Entities {
     /// Appends the image of the allocator: bytes from which [`read_image`](Self::read_image) makes
     /// the same allocator again, with its limits, living entities, rows, waiting slots and
@@ -166,7 +167,7 @@ impl Entities {
     ///
     /// # Errors
     ///
-    /// [`OutOfMemory`](Memory) if there is no memory for the bytes. The list is unchanged then.
+    /// [`OutOfMemory`] if there is no memory for the bytes. The list is unchanged then.
     ///
     /// <details><summary>Contract</summary>
     ///
@@ -189,25 +190,11 @@ impl Entities {
     ///
     /// </details>
     #[inline]
-    pub fn write_image(&self, out: &mut Vec<u8>) -> Result<(), Memory> {
+    pub fn write_image(&self, out: &mut Vec<u8>) -> Result<(), OutOfMemory> {
         out.reserve_fallibly(HEADER + SLOT * self.total() as usize)?;
         write_header(self.header(), out);
         self.slots.write_image(out);
         Ok(())
-    }
-
-    /// Appends the image that the allocator has if none of its entities has a row, for a caller whose
-    /// rows follow from what it writes beside it. There is room for it.
-    #[inline]
-    pub(crate) fn write_image_without_rows(&self, out: &mut Vec<u8>)
-        // requires { vec_len out.old + (40 + 12 * self.now.allocator.made) ≤ vec_capacity out.old }
-        // ensures written { out.new.items ≡ out.old.items ++ image (without_rows self.now) }
-        // ensures has_image { HasImage (without_rows self.now) }
-        // ensures len { vec_len out.new ≡ vec_len out.old + (40 + 12 * self.now.allocator.made) }
-        // ensures capacity { vec_capacity out.old ≤ vec_capacity out.new }
-    {
-        write_header(self.header(), out);
-        self.slots.write_image_without_rows(out);
     }
 
     /// The allocator whose image these bytes are, all of them.
@@ -357,6 +344,22 @@ impl Entities {
     #[inline]
     pub fn read_image_within(bytes: &[u8], most: u32) -> Result<Self, ImageFault> {
         allowed(Entities::read_image(bytes), most)
+    }
+}
+
+impl Entities {
+    /// Appends the image that the allocator has if none of its entities has a row, for a caller whose
+    /// rows follow from what it writes beside it. There is room for it.
+    #[inline]
+    pub(crate) fn write_image_without_rows(&self, out: &mut Vec<u8>)
+        // requires { vec_len out.old + (40 + 12 * self.now.allocator.made) ≤ vec_capacity out.old }
+        // ensures written { out.new.items ≡ out.old.items ++ image (without_rows self.now) }
+        // ensures has_image { HasImage (without_rows self.now) }
+        // ensures len { vec_len out.new ≡ vec_len out.old + (40 + 12 * self.now.allocator.made) }
+        // ensures capacity { vec_capacity out.old ≤ vec_capacity out.new }
+    {
+        write_header(self.header(), out);
+        self.slots.write_image_without_rows(out);
     }
 
     /// What `read_image` returns.

@@ -1,10 +1,10 @@
 // Made of crates/ent_alloc/src/image_fault.rt by rust/erase. It isn't edited by hand.
 
-use crate::proved::ent_handle::Memory;
+use crate::handles::OutOfMemory;
 use crate::kit::alloc::AllocError;
 
 /// Why bytes were not read as the image of an allocator: the first fault that they have, in the
-/// order that [`Entities::read_image`](crate::proved::ent_alloc::Entities::read_image) lists.
+/// order that [`Entities::read_image`](crate::allocator::Entities::read_image) lists.
 ///
 /// ```
 /// use forgeni::{Entities, ImageFault};
@@ -50,7 +50,7 @@ pub enum ImageFault {
         position: u32,
     },
     /// After its next flush the allocator would have more slots than
-    /// [`read_image_within`](crate::proved::ent_alloc::Entities::read_image_within) was allowed.
+    /// [`read_image_within`](crate::allocator::Entities::read_image_within) was allowed.
     Bound {
         /// How many slots it would have.
         slots: u32,
@@ -85,9 +85,9 @@ impl From<AllocError> for ImageFault {
     }
 }
 
-impl From<Memory> for ImageFault {
+impl From<OutOfMemory> for ImageFault {
     #[inline]
-    fn from(_refused: Memory) -> Self {
+    fn from(_refused: OutOfMemory) -> Self {
         ImageFault::Memory
     }
 }

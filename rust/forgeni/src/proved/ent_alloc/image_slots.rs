@@ -4,11 +4,11 @@
 
 use alloc::vec::Vec;
 use crate::kit::vec::FallibleVec;
-use crate::proved::ent_alloc::image_fault::ImageFault;
-use crate::proved::ent_alloc::limits::Limits;
-use crate::proved::ent_alloc::packed_slot::PackedSlot;
-use crate::proved::ent_alloc::slot_record::{Occupancy, SlotRecord};
-use crate::proved::ent_handle::{read_long, read_word, write_word};
+use crate::allocator::image_fault::ImageFault;
+use crate::allocator::limits::Limits;
+use crate::allocator::packed_slot::PackedSlot;
+use crate::allocator::slot_record::{Occupancy, SlotRecord};
+use crate::handles::{read_long, read_word, write_word};
 use crate::kit::alloc::AllocError;
 
 /// How many bytes a slot has.

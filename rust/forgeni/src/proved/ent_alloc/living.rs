@@ -1,11 +1,11 @@
 // Made of crates/ent_alloc/src/living.rt by rust/erase. It isn't edited by hand.
 
-use crate::proved::ent_alloc::packed_slot::PackedSlot;
-use crate::proved::ent_handle::Handle;
+use crate::allocator::packed_slot::PackedSlot;
+use crate::handles::Handle;
 
 /// The handles of the living entities, by rising slot.
 ///
-/// [`Entities::iter`](crate::proved::ent_alloc::Entities::iter) makes it. It borrows the allocator and copies nothing.
+/// [`Entities::iter`](crate::allocator::Entities::iter) makes it. It borrows the allocator and copies nothing.
 /// Between two handles it looks at each slot once. After the last handle it looks at none.
 ///
 /// ```

@@ -3,14 +3,15 @@
 //! Bevy's entity allocator for one caller: its exclusive calls, and the arithmetic by which many
 //! callers reserve.
 
-mod absent;
-mod asking;
-mod cloning;
 mod entities;
+mod giving;
+mod asking;
+mod requesting;
+mod image;
+mod cloning;
+mod absent;
 mod fault;
 mod front;
-mod giving;
-mod image;
 mod image_fault;
 mod image_slots;
 mod limits;
@@ -19,7 +20,6 @@ mod packed_slot;
 mod portion;
 mod prepared;
 mod refused;
-mod requesting;
 mod requests;
 mod reserve_error;
 mod reserved;
@@ -32,7 +32,7 @@ mod state;
 
 pub use absent::Absent;
 pub use entities::Entities;
-pub use fault::{AllocFault, FreeFault, Freed};
+pub use fault::{AllocError, FreeError, Freed};
 pub use image_fault::ImageFault;
 pub use limits::{Limits, QUOTA};
 pub use living::Living;

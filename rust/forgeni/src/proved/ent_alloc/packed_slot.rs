@@ -2,7 +2,7 @@
 
 //! The record of a slot in eight bytes.
 
-use crate::proved::ent_alloc::slot_record::{Occupancy, SlotRecord};
+use crate::allocator::slot_record::{Occupancy, SlotRecord};
 
 /// The bit of a mark that a living occupant's doesn't have. A generation is below it.
 const NOBODY: u32 = 1 << 31;

@@ -4,13 +4,13 @@
 //! own: so a caller that copies more than an allocator takes all memory before anything changes.
 
 use alloc::vec::Vec;
-use crate::proved::ent_alloc::cloning::{overwrite, reserve_for};
-use crate::proved::ent_alloc::entities::Entities;
-use crate::proved::ent_alloc::limits::Limits;
-use crate::proved::ent_alloc::packed_slot::PackedSlot;
-use crate::proved::ent_alloc::requests::Requests;
-use crate::proved::ent_alloc::slots::Slots;
-use crate::proved::ent_handle::Memory;
+use crate::allocator::cloning::{overwrite, reserve_for};
+use crate::allocator::entities::Entities;
+use crate::allocator::limits::Limits;
+use crate::allocator::packed_slot::PackedSlot;
+use crate::allocator::requests::Requests;
+use crate::allocator::slots::Slots;
+use crate::handles::OutOfMemory;
 
 /// An allocator and the room that its lists have.
 ///
@@ -100,7 +100,7 @@ impl Prepared {
     ///
     /// </details>
     #[inline]
-    pub fn reserve_for(&mut self, source: &Entities) -> Result<(), Memory> {
+    pub fn reserve_for(&mut self, source: &Entities) -> Result<(), OutOfMemory> {
         reserve_for(&mut self.records, source.slots.records.len())?;
         reserve_for(&mut self.pending, source.slots.pending.len())?;
         Ok(())

@@ -1,6 +1,6 @@
 // Made of crates/ent_alloc/src/refused.rt by rust/erase. It isn't edited by hand.
 
-use crate::proved::ent_alloc::space::Space;
+use crate::allocator::space::Space;
 
 /// Why a request or a reservation gave no handle.
 ///

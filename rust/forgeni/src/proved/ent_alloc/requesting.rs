@@ -3,13 +3,13 @@
 //! What callers request, one or many of them: a step lowers the cursor, and what it gives follows
 //! from the cursor that it found.
 
-use crate::proved::ent_alloc::entities::Entities;
-use crate::proved::ent_alloc::requests::Requests;
-use crate::proved::ent_alloc::reserved::Reserved;
-use crate::proved::ent_alloc::slot_record::first_occupant;
-use crate::proved::ent_alloc::space::Space;
-use crate::proved::ent_alloc::span::Span;
-use crate::proved::ent_handle::Handle;
+use crate::allocator::entities::Entities;
+use crate::allocator::requests::Requests;
+use crate::allocator::reserved::Reserved;
+use crate::allocator::slot_record::first_occupant;
+use crate::allocator::space::Space;
+use crate::allocator::span::Span;
+use crate::handles::Handle;
 
 impl Entities {
     /// Sets the state to the one after requests that leave the cursor and the floor at these

@@ -1,8 +1,8 @@
 // Made of crates/ent_alloc/src/reserve_error.rt by rust/erase. It isn't edited by hand.
 
-use crate::proved::ent_alloc::refused::Refused;
-use crate::proved::ent_alloc::space::Space;
-use crate::proved::ent_handle::Memory;
+use crate::allocator::refused::Refused;
+use crate::allocator::space::Space;
+use crate::handles::OutOfMemory;
 use crate::kit::alloc::AllocError;
 
 /// Why a call that reserves handles, and keeps them in a list or a queue, gave none.
@@ -82,10 +82,10 @@ impl ReserveError {
     ///
     /// </details>
     #[inline]
-    pub fn or_memory(self) -> Result<(), Memory> {
+    pub fn or_memory(self) -> Result<(), OutOfMemory> {
         match self {
             ReserveError::Space { .. } | ReserveError::Quota { .. } => Ok(()),
-            ReserveError::Memory => Err(Memory),
+            ReserveError::Memory => Err(OutOfMemory),
         }
     }
 }
@@ -97,9 +97,9 @@ impl From<AllocError> for ReserveError {
     }
 }
 
-impl From<Memory> for ReserveError {
+impl From<OutOfMemory> for ReserveError {
     #[inline]
-    fn from(_refused: Memory) -> Self {
+    fn from(_refused: OutOfMemory) -> Self {
         ReserveError::Memory
     }
 }

@@ -1,9 +1,9 @@
 // Made of crates/ent_alloc/src/reserved.rt by rust/erase. It isn't edited by hand.
 
-use crate::proved::ent_alloc::packed_slot::PackedSlot;
-use crate::proved::ent_alloc::slot_record::first_occupant;
-use crate::proved::ent_alloc::slots::Slots;
-use crate::proved::ent_handle::Handle;
+use crate::allocator::packed_slot::PackedSlot;
+use crate::allocator::slot_record::first_occupant;
+use crate::allocator::slots::Slots;
+use crate::handles::Handle;
 
 /// The handles that one request was given, in the order of the reply: those of old slots, then the
 /// fresh ones.

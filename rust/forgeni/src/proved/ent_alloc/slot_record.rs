@@ -2,8 +2,8 @@
 
 use alloc::vec::Vec;
 use crate::kit::vec::FallibleVec;
-use crate::proved::ent_alloc::packed_slot::PackedSlot;
-use crate::proved::ent_handle::Handle;
+use crate::allocator::packed_slot::PackedSlot;
+use crate::handles::Handle;
 
 /// Who has a slot.
 #[derive(Clone, Copy)]

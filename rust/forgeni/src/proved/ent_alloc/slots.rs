@@ -2,16 +2,16 @@
 
 use alloc::vec::Vec;
 use crate::kit::vec::FallibleVec;
-use crate::proved::ent_alloc::cloning::{overwrite, reserve_for};
-use crate::proved::ent_alloc::fault::FreeFault;
-use crate::proved::ent_alloc::image_fault::ImageFault;
-use crate::proved::ent_alloc::image_slots::{SlotLists, read_slots, write_rowless_slots, write_slots};
-use crate::proved::ent_alloc::limits::Limits;
-use crate::proved::ent_alloc::living::Living;
-use crate::proved::ent_alloc::packed_slot::PackedSlot;
-use crate::proved::ent_alloc::slot_record;
-use crate::proved::ent_alloc::slot_record::{Occupancy, first_occupant, make_all, reuse_all};
-use crate::proved::ent_handle::{Handle, Memory};
+use crate::allocator::cloning::{overwrite, reserve_for};
+use crate::allocator::fault::FreeError;
+use crate::allocator::image_fault::ImageFault;
+use crate::allocator::image_slots::{SlotLists, read_slots, write_rowless_slots, write_slots};
+use crate::allocator::limits::Limits;
+use crate::allocator::living::Living;
+use crate::allocator::packed_slot::PackedSlot;
+use crate::allocator::slot_record;
+use crate::allocator::slot_record::{Occupancy, first_occupant, make_all, reuse_all};
+use crate::handles::{Handle, OutOfMemory};
 
 /// The slots that were made, and those of them that wait for their next occupant.
 pub(super) struct Slots {
@@ -203,7 +203,7 @@ impl Slots {
 
     /// Makes one slot, with its first occupant.
     #[inline]
-    pub(super) fn make_one(&mut self) -> Result<Handle, Memory>
+    pub(super) fn make_one(&mut self) -> Result<Handle, OutOfMemory>
         // requires { self.old.made < self.old.limits.slots }
         // ensures first { IfOk result (λ h. h ≡ record { index = self.old.made; generation = 1 }) }
         // ensures ok { IfOk result (λ h. self.new ≡ record self.old {
@@ -227,7 +227,7 @@ impl Slots {
         kept: usize,
         fresh: u32,
         out: &mut Vec<Handle>,
-    ) -> Result<(), Memory>
+    ) -> Result<(), OutOfMemory>
         // requires waiting { kept ≤ length self.old.pending }
         // requires room { self.old.made + fresh ≤ self.old.limits.slots }
         // ensures ok { OnOk result (self.new ≡ record self.old {
@@ -258,17 +258,17 @@ impl Slots {
     /// Takes the handle's entity out of its slot, which then waits after all others for the next
     /// one, or is retired after the last one.
     #[inline]
-    pub(super) fn free(&mut self, handle: Handle) -> Result<Option<Handle>, FreeFault>
+    pub(super) fn free(&mut self, handle: Handle) -> Result<Option<Handle>, FreeError>
         // ensures waits { OnOk result (handle.generation ≢ self.old.limits.generations
         //     → self.new ≡ freed_roster self.old handle) }
         // ensures retired { OnOk result (handle.generation ≡ self.old.limits.generations
         //     → self.new ≡ retired_roster self.old handle) }
         // ensures next { IfOk result (λ following. following ≡ next self.old.limits handle) }
         // ensures lived { OnOk result (set.contains self.old.live handle ≡ true) }
-        // ensures not_alive { IsErrOf result FreeFault.NotAlive
+        // ensures not_alive { IsErrOf result FreeError.NotAlive
         //     ↔ (set.contains self.old.live handle ≡ false) }
-        // ensures needs_flush { result ≢ Err FreeFault.NeedsFlush }
-        // ensures memory { IsErrOf result FreeFault.Memory
+        // ensures needs_flush { result ≢ Err FreeError.NeedsFlush }
+        // ensures memory { IsErrOf result FreeError.Memory
         //     → handle.generation ≢ self.old.limits.generations }
         // ensures err { OnErr result (self.new ≡ self.old) }
     {
@@ -283,17 +283,17 @@ impl Slots {
     /// if there is room, and the compiler keeps all numbers in registers.
     #[cold]
     #[inline(never)]
-    fn leave_growing(&mut self, handle: Handle) -> Result<Option<Handle>, FreeFault>
+    fn leave_growing(&mut self, handle: Handle) -> Result<Option<Handle>, FreeError>
         // ensures waits { OnOk result (handle.generation ≢ self.old.limits.generations
         //     → self.new ≡ freed_roster self.old handle) }
         // ensures retired { OnOk result (handle.generation ≡ self.old.limits.generations
         //     → self.new ≡ retired_roster self.old handle) }
         // ensures next { IfOk result (λ following. following ≡ next self.old.limits handle) }
         // ensures lived { OnOk result (set.contains self.old.live handle ≡ true) }
-        // ensures not_alive { IsErrOf result FreeFault.NotAlive
+        // ensures not_alive { IsErrOf result FreeError.NotAlive
         //     ↔ (set.contains self.old.live handle ≡ false) }
-        // ensures needs_flush { result ≢ Err FreeFault.NeedsFlush }
-        // ensures memory { IsErrOf result FreeFault.Memory
+        // ensures needs_flush { result ≢ Err FreeError.NeedsFlush }
+        // ensures memory { IsErrOf result FreeError.Memory
         //     → handle.generation ≢ self.old.limits.generations }
         // ensures err { OnErr result (self.new ≡ self.old) }
     {
@@ -302,17 +302,17 @@ impl Slots {
 
     /// `free`, with or without room in that list. The slot is looked up once.
     #[inline]
-    fn leave(&mut self, handle: Handle) -> Result<Option<Handle>, FreeFault>
+    fn leave(&mut self, handle: Handle) -> Result<Option<Handle>, FreeError>
         // ensures waits { OnOk result (handle.generation ≢ self.old.limits.generations
         //     → self.new ≡ freed_roster self.old handle) }
         // ensures retired { OnOk result (handle.generation ≡ self.old.limits.generations
         //     → self.new ≡ retired_roster self.old handle) }
         // ensures next { IfOk result (λ following. following ≡ next self.old.limits handle) }
         // ensures lived { OnOk result (set.contains self.old.live handle ≡ true) }
-        // ensures not_alive { IsErrOf result FreeFault.NotAlive
+        // ensures not_alive { IsErrOf result FreeError.NotAlive
         //     ↔ (set.contains self.old.live handle ≡ false) }
-        // ensures needs_flush { result ≢ Err FreeFault.NeedsFlush }
-        // ensures memory { IsErrOf result FreeFault.Memory
+        // ensures needs_flush { result ≢ Err FreeError.NeedsFlush }
+        // ensures memory { IsErrOf result FreeError.Memory
         //     → handle.generation ≢ self.old.limits.generations }
         // ensures err { OnErr result (self.new ≡ self.old) }
     {
@@ -320,10 +320,10 @@ impl Slots {
         // The generation, by the call whose contract says that it is in range.
         let generation = (handle.to_bits() >> 32) as u32;
         let Some(slot) = self.records.get_mut(index as usize) else {
-            return Err(FreeFault::NotAlive);
+            return Err(FreeError::NotAlive);
         };
         if !slot.is_occupied_by(generation) {
-            return Err(FreeFault::NotAlive);
+            return Err(FreeError::NotAlive);
         }
         if generation == self.limits.generations() {
             *slot = PackedSlot::retired(generation);
@@ -332,7 +332,7 @@ impl Slots {
         }
         let position = self.pending.len() as u32;
         if self.pending.push_fallibly(index).is_err() {
-            return Err(FreeFault::Memory);
+            return Err(FreeError::Memory);
         }
         *slot = PackedSlot::pending(generation + 1, position);
         self.live -= 1;
@@ -341,7 +341,7 @@ impl Slots {
 
     /// The same slots once more.
     #[inline]
-    pub(super) fn try_clone(&self) -> Result<Slots, Memory>
+    pub(super) fn try_clone(&self) -> Result<Slots, OutOfMemory>
         // ensures ok { IfOk result (λ clone. clone ≡ self.now) }
         // ensures memory { OnErr result (0 < self.now.made) }
     {
@@ -353,7 +353,7 @@ impl Slots {
     /// Becomes the same as another. All room is asked for first: if memory runs out, nothing has
     /// changed.
     #[inline]
-    pub(super) fn try_clone_from(&mut self, source: &Slots) -> Result<(), Memory>
+    pub(super) fn try_clone_from(&mut self, source: &Slots) -> Result<(), OutOfMemory>
         // ensures ok { OnOk result (self.new ≡ source.now) }
         // ensures err { OnErr result (self.new ≡ self.old) }
         // ensures memory { OnErr result ((self.old.made < source.now.made)

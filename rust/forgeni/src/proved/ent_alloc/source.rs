@@ -1,8 +1,8 @@
 // Made of crates/ent_alloc/src/source.rt by rust/erase. It isn't edited by hand.
 
-use crate::proved::ent_alloc::refused::Refused;
-use crate::proved::ent_alloc::reserved::Reserved;
-use crate::proved::ent_handle::Handle;
+use crate::allocator::refused::Refused;
+use crate::allocator::reserved::Reserved;
+use crate::handles::Handle;
 
 /// An allocator in a phase, which serves the requests of its reservers.
 ///

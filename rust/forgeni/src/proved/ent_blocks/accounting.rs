@@ -4,9 +4,9 @@
 
 use alloc::vec::Vec;
 use crate::kit::vec::FallibleVec;
-use crate::proved::ent_blocks::block_reserver::BlockReserver;
-use crate::proved::ent_blocks::held::Held;
-use crate::proved::ent_blocks::part::Part;
+use crate::in_blocks::block_reserver::BlockReserver;
+use crate::in_blocks::held::Held;
+use crate::in_blocks::part::Part;
 
 /// Whether all reservers are of the phase of this number.
 #[inline]

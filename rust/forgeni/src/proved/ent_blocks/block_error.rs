@@ -1,11 +1,11 @@
 // Made of crates/ent_blocks/src/block_error.rt by rust/erase. It isn't edited by hand.
 
-use crate::proved::ent_alloc::Space;
-use crate::proved::ent_handle::Memory;
+use crate::allocator::Space;
+use crate::handles::OutOfMemory;
 use crate::kit::alloc::AllocError;
 
 /// Why no handle of a block was reserved. Nothing has changed then, but that the reserver
-/// [remembers](crate::proved::ent_blocks::BlockReserver::wanted) a request for more than is left.
+/// [remembers](crate::in_blocks::BlockReserver::wanted) a request for more than is left.
 ///
 /// ```
 /// use forgeni::{BlockError, Entities};
@@ -54,9 +54,9 @@ impl From<AllocError> for BlockError {
     }
 }
 
-impl From<Memory> for BlockError {
+impl From<OutOfMemory> for BlockError {
     #[inline]
-    fn from(_refused: Memory) -> Self {
+    fn from(_refused: OutOfMemory) -> Self {
         BlockError::Memory
     }
 }

@@ -1,14 +1,14 @@
 // Made of crates/ent_blocks/src/block_reserver.rt by rust/erase. It isn't edited by hand.
 
-use crate::proved::ent_blocks::block_error::BlockError;
-use crate::proved::ent_blocks::blocks::Blocks;
-use crate::proved::ent_blocks::held::Held;
-use crate::proved::ent_blocks::part::Part;
+use crate::in_blocks::block_error::BlockError;
+use crate::in_blocks::blocks::Blocks;
+use crate::in_blocks::held::Held;
+use crate::in_blocks::part::Part;
 
 /// The right of one caller to the handles of its block.
 ///
 /// [`Entities::open_in_blocks`](crate::Entities::open_in_blocks) makes them, and
-/// [`Blocks::close`](Blocks::close) takes them back. It is a few numbers: it has no list of
+/// [`Blocks::close`] takes them back. It is a few numbers: it has no list of
 /// handles, and may go to any thread.
 ///
 /// ```
@@ -118,7 +118,7 @@ impl BlockReserver {
 
     /// How many handles would have been enough: those that are used, and the largest of the requests
     /// that were refused since too few were left. At most 4,294,967,295.
-    /// [`BlockSize::adapt`](crate::proved::ent_blocks::BlockSize::adapt) takes it.
+    /// [`BlockSize::adapt`](crate::in_blocks::BlockSize::adapt) takes it.
     ///
     /// ```
     /// use forgeni::Entities;

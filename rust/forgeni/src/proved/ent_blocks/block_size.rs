@@ -1,7 +1,7 @@
 // Made of crates/ent_blocks/src/block_size.rt by rust/erase. It isn't edited by hand.
 
 /// How large a caller's block is in the next phase: twice what it
-/// [wanted](crate::proved::ent_blocks::BlockReserver::wanted) in this one, at least 64, and at most a limit. So a size
+/// [wanted](crate::in_blocks::BlockReserver::wanted) in this one, at least 64, and at most a limit. So a size
 /// follows from the phases before, and is the same on every machine.
 ///
 /// What a caller wanted is what it used, and the largest of its requests that were refused. So the
@@ -140,7 +140,7 @@ impl BlockSize {
     }
 
     /// Sets the size to the one that follows from how many handles were
-    /// [wanted](crate::proved::ent_blocks::BlockReserver::wanted) in this phase.
+    /// [wanted](crate::in_blocks::BlockReserver::wanted) in this phase.
     ///
     /// ```
     /// use forgeni::BlockSize;

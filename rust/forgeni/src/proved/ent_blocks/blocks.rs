@@ -2,15 +2,15 @@
 
 use alloc::vec::Vec;
 use crate::kit::vec::FallibleVec;
-use crate::proved::ent_blocks::accounting::{account, are_of, missing};
-use crate::proved::ent_blocks::block_error::BlockError;
-use crate::proved::ent_blocks::block_reserver::BlockReserver;
-use crate::proved::ent_blocks::closing::take_used;
-use crate::proved::ent_blocks::end_error::EndError;
-use crate::proved::ent_blocks::part::Part;
-use crate::proved::ent_blocks::taking::{append, take_many, take_one};
-use crate::proved::ent_alloc::{Entities, Reserved, Space};
-use crate::proved::ent_handle::{HandedBack, Handle};
+use crate::in_blocks::accounting::{account, are_of, missing};
+use crate::in_blocks::block_error::BlockError;
+use crate::in_blocks::block_reserver::BlockReserver;
+use crate::in_blocks::closing::take_used;
+use crate::in_blocks::end_error::EndError;
+use crate::in_blocks::part::Part;
+use crate::in_blocks::taking::{append, take_many, take_one};
+use crate::allocator::{Entities, Reserved, Space};
+use crate::handles::{HandedBack, Handle};
 
 /// An allocator whose pool's front is dealt in blocks, one to each [`BlockReserver`].
 /// [`Entities::open_in_blocks`](crate::Entities::open_in_blocks) makes it.

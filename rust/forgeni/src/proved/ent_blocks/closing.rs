@@ -2,16 +2,16 @@
 
 use alloc::vec::Vec;
 use crate::kit::vec::FallibleVec;
-use crate::proved::ent_blocks::part::Part;
-use crate::proved::ent_alloc::{Entities, Portion};
-use crate::proved::ent_handle::Memory;
+use crate::in_blocks::part::Part;
+use crate::allocator::{Entities, Portion};
+use crate::handles::OutOfMemory;
 
 /// Takes what was used of these blocks, and leaves what is left of them in the pool.
 #[inline]
 pub(super) fn take_used(
     entities: &mut Entities,
     blocks: &[Part],
-) -> Result<(), Memory>
+) -> Result<(), OutOfMemory>
     // requires flushed { entities.old.allocator.asked ≡ 0 }
     // requires laid { AreLaid 0 (map unused blocks.now) }
     // requires within { dealt blocks.now ≤ length entities.old.allocator.pool }
@@ -31,7 +31,7 @@ pub(super) fn take_used(
 
 /// The blocks as portions of the pool's front, one after the other.
 #[inline]
-fn portions_of(blocks: &[Part]) -> Result<Vec<Portion>, Memory>
+fn portions_of(blocks: &[Part]) -> Result<Vec<Portion>, OutOfMemory>
     // ensures portions { IfOk result (λ portions. portions.items ≡ portions_of blocks.now) }
     // ensures used { OnOk result (AreUsed (portions_of blocks.now)) }
     // ensures memory { OnErr result (0 < length blocks.now) }

@@ -1,6 +1,6 @@
 // Made of crates/ent_blocks/src/held.rt by rust/erase. It isn't edited by hand.
 
-use crate::proved::ent_blocks::part::Part;
+use crate::in_blocks::part::Part;
 
 /// Whatever holds a block.
 pub(super) trait Held {

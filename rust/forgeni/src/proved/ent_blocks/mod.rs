@@ -18,7 +18,7 @@ mod part;
 mod source;
 mod taking;
 
-pub(crate) use crate::proved::ent_blocks::overflow::open_with_overflow;
+pub(crate) use crate::in_blocks::overflow::open_with_overflow;
 pub use block_error::BlockError;
 pub use block_reserver::{BlockReserver, again};
 pub use block_size::BlockSize;

@@ -4,12 +4,12 @@
 
 use alloc::vec::Vec;
 use crate::kit::vec::FallibleVec;
-use crate::proved::ent_blocks::block_reserver::BlockReserver;
-use crate::proved::ent_blocks::blocks::Blocks;
-use crate::proved::ent_blocks::deal_error::DealError;
-use crate::proved::ent_blocks::part::Part;
-use crate::proved::ent_alloc::Entities;
-use crate::proved::ent_handle::{HandedBack, Memory};
+use crate::in_blocks::block_reserver::BlockReserver;
+use crate::in_blocks::blocks::Blocks;
+use crate::in_blocks::deal_error::DealError;
+use crate::in_blocks::part::Part;
+use crate::allocator::Entities;
+use crate::handles::{HandedBack, OutOfMemory};
 
 /// A phase in blocks that has no number yet.
 pub struct Deal {
@@ -115,7 +115,7 @@ fn hand_out(parts: &[Part], number: u64, reservers: &mut Vec<BlockReserver>)
 pub(super) fn parts_of(
     entities: &Entities,
     sizes: &[u32],
-) -> Result<Vec<Part>, Memory>
+) -> Result<Vec<Part>, OutOfMemory>
     // requires flushed { entities.now.allocator.asked ≡ 0 }
     // ensures blocks { IfOk result (λ parts. parts.items
     //     ≡ blocks_from 0 (length entities.now.allocator.pool) sizes.now) }

@@ -1,6 +1,6 @@
 // Made of crates/ent_blocks/src/part.rt by rust/erase. It isn't edited by hand.
 
-use crate::proved::ent_alloc::Portion;
+use crate::allocator::Portion;
 
 /// The block of one caller, and how many of its handles are used.
 pub struct Part {

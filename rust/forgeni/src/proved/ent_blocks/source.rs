@@ -1,9 +1,9 @@
 // Made of crates/ent_blocks/src/source.rt by rust/erase. It isn't edited by hand.
 
-use crate::proved::ent_blocks::block_reserver::BlockReserver;
-use crate::proved::ent_blocks::blocks::{Blocks, reserve_iter};
-use crate::proved::ent_alloc::{Refused, Reserved, Source};
-use crate::proved::ent_handle::Handle;
+use crate::in_blocks::block_reserver::BlockReserver;
+use crate::in_blocks::blocks::{Blocks, reserve_iter};
+use crate::allocator::{Refused, Reserved, Source};
+use crate::handles::Handle;
 
 /// Each reservation is of the [next handles](Blocks::reserve) of the reserver's own block.
 impl Source for Blocks {

@@ -4,9 +4,9 @@
 
 use alloc::vec::Vec;
 use crate::kit::vec::FallibleVec;
-use crate::proved::ent_blocks::part::Part;
-use crate::proved::ent_alloc::{Entities, Reserved, Space, Span};
-use crate::proved::ent_handle::Handle;
+use crate::in_blocks::part::Part;
+use crate::allocator::{Entities, Reserved, Space, Span};
+use crate::handles::Handle;
 
 /// Uses the next handle of the block.
 #[inline]

@@ -1,6 +1,6 @@
 // Made of crates/ent_handle/src/decimal.rt by rust/erase. It isn't edited by hand.
 
-use crate::proved::ent_handle::text::TextFault;
+use crate::handles::text::ParseHandleError;
 
 #[inline]
 fn all_digits(bytes: &[u8]) -> bool
@@ -57,8 +57,8 @@ pub(super) fn decimal_value(bytes: &[u8]) -> Option<u32>
 /// // The decimal of each number below 2^32 is read as that number.
 /// ensures only { (n : ℕ) → n < 2 ^ 32 → bytes.now ≡ decimal n → result ≡ Ok n }
 ///
-/// ensures shape { IsErrOf result TextFault.Shape ↔ (¬ IsDecimal bytes.now) }
-/// ensures range { IsErrOf result TextFault.Range
+/// ensures shape { IsErrOf result ParseHandleError.Shape ↔ (¬ IsDecimal bytes.now) }
+/// ensures range { IsErrOf result ParseHandleError.Range
 ///     ↔ (IsDecimal bytes.now × (2 ^ 32 ≤ digits_value 10 bytes.now)) }
 ///
 /// // The whole result, as a function of the text.
@@ -67,9 +67,9 @@ pub(super) fn decimal_value(bytes: &[u8]) -> Option<u32>
 ///
 /// </details>
 #[inline]
-pub fn read_decimal(bytes: &[u8]) -> Result<u32, TextFault> {
+pub fn read_decimal(bytes: &[u8]) -> Result<u32, ParseHandleError> {
     if !is_decimal(bytes) {
-        return Err(TextFault::Shape);
+        return Err(ParseHandleError::Shape);
     }
-    decimal_value(bytes).ok_or(TextFault::Range)
+    decimal_value(bytes).ok_or(ParseHandleError::Range)
 }

@@ -18,27 +18,27 @@ use crate::kit::alloc::{AllocError, AllocFailed};
 /// assert_eq!(save(&Entities::new())?.len(), 40);
 /// # Ok::<(), Box<dyn std::error::Error>>(())
 /// ```
-#[derive(Clone, Copy, PartialEq, Eq, Hash)]
-pub struct Memory;
+#[derive(Clone, Copy, Debug, PartialEq, Eq, Hash)]
+pub struct OutOfMemory;
 
-impl core::fmt::Display for Memory {
+impl core::fmt::Display for OutOfMemory {
     fn fmt(&self, f: &mut core::fmt::Formatter<'_>) -> core::fmt::Result {
         write!(f, "out of memory")
     }
 }
 
-impl core::error::Error for Memory {}
+impl core::error::Error for OutOfMemory {}
 
-impl From<AllocError> for Memory {
+impl From<AllocError> for OutOfMemory {
     #[inline]
     fn from(_refused: AllocError) -> Self {
-        Memory
+        OutOfMemory
     }
 }
 
-impl<T> From<AllocFailed<T>> for Memory {
+impl<T> From<AllocFailed<T>> for OutOfMemory {
     #[inline]
     fn from(_refused: AllocFailed<T>) -> Self {
-        Memory
+        OutOfMemory
     }
 }

@@ -18,5 +18,5 @@ pub use component::ComponentId;
 pub use decimal::read_decimal;
 pub use handed_back::HandedBack;
 pub use handle::Handle;
-pub use memory::Memory;
-pub use text::{TextFault, split_once};
+pub use memory::OutOfMemory;
+pub use text::{ParseHandleError, split_once};

@@ -3,9 +3,9 @@
 use alloc::vec::Vec;
 use crate::kit::padded;
 use crate::kit::vec::FallibleVec;
-use crate::proved::ent_handle::decimal::{decimal_value, is_decimal};
-use crate::proved::ent_handle::handle::Handle;
-use crate::proved::ent_handle::memory::Memory;
+use crate::handles::decimal::{decimal_value, is_decimal};
+use crate::handles::handle::Handle;
+use crate::handles::memory::OutOfMemory;
 use crate::kit::itoa::Buffer;
 use core::fmt;
 
@@ -19,23 +19,23 @@ use core::fmt;
 /// assert_eq!("12v0".parse::<Handle>(), Err(ParseHandleError::Range));
 /// ```
 #[derive(Clone, Copy, Debug, PartialEq, Eq, Hash)]
-pub enum TextFault {
+pub enum ParseHandleError {
     /// It doesn't have the form, which is that of `0v1` for a handle.
     Shape,
     /// It has the form, and a number in it is out of range.
     Range,
 }
 
-impl core::fmt::Display for TextFault {
+impl core::fmt::Display for ParseHandleError {
     fn fmt(&self, f: &mut core::fmt::Formatter<'_>) -> core::fmt::Result {
         match self {
-            TextFault::Shape => write!(f, "not of the form of a handle, as 0v1"),
-            TextFault::Range => write!(f, "no handle has these numbers"),
+            ParseHandleError::Shape => write!(f, "not of the form of a handle, as 0v1"),
+            ParseHandleError::Range => write!(f, "no handle has these numbers"),
         }
     }
 }
 
-impl core::error::Error for TextFault {}
+impl core::error::Error for ParseHandleError {}
 
 /// The bytes before the first separator and the bytes after it, or `None` if there is no separator.
 ///
@@ -88,8 +88,8 @@ impl Handle {
     /// // The text of each handle is read as that handle.
     /// ensures only { (h : HandleValue) → IsHandle h → bytes.now ≡ handle_text h → result ≡ Ok h }
     ///
-    /// ensures shape { IsErrOf result TextFault.Shape ↔ (¬ HasHandleForm bytes.now) }
-    /// ensures range { IsErrOf result TextFault.Range ↔ (HasHandleForm bytes.now
+    /// ensures shape { IsErrOf result ParseHandleError.Shape ↔ (¬ HasHandleForm bytes.now) }
+    /// ensures range { IsErrOf result ParseHandleError.Range ↔ (HasHandleForm bytes.now
     ///     × ((h : HandleValue) → IsHandle h → bytes.now ≢ handle_text h)) }
     ///
     /// // The whole result, as a function of the text.
@@ -98,14 +98,14 @@ impl Handle {
     ///
     /// </details>
     #[inline]
-    pub fn read_text(bytes: &[u8]) -> Result<Self, TextFault> {
+    pub fn read_text(bytes: &[u8]) -> Result<Self, ParseHandleError> {
         let Some((index, generation)) = split_once(bytes, b'v') else {
-            return Err(TextFault::Shape);
+            return Err(ParseHandleError::Shape);
         };
         if !is_decimal(index) || !is_decimal(generation) {
-            return Err(TextFault::Shape);
+            return Err(ParseHandleError::Shape);
         }
-        Handle::of_decimals(index, generation).ok_or(TextFault::Range)
+        Handle::of_decimals(index, generation).ok_or(ParseHandleError::Range)
     }
 
     #[inline]
@@ -147,7 +147,7 @@ impl Handle {
     ///
     /// </details>
     #[inline]
-    pub fn write_text(&self, out: &mut Vec<u8>) -> Result<(), Memory> {
+    pub fn write_text(&self, out: &mut Vec<u8>) -> Result<(), OutOfMemory> {
         let mut index = Buffer::new();
         let index = index.format(self.index()).as_bytes();
         let mut generation = Buffer::new();

@@ -1,6 +1,6 @@
 // Made of crates/ent_log/src/begin_error.rt by rust/erase. It isn't edited by hand.
 
-use crate::proved::ent_handle::Handle;
+use crate::handles::Handle;
 
 /// Why a sync point of logs didn't begin. Nothing has changed.
 ///

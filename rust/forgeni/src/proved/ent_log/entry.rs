@@ -1,9 +1,9 @@
 // Made of crates/ent_log/src/entry.rt by rust/erase. It isn't edited by hand.
 
-use crate::proved::ent_alloc::Refused;
-use crate::proved::ent_handle::Handle;
+use crate::allocator::Refused;
+use crate::handles::Handle;
 
-/// What a [`Log`](crate::proved::ent_log::Log) keeps of one call, for the sync point to hand on.
+/// What a [`Log`](crate::logs::Log) keeps of one call, for the sync point to hand on.
 ///
 /// ```
 /// use forgeni::{Entities, Entry, Limits, Log};

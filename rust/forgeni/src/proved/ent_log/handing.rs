@@ -1,8 +1,8 @@
 // Made of crates/ent_log/src/handing.rt by rust/erase. It isn't edited by hand.
 
-use crate::proved::ent_log::entry::Entry;
-use crate::proved::ent_log::rest::Rest;
-use crate::proved::ent_alloc::Entities;
+use crate::logs::entry::Entry;
+use crate::logs::rest::Rest;
+use crate::allocator::Entities;
 
 /// Calls `run` at the entry in front, if there is one, and then at the rest in turn, until it fails.
 /// The entry that it handed back then is in front.

@@ -2,17 +2,17 @@
 
 use alloc::vec::Vec;
 use crate::kit::vec::FallibleVec;
-use crate::proved::ent_log::entry::Entry;
-use crate::proved::ent_log::reserves::Reserves;
-use crate::proved::ent_alloc::{Entities, ReserveError, Source, State};
-use crate::proved::ent_handle::{Handle, Memory};
+use crate::logs::entry::Entry;
+use crate::logs::reserves::Reserves;
+use crate::allocator::{Entities, ReserveError, Source, State};
+use crate::handles::{Handle, OutOfMemory};
 use core::fmt;
 use alloc::vec::IntoIter;
 
 /// The spawns and commands of one system, in the order of issue. `C` is the caller's type of
 /// commands.
 ///
-/// A [`SyncPoint`](crate::proved::ent_log::SyncPoint) brings to life what was spawned, and hands on the entries. A
+/// A [`SyncPoint`](crate::logs::SyncPoint) brings to life what was spawned, and hands on the entries. A
 /// log can go to another thread. If a worker runs several systems, each has a log.
 ///
 /// ```
@@ -328,7 +328,7 @@ impl<C> Log<C> {
     ///
     /// # Errors
     ///
-    /// [`OutOfMemory`](Memory) if there is no room for it. The log is as it was, and the command is
+    /// [`OutOfMemory`] if there is no room for it. The log is as it was, and the command is
     /// dropped.
     ///
     /// <details><summary>Contract</summary>
@@ -342,7 +342,7 @@ impl<C> Log<C> {
     ///
     /// </details>
     #[inline]
-    pub fn push(&mut self, command: C) -> Result<(), Memory> {
+    pub fn push(&mut self, command: C) -> Result<(), OutOfMemory> {
         self.entries.reserve_fallibly(1)?;
         self.entries.push_reserved(Entry::Command(command));
         Ok(())

@@ -1,9 +1,9 @@
 // Made of crates/ent_log/src/reserves.rt by rust/erase. It isn't edited by hand.
 
-use crate::proved::ent_alloc::{Entities, Refused};
-use crate::proved::ent_handle::Handle;
+use crate::allocator::{Entities, Refused};
+use crate::handles::Handle;
 
-/// Reserves handles for a [`Log`](crate::proved::ent_log::Log), one at a time.
+/// Reserves handles for a [`Log`](crate::logs::Log), one at a time.
 ///
 /// ```
 /// use forgeni::{Entities, Handle, Log, Refused, Reserver, Reserves};

@@ -1,8 +1,8 @@
 // Made of crates/ent_log/src/rest.rt by rust/erase. It isn't edited by hand.
 
 use alloc::vec::Vec;
-use crate::proved::ent_log::entry::Entry;
-use crate::proved::ent_log::log::Log;
+use crate::logs::entry::Entry;
+use crate::logs::log::Log;
 use alloc::vec::IntoIter;
 
 /// The entries of logs that are left: those of one log, and then all logs behind it.

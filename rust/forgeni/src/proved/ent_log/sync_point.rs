@@ -1,13 +1,13 @@
 // Made of crates/ent_log/src/sync_point.rt by rust/erase. It isn't edited by hand.
 
 use alloc::vec::Vec;
-use crate::proved::ent_log::begin_error::BeginError;
-use crate::proved::ent_log::entry::Entry;
-use crate::proved::ent_log::handing::hand_on;
-use crate::proved::ent_log::log::Log;
-use crate::proved::ent_log::rest::Rest;
-use crate::proved::ent_alloc::Entities;
-use crate::proved::ent_handle::{Handle, Memory};
+use crate::logs::begin_error::BeginError;
+use crate::logs::entry::Entry;
+use crate::logs::handing::hand_on;
+use crate::logs::log::Log;
+use crate::logs::rest::Rest;
+use crate::allocator::Entities;
+use crate::handles::{Handle, OutOfMemory};
 use core::mem;
 
 /// A sync point of logs: the entries that are still to be handed on.
@@ -140,7 +140,7 @@ impl<C> SyncPoint<C> {
         }
         match SyncPoint::begin_reserved(entities, logs, out) {
             Ok(point) => Ok(point),
-            Err(Memory) => Err(BeginError::Memory),
+            Err(OutOfMemory) => Err(BeginError::Memory),
         }
     }
 
@@ -149,13 +149,13 @@ impl<C> SyncPoint<C> {
     ///
     /// # Errors
     ///
-    /// [`OutOfMemory`](Memory) if there is no memory for what is born. Nothing has changed.
+    /// [`OutOfMemory`] if there is no memory for what is born. Nothing has changed.
     #[inline]
     pub(crate) fn begin_reserved(
         entities: &mut Entities,
         logs: &mut Vec<Log<C>>,
         out: &mut Vec<Handle>,
-    ) -> Result<Self, Memory>
+    ) -> Result<Self, OutOfMemory>
         // requires reserved { first_unreserved entities.old.allocator
         //     (spawned_in (entries_of logs.old.items)) ≡ None }
         // ensures entries { IfOk result (λ point. point ≡ entries_of logs.old.items) }

@@ -20,4 +20,4 @@
 /// assert_eq!(world.len(), 10);
 /// # Ok::<(), Box<dyn std::error::Error>>(())
 /// ```
-pub type Bundle = crate::proved::ent_storage::Bundle<4>;
+pub type Bundle = crate::components::InlineBundle<4>;

@@ -1,7 +1,7 @@
 // Made of crates/ent_queue/src/bundle_ref.rt by rust/erase. It isn't edited by hand.
 
-use crate::proved::ent_queue::reading::{read_u8, read_u16, read_u64};
-use crate::proved::ent_handle::ComponentId;
+use crate::commands::reading::{read_u8, read_u16, read_u64};
+use crate::handles::ComponentId;
 
 /// How many bytes an item has: its component's number, and its value.
 const ITEM: usize = 9;

@@ -1,10 +1,10 @@
 // Made of crates/ent_queue/src/commands.rt by rust/erase. It isn't edited by hand.
 
-use crate::proved::ent_queue::output::Output;
-use crate::proved::ent_queue::queue::CommandQueue;
-use crate::proved::ent_alloc::Source;
-use crate::proved::ent_handle::Handle;
-use crate::proved::ent_shared::Shared;
+use crate::commands::output::Output;
+use crate::commands::queue::IssuedCommands;
+use crate::allocator::Source;
+use crate::handles::Handle;
+use crate::reserving::SharedSource;
 
 /// What one system fills, with a reserver that is lent to it: the commands of a world, which take
 /// effect when their queue is applied (in a frame, at its sync point), or the entries of a log.
@@ -30,13 +30,13 @@ use crate::proved::ent_shared::Shared;
 /// assert!(report.born.iter().all(|one| world.get(*one, HEAT) == Some(899)));
 /// # Ok::<(), Box<dyn std::error::Error>>(())
 /// ```
-pub struct Commands<'a, O = CommandQueue, S: Source = Shared> {
+pub struct SystemCommands<'a, O = IssuedCommands, S: Source = SharedSource> {
     pub(super) reserver: &'a mut S::Reserver,
     pub(super) source: &'a S,
     pub(super) output: O,
 }
 
-impl<'a, O: Output, S: Source> Commands<'a, O, S> {
+impl<'a, O: Output, S: Source> SystemCommands<'a, O, S> {
     /// Begins with nothing. The reserver is one of the source's.
     #[inline]
     pub(crate) fn new(source: &'a S, reserver: &'a mut S::Reserver) -> Self
@@ -46,11 +46,11 @@ impl<'a, O: Output, S: Source> Commands<'a, O, S> {
         // ensures source { source_of result ≡ source.now }
         // ensures output { output_of result ≡ O.empty }
     {
-        Commands::resume(source, reserver, O::unfilled())
+        SystemCommands::resume(source, reserver, O::unfilled())
     }
 }
 
-impl<'a, O, S: Source> Commands<'a, O, S> {
+impl<'a, O, S: Source> SystemCommands<'a, O, S> {
     /// Goes on with what was begun before, whose entries stay in front. The reserver may be another
     /// one of the source than before.
     #[inline]
@@ -61,7 +61,7 @@ impl<'a, O, S: Source> Commands<'a, O, S> {
         // ensures source { source_of result ≡ source.now }
         // ensures output { output_of result ≡ output }
     {
-        Commands {
+        SystemCommands {
             reserver,
             source,
             output,
@@ -133,7 +133,7 @@ impl<'a, O, S: Source> Commands<'a, O, S> {
     }
 }
 
-impl<O, S: Source> Commands<'_, O, S> {
+impl<O, S: Source> SystemCommands<'_, O, S> {
     /// Returns what was filled, and gives the reserver back to its owner.
     ///
     /// <details><summary>Contract</summary>
@@ -148,7 +148,7 @@ impl<O, S: Source> Commands<'_, O, S> {
     /// </details>
     #[inline]
     pub fn finish(self) -> O {
-        let Commands {
+        let SystemCommands {
             reserver: _,
             source: _,
             output,

@@ -1,12 +1,12 @@
 // Made of crates/ent_queue/src/entries.rt by rust/erase. It isn't edited by hand.
 
-use crate::proved::ent_queue::bundle_ref::BundleRef;
-use crate::proved::ent_queue::entry::Entry;
-use crate::proved::ent_queue::handles_ref::HandlesRef;
-use crate::proved::ent_queue::kind::{DESPAWN, INSERT, REMOVE, SPAWN, SPAWN_MANY};
-use crate::proved::ent_queue::reading::{read_handle, read_u8, read_u32, read_u64};
-use crate::proved::ent_handle::ComponentId;
-use crate::proved::ent_shared::Refused;
+use crate::commands::bundle_ref::BundleRef;
+use crate::commands::entry::Entry;
+use crate::commands::handles_ref::HandlesRef;
+use crate::commands::kind::{DESPAWN, INSERT, REMOVE, SPAWN, SPAWN_MANY};
+use crate::commands::reading::{read_handle, read_u8, read_u32, read_u64};
+use crate::handles::ComponentId;
+use crate::reserving::Refused;
 
 /// Yields the commands of a queue, in the order of issue.
 pub struct Entries<'a> {

@@ -1,9 +1,9 @@
 // Made of crates/ent_queue/src/entry.rt by rust/erase. It isn't edited by hand.
 
-use crate::proved::ent_queue::bundle_ref::BundleRef;
-use crate::proved::ent_queue::handles_ref::HandlesRef;
-use crate::proved::ent_handle::{ComponentId, Handle};
-use crate::proved::ent_shared::Refused;
+use crate::commands::bundle_ref::BundleRef;
+use crate::commands::handles_ref::HandlesRef;
+use crate::handles::{ComponentId, Handle};
+use crate::reserving::Refused;
 
 /// One command of a queue, read in place.
 pub enum Entry<'a> {

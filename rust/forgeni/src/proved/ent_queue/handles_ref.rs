@@ -1,7 +1,7 @@
 // Made of crates/ent_queue/src/handles_ref.rt by rust/erase. It isn't edited by hand.
 
-use crate::proved::ent_queue::reading::read_handle;
-use crate::proved::ent_handle::Handle;
+use crate::commands::reading::read_handle;
+use crate::handles::Handle;
 
 /// How many bytes a handle has.
 const HANDLE: usize = 8;

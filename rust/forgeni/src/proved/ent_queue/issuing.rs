@@ -3,14 +3,14 @@
 //! The calls of a system that fills a queue.
 
 use alloc::vec::Vec;
-use crate::proved::ent_queue::bundle::Bundle as OwnBundle;
-use crate::proved::ent_queue::commands::Commands;
-use crate::proved::ent_queue::queue::CommandQueue;
-use crate::proved::ent_alloc::{ReserveError as QueueFault, Source};
-use crate::proved::ent_handle::{ComponentId, Handle, Memory};
-use crate::proved::ent_storage::Bundle;
+use crate::commands::bundle::Bundle as OwnBundle;
+use crate::commands::commands::SystemCommands;
+use crate::commands::queue::IssuedCommands;
+use crate::allocator::{ReserveError, Source};
+use crate::handles::{ComponentId, Handle, OutOfMemory};
+use crate::components::InlineBundle;
 
-impl<S: Source> Commands<'_, CommandQueue, S> {
+impl<S: Source> SystemCommands<'_, IssuedCommands, S> {
     /// Reserves a handle. Its entity gets the components when the queue is applied.
     ///
     /// ```
@@ -31,9 +31,9 @@ impl<S: Source> Commands<'_, CommandQueue, S> {
     ///
     /// # Errors
     ///
-    /// [`QueueFault::Memory`]: nothing has changed. With [`QueueFault::Space`] and
-    /// [`QueueFault::Quota`] the queue keeps the refusal, which is a fault of the sync point's
-    /// report, and [`QueueFault::or_memory`] lets the system go on.
+    /// [`ReserveError::Memory`]: nothing has changed. With [`ReserveError::Space`] and
+    /// [`ReserveError::Quota`] the queue keeps the refusal, which is a fault of the sync point's
+    /// report, and [`ReserveError::or_memory`] lets the system go on.
     ///
     /// <details><summary>Contract</summary>
     ///
@@ -46,7 +46,7 @@ impl<S: Source> Commands<'_, CommandQueue, S> {
     ///     output_of self.new ≡ output_of self.old ++ Spawn handle bundle.now ∷ []) }
     /// ensures refused { IfErr result (λ fault.
     ///     output_of self.new ≡ output_of self.old ++ refused_by 1 fault) }
-    /// ensures memory { IsErrOf result QueueFault.Memory
+    /// ensures memory { IsErrOf result ReserveError.Memory
     ///     → reserver_of self.new ≡ reserver_of self.old }
     ///
     /// // Anything but Memory is the result of a reservation.
@@ -59,8 +59,8 @@ impl<S: Source> Commands<'_, CommandQueue, S> {
     #[inline]
     pub fn spawn<const INLINE: usize>(
         &mut self,
-        bundle: &Bundle<INLINE>,
-    ) -> Result<Handle, QueueFault> {
+        bundle: &InlineBundle<INLINE>,
+    ) -> Result<Handle, ReserveError> {
         self.output
             .spawn(self.source, self.reserver, bundle.items())
     }
@@ -85,7 +85,7 @@ impl<S: Source> Commands<'_, CommandQueue, S> {
     ///
     /// # Errors
     ///
-    /// As of [`Commands::spawn`].
+    /// As of [`SystemCommands::spawn`].
     ///
     /// <details><summary>Contract</summary>
     ///
@@ -98,7 +98,7 @@ impl<S: Source> Commands<'_, CommandQueue, S> {
     ///     ≡ output_of self.old ++ Spawn handle (bundle_of components.now) ∷ []) }
     /// ensures refused { IfErr result (λ fault.
     ///     output_of self.new ≡ output_of self.old ++ refused_by 1 fault) }
-    /// ensures memory { IsErrOf result QueueFault.Memory
+    /// ensures memory { IsErrOf result ReserveError.Memory
     ///     → reserver_of self.new ≡ reserver_of self.old }
     ///
     /// // Anything but Memory is the result of a reservation.
@@ -109,9 +109,9 @@ impl<S: Source> Commands<'_, CommandQueue, S> {
     ///
     /// </details>
     #[inline]
-    pub fn spawn_with(&mut self, components: &[(ComponentId, i64)]) -> Result<Handle, QueueFault> {
+    pub fn spawn_with(&mut self, components: &[(ComponentId, i64)]) -> Result<Handle, ReserveError> {
         let Ok(bundle) = OwnBundle::of(components) else {
-            return Err(QueueFault::Memory);
+            return Err(ReserveError::Memory);
         };
         self.spawn(&bundle)
     }
@@ -136,7 +136,7 @@ impl<S: Source> Commands<'_, CommandQueue, S> {
     ///
     /// # Errors
     ///
-    /// As of [`Commands::spawn`].
+    /// As of [`SystemCommands::spawn`].
     ///
     /// <details><summary>Contract</summary>
     ///
@@ -150,7 +150,7 @@ impl<S: Source> Commands<'_, CommandQueue, S> {
     /// ensures length { IfOk result (λ handles. length handles.items ≡ n) }
     /// ensures refused { IfErr result (λ fault.
     ///     output_of self.new ≡ output_of self.old ++ refused_by n fault) }
-    /// ensures memory { IsErrOf result QueueFault.Memory
+    /// ensures memory { IsErrOf result ReserveError.Memory
     ///     → reserver_of self.new ≡ reserver_of self.old }
     ///
     /// // Anything but Memory is the result of a reservation.
@@ -165,8 +165,8 @@ impl<S: Source> Commands<'_, CommandQueue, S> {
     pub fn spawn_many<const INLINE: usize>(
         &mut self,
         n: u32,
-        bundle: &Bundle<INLINE>,
-    ) -> Result<Vec<Handle>, QueueFault> {
+        bundle: &InlineBundle<INLINE>,
+    ) -> Result<Vec<Handle>, ReserveError> {
         self.output
             .spawn_many(self.source, self.reserver, n, bundle.items())
     }
@@ -190,7 +190,7 @@ impl<S: Source> Commands<'_, CommandQueue, S> {
     ///
     /// # Errors
     ///
-    /// As of [`Commands::spawn_many`].
+    /// As of [`SystemCommands::spawn_many`].
     ///
     /// <details><summary>Contract</summary>
     ///
@@ -204,7 +204,7 @@ impl<S: Source> Commands<'_, CommandQueue, S> {
     /// ensures length { IfOk result (λ handles. length handles.items ≡ n) }
     /// ensures refused { IfErr result (λ fault.
     ///     output_of self.new ≡ output_of self.old ++ refused_by n fault) }
-    /// ensures memory { IsErrOf result QueueFault.Memory
+    /// ensures memory { IsErrOf result ReserveError.Memory
     ///     → reserver_of self.new ≡ reserver_of self.old }
     ///
     /// // Anything but Memory is the result of a reservation.
@@ -220,9 +220,9 @@ impl<S: Source> Commands<'_, CommandQueue, S> {
         &mut self,
         n: u32,
         components: &[(ComponentId, i64)],
-    ) -> Result<Vec<Handle>, QueueFault> {
+    ) -> Result<Vec<Handle>, ReserveError> {
         let Ok(bundle) = OwnBundle::of(components) else {
-            return Err(QueueFault::Memory);
+            return Err(ReserveError::Memory);
         };
         self.spawn_many(n, &bundle)
     }
@@ -264,9 +264,9 @@ impl<S: Source> Commands<'_, CommandQueue, S> {
     pub fn insert<const INLINE: usize>(
         &mut self,
         handle: Handle,
-        bundle: &Bundle<INLINE>,
-    ) -> Result<(), Memory> {
-        CommandQueue::insert(&mut self.output, handle, bundle.items())
+        bundle: &InlineBundle<INLINE>,
+    ) -> Result<(), OutOfMemory> {
+        IssuedCommands::insert(&mut self.output, handle, bundle.items())
     }
 
     /// Gives the entity these components, in place of those that it has under the same numbers.
@@ -312,7 +312,7 @@ impl<S: Source> Commands<'_, CommandQueue, S> {
         &mut self,
         handle: Handle,
         components: &[(ComponentId, i64)],
-    ) -> Result<(), Memory> {
+    ) -> Result<(), OutOfMemory> {
         let bundle = OwnBundle::of(components)?;
         self.insert(handle, &bundle)
     }
@@ -349,7 +349,7 @@ impl<S: Source> Commands<'_, CommandQueue, S> {
     ///
     /// </details>
     #[inline]
-    pub fn remove(&mut self, handle: Handle, id: ComponentId) -> Result<(), Memory> {
+    pub fn remove(&mut self, handle: Handle, id: ComponentId) -> Result<(), OutOfMemory> {
         self.output.remove(handle, id)
     }
 
@@ -391,7 +391,7 @@ impl<S: Source> Commands<'_, CommandQueue, S> {
     ///
     /// </details>
     #[inline]
-    pub fn despawn(&mut self, handle: Handle) -> Result<(), Memory> {
+    pub fn despawn(&mut self, handle: Handle) -> Result<(), OutOfMemory> {
         self.output.despawn(handle)
     }
 }

@@ -1,10 +1,10 @@
 // Made of crates/ent_queue/src/leaving.rt by rust/erase. It isn't edited by hand.
 
 //! What a system whose handles come from a block may ask.
-use crate::proved::ent_queue::commands::Commands;
-use crate::proved::ent_blocks::Blocks;
+use crate::commands::commands::SystemCommands;
+use crate::in_blocks::Blocks;
 
-impl<O> Commands<'_, O, Blocks> {
+impl<O> SystemCommands<'_, O, Blocks> {
     /// How many handles of the block are left.
     ///
     /// ```

@@ -2,13 +2,13 @@
 
 //! The calls of a system that fills a log.
 
-use crate::proved::ent_queue::commands::Commands;
-use crate::proved::ent_alloc::{ReserveError, Source};
-use crate::proved::ent_handle::{Handle, Memory};
-use crate::proved::ent_log::{Entry, Log};
+use crate::commands::commands::SystemCommands;
+use crate::allocator::{ReserveError, Source};
+use crate::handles::{Handle, OutOfMemory};
+use crate::logs::{Entry, Log};
 use core::fmt;
 
-impl<C, S: Source> Commands<'_, Log<C>, S> {
+impl<C, S: Source> SystemCommands<'_, Log<C>, S> {
     /// The entries so far, in the order of issue.
     ///
     /// ```
@@ -97,7 +97,7 @@ impl<C, S: Source> Commands<'_, Log<C>, S> {
     }
 }
 
-impl<C, S: Source> Commands<'_, Log<C>, S> {
+impl<C, S: Source> SystemCommands<'_, Log<C>, S> {
     /// Adds a command, which the sync point hands on in its turn.
     ///
     /// ```
@@ -113,7 +113,7 @@ impl<C, S: Source> Commands<'_, Log<C>, S> {
     ///
     /// # Errors
     ///
-    /// [`OutOfMemory`](Memory) if there is no room for it. The log is as it was, and the command is
+    /// [`OutOfMemory`] if there is no room for it. The log is as it was, and the command is
     /// dropped.
     ///
     /// <details><summary>Contract</summary>
@@ -130,13 +130,13 @@ impl<C, S: Source> Commands<'_, Log<C>, S> {
     ///
     /// </details>
     #[inline]
-    pub fn push(&mut self, command: C) -> Result<(), Memory> {
+    pub fn push(&mut self, command: C) -> Result<(), OutOfMemory> {
         Log::push(&mut self.output, command)
     }
 }
 
 /// The log so far.
-impl<C: fmt::Debug, S: Source> fmt::Debug for Commands<'_, Log<C>, S> {
+impl<C: fmt::Debug, S: Source> fmt::Debug for SystemCommands<'_, Log<C>, S> {
     #[inline]
     fn fmt(&self, f: &mut fmt::Formatter<'_>) -> fmt::Result {
         let log = &self.output;

@@ -19,10 +19,10 @@ mod writing;
 
 pub use bundle::Bundle;
 pub use bundle_ref::{BundleItems, BundleRef};
-pub use commands::Commands;
-pub use crate::proved::ent_alloc::ReserveError as QueueFault;
+pub use commands::SystemCommands;
+pub use crate::allocator::ReserveError;
 pub use entries::Entries;
 pub use entry::Entry;
 pub use handles_ref::{Handles, HandlesRef};
 pub use output::Output;
-pub use queue::CommandQueue;
+pub use queue::IssuedCommands;

@@ -1,9 +1,9 @@
 // Made of crates/ent_queue/src/output.rt by rust/erase. It isn't edited by hand.
 
-use crate::proved::ent_queue::queue::CommandQueue;
-use crate::proved::ent_log::Log;
+use crate::commands::queue::IssuedCommands;
+use crate::logs::Log;
 
-/// What a system fills: a [`CommandQueue`] of a world, or a [`Log`] of the caller's own commands.
+/// What a system fills: a [`IssuedCommands`] of a world, or a [`Log`] of the caller's own commands.
 pub trait Output {
     /// One without entries. It takes no memory.
     ///
@@ -19,10 +19,10 @@ pub trait Output {
     fn unfilled() -> Self;
 }
 
-impl Output for CommandQueue {
+impl Output for IssuedCommands {
     #[inline]
     fn unfilled() -> Self {
-        CommandQueue::new()
+        IssuedCommands::new()
     }
 }
 

@@ -2,32 +2,32 @@
 
 use alloc::vec::Vec;
 use crate::kit::vec::FallibleVec;
-use crate::proved::ent_queue::entries::Entries;
-use crate::proved::ent_queue::kind::{INSERT, SPAWN};
-use crate::proved::ent_queue::writing::{
+use crate::commands::entries::Entries;
+use crate::commands::kind::{INSERT, SPAWN};
+use crate::commands::writing::{
     write_bundle, write_despawn, write_many, write_refused, write_remove, write_with_bundle,
 };
-use crate::proved::ent_alloc::{ReserveError as QueueFault, Source};
-use crate::proved::ent_handle::{ComponentId, Handle, Memory};
+use crate::allocator::{ReserveError, Source};
+use crate::handles::{ComponentId, Handle, OutOfMemory};
 
 /// How many bytes a refusal has.
 const REFUSAL: usize = 14;
 
 /// Commands in the order of issue, packed as bytes.
 ///
-/// Only [`Commands`](crate::proved::ent_queue::Commands) makes one.
+/// Only [`SystemCommands`](crate::commands::SystemCommands) makes one.
 #[derive(Debug)]
-pub struct CommandQueue {
+pub struct IssuedCommands {
     bytes: Vec<u8>,
     count: usize,
 }
 
-impl CommandQueue {
+impl IssuedCommands {
     #[inline]
     pub(super) fn new() -> Self
         // ensures { result ≡ [] }
     {
-        CommandQueue {
+        IssuedCommands {
             bytes: Vec::new(),
             count: 0,
         }
@@ -66,22 +66,14 @@ impl CommandQueue {
     }
 
     /// The commands, in the order of issue. They are read in place.
-    ///
-    /// <details><summary>Contract</summary>
-    ///
-    /// In the words of the folder `specs/` of crate `ent_queue`:
-    ///
-    /// ```text
-    /// ensures entries { result ≡ self.now }
-    ///
-    /// // Each command is in its ranges. A refusal for lack of slots says twice how many handles
-    /// // were wanted, and the two numbers are equal.
-    /// ensures each { All IsCommand self.now }
-    /// ```
-    ///
-    /// </details>
     #[inline]
-    pub fn entries(&self) -> Entries<'_> {
+    pub(crate) fn entries(&self) -> Entries<'_>
+        // ensures entries { result ≡ self.now }
+
+        // Each command is in its ranges. A refusal for lack of slots says twice how many handles
+        // were wanted, and the two numbers are equal.
+        // ensures each { All IsCommand self.now }
+    {
         Entries::new(self.count, &self.bytes)
     }
 
@@ -99,18 +91,10 @@ impl CommandQueue {
     /// | 3, a removal | handle, component in 1 byte |
     /// | 4, a despawn | handle |
     /// | 5, a refusal | wanted in 4 bytes; 1 for `Space`, 2 for `Quota`; what was left in 8 bytes |
-    ///
-    /// <details><summary>Contract</summary>
-    ///
-    /// In the words of the folder `specs/` of crate `ent_queue`:
-    ///
-    /// ```text
-    /// ensures { result.now ≡ queue_bytes self.now }
-    /// ```
-    ///
-    /// </details>
     #[inline]
-    pub fn bytes(&self) -> &[u8] {
+    pub(crate) fn bytes(&self) -> &[u8]
+        // ensures { result.now ≡ queue_bytes self.now }
+    {
         &self.bytes
     }
 
@@ -121,13 +105,13 @@ impl CommandQueue {
         source: &S,
         reserver: &mut S::Reserver,
         items: &[(ComponentId, i64)],
-    ) -> Result<Handle, QueueFault>
+    ) -> Result<Handle, ReserveError>
         // requires of { S.serves source.now reserver.old }
         // requires is { IsBundle items.now }
         // ensures stays { S.serves source.now reserver.new }
         // ensures ok { IfOk result (λ handle. self.new ≡ self.old ++ Spawn handle items.now ∷ []) }
         // ensures refused { IfErr result (λ fault. self.new ≡ self.old ++ refused_by 1 fault) }
-        // ensures memory { IsErrOf result QueueFault.Memory → reserver.new ≡ reserver.old }
+        // ensures memory { IsErrOf result ReserveError.Memory → reserver.new ≡ reserver.old }
         // ensures replies { (reply : Result HandleValue Refusal) → result ≡ queued reply
         //     → S.may_reply source.now reserver.old reserver.new 1 (listed_alone reply) }
     {
@@ -142,7 +126,7 @@ impl CommandQueue {
             Err(why) => {
                 write_refused(&mut self.bytes, 1, why);
                 self.count += 1;
-                Err(QueueFault::from(why))
+                Err(ReserveError::from(why))
             }
         }
     }
@@ -155,7 +139,7 @@ impl CommandQueue {
         reserver: &mut S::Reserver,
         n: u32,
         items: &[(ComponentId, i64)],
-    ) -> Result<Vec<Handle>, QueueFault>
+    ) -> Result<Vec<Handle>, ReserveError>
         // requires of { S.serves source.now reserver.old }
         // requires is { IsBundle items.now }
         // ensures stays { S.serves source.now reserver.new }
@@ -163,7 +147,7 @@ impl CommandQueue {
         //     (λ handles. self.new ≡ self.old ++ SpawnMany handles.items items.now ∷ []) }
         // ensures length { IfOk result (λ handles. length handles.items ≡ n) }
         // ensures refused { IfErr result (λ fault. self.new ≡ self.old ++ refused_by n fault) }
-        // ensures memory { IsErrOf result QueueFault.Memory → reserver.new ≡ reserver.old }
+        // ensures memory { IsErrOf result ReserveError.Memory → reserver.new ≡ reserver.old }
         // ensures replies { (reply : Result (List HandleValue) Refusal)
         //     → as_list result ≡ queued reply
         //     → S.may_reply source.now reserver.old reserver.new n reply }
@@ -181,7 +165,7 @@ impl CommandQueue {
             Err(why) => {
                 write_refused(&mut self.bytes, n, why);
                 self.count += 1;
-                Err(QueueFault::from(why))
+                Err(ReserveError::from(why))
             }
         }
     }
@@ -191,7 +175,7 @@ impl CommandQueue {
         &mut self,
         handle: Handle,
         items: &[(ComponentId, i64)],
-    ) -> Result<(), Memory>
+    ) -> Result<(), OutOfMemory>
         // requires { IsBundle items.now }
         // ensures ok { OnOk result (self.new ≡ self.old ++ Insert handle items.now ∷ []) }
         // ensures err { OnErr result (self.new ≡ self.old) }
@@ -203,7 +187,7 @@ impl CommandQueue {
     }
 
     #[inline]
-    pub(super) fn remove(&mut self, handle: Handle, id: ComponentId) -> Result<(), Memory>
+    pub(super) fn remove(&mut self, handle: Handle, id: ComponentId) -> Result<(), OutOfMemory>
         // ensures ok { OnOk result (self.new ≡ self.old ++ Remove handle id ∷ []) }
         // ensures err { OnErr result (self.new ≡ self.old) }
     {
@@ -214,7 +198,7 @@ impl CommandQueue {
     }
 
     #[inline]
-    pub(super) fn despawn(&mut self, handle: Handle) -> Result<(), Memory>
+    pub(super) fn despawn(&mut self, handle: Handle) -> Result<(), OutOfMemory>
         // ensures ok { OnOk result (self.new ≡ self.old ++ Despawn handle ∷ []) }
         // ensures err { OnErr result (self.new ≡ self.old) }
     {

@@ -2,7 +2,7 @@
 
 //! Numbers, handles and lists at the front of packed bytes, each with the bytes after it.
 
-use crate::proved::ent_handle::Handle;
+use crate::handles::Handle;
 
 #[inline]
 pub(super) fn read_u8(bytes: &[u8]) -> (u8, &[u8])

@@ -4,10 +4,10 @@
 
 use alloc::vec::Vec;
 use crate::kit::vec::FallibleVec;
-use crate::proved::ent_queue::kind::{DESPAWN, REFUSED, REMOVE, SPAWN_MANY};
-use crate::proved::ent_alloc::Reserved;
-use crate::proved::ent_handle::{ComponentId, Handle};
-use crate::proved::ent_shared::Refused;
+use crate::commands::kind::{DESPAWN, REFUSED, REMOVE, SPAWN_MANY};
+use crate::allocator::Reserved;
+use crate::handles::{ComponentId, Handle};
+use crate::reserving::Refused;
 
 #[inline]
 pub(super) fn write_u8(bytes: &mut Vec<u8>, number: u8)

@@ -1,6 +1,6 @@
 // Made of crates/ent_replay/src/by_caller.rt by rust/erase. It isn't edited by hand.
 
-use crate::proved::ent_handle::Memory;
+use crate::handles::OutOfMemory;
 use crate::kit::collections::BTreeMap;
 
 /// A value for each of some callers.
@@ -76,7 +76,7 @@ impl<V: Copy> ByCaller<V> {
     ///
     /// </details>
     #[inline]
-    pub fn insert(&mut self, caller: u32, value: V) -> Result<(), Memory> {
+    pub fn insert(&mut self, caller: u32, value: V) -> Result<(), OutOfMemory> {
         self.values.insert(caller, value)?;
         Ok(())
     }

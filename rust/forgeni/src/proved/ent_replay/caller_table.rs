@@ -2,7 +2,7 @@
 
 use alloc::vec::Vec;
 use crate::kit::vec::FallibleVec;
-use crate::proved::ent_handle::Memory;
+use crate::handles::OutOfMemory;
 
 /// A value for each of some callers, whose numbers are small.
 ///
@@ -53,7 +53,7 @@ impl<V: Copy> CallerTable<V> {
     ///
     /// Nothing changes if memory runs out.
     #[inline]
-    pub(super) fn insert(&mut self, caller: u32, value: V) -> Result<(), Memory>
+    pub(super) fn insert(&mut self, caller: u32, value: V) -> Result<(), OutOfMemory>
         // ensures ok { OnOk result (self.new ≡ map.insert self.old caller value) }
         // ensures err { OnErr result (self.new ≡ self.old) }
     {
@@ -93,7 +93,7 @@ impl<V: Copy> CallerTable<V> {
 
 /// Gives the caller a place in the table, if it has none.
 #[inline]
-fn lay_out<V: Copy>(table: &mut Vec<Option<V>>, caller: u32) -> Result<(), Memory>
+fn lay_out<V: Copy>(table: &mut Vec<Option<V>>, caller: u32) -> Result<(), OutOfMemory>
     // ensures place { OnOk result (caller < vec_len table.new) }
     // ensures values { by_place table.new.items ≡ by_place table.old.items }
     // ensures count { values_in table.new.items ≡ values_in table.old.items }

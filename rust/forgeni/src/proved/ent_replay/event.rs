@@ -1,6 +1,6 @@
 // Made of crates/ent_replay/src/event.rt by rust/erase. It isn't edited by hand.
 
-use crate::proved::ent_handle::Handle;
+use crate::handles::Handle;
 
 /// One event of a schedule.
 ///

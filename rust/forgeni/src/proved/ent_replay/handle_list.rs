@@ -2,7 +2,7 @@
 
 use alloc::vec::Vec;
 use crate::kit::vec::FallibleVec;
-use crate::proved::ent_handle::{Handle, Memory};
+use crate::handles::{Handle, OutOfMemory};
 use core::fmt;
 
 /// The handles of an answer, in their order.
@@ -108,7 +108,7 @@ impl HandleList {
 
     /// A copy.
     #[inline]
-    pub(super) fn try_copy(&self) -> Result<HandleList, Memory>
+    pub(super) fn try_copy(&self) -> Result<HandleList, OutOfMemory>
         // ensures { IfOk result (λ copy. copy ≡ self.now) }
     {
         let mut handles = Vec::new();

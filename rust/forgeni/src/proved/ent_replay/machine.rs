@@ -3,14 +3,14 @@
 use alloc::vec::Vec;
 use crate::kit::prove_eq;
 use crate::kit::vec::FallibleVec;
-use crate::proved::ent_replay::caller_table::CallerTable;
-use crate::proved::ent_replay::event::Event;
-use crate::proved::ent_replay::fault::ReplayFault;
-use crate::proved::ent_replay::handle_list::HandleList;
-use crate::proved::ent_replay::outcome::Outcome;
-use crate::proved::ent_replay::stored_call::StoredCall;
-use crate::proved::ent_alloc::{AllocFault, Entities, FreeFault, Limits, QUOTA, Reserved};
-use crate::proved::ent_handle::{Handle, Memory};
+use crate::traces::caller_table::CallerTable;
+use crate::traces::event::Event;
+use crate::traces::fault::ReplayFault;
+use crate::traces::handle_list::HandleList;
+use crate::traces::outcome::Outcome;
+use crate::traces::stored_call::StoredCall;
+use crate::allocator::{AllocError, Entities, FreeError, Limits, QUOTA, Reserved};
+use crate::handles::{Handle, OutOfMemory};
 
 /// How many callers there are. They are numbered from 0.
 const CALLERS: u32 = 1024;
@@ -51,7 +51,7 @@ impl Machine {
     ///
     /// </details>
     #[inline]
-    pub fn new(limits: Limits) -> Result<Self, Memory> {
+    pub fn new(limits: Limits) -> Result<Self, OutOfMemory> {
         let entities = Entities::with_exact_limits(limits);
         prove_eq!(entities.cursor(), 0);
         Ok(Machine {
@@ -152,9 +152,9 @@ impl Machine {
         }
         match self.entities.alloc() {
             Ok(handle) => Ok(Outcome::Handle(handle)),
-            Err(AllocFault::NeedsFlush) => Ok(Outcome::NeedsFlush),
-            Err(AllocFault::Space) => Ok(Outcome::Space { wanted: 1, left: 0 }),
-            Err(AllocFault::Memory) => Err(ReplayFault::Memory),
+            Err(AllocError::NeedsFlush) => Ok(Outcome::NeedsFlush),
+            Err(AllocError::Space) => Ok(Outcome::Space { wanted: 1, left: 0 }),
+            Err(AllocError::Memory) => Err(ReplayFault::Memory),
         }
     }
 
@@ -170,9 +170,9 @@ impl Machine {
                 handle,
                 next: freed.next,
             }),
-            Err(FreeFault::NeedsFlush) => Ok(Outcome::NeedsFlush),
-            Err(FreeFault::NotAlive) => Ok(Outcome::NotAlive),
-            Err(FreeFault::Memory) => Err(ReplayFault::Memory),
+            Err(FreeError::NeedsFlush) => Ok(Outcome::NeedsFlush),
+            Err(FreeError::NotAlive) => Ok(Outcome::NotAlive),
+            Err(FreeError::Memory) => Err(ReplayFault::Memory),
         }
     }
 
@@ -283,7 +283,7 @@ fn is_out_of_memory(outcome: &Result<Outcome, ReplayFault>) -> bool
 
 /// Lists the handles of a reply. A list that doesn't fit is refused before a handle is listed.
 #[inline]
-fn listed(reserved: Reserved<'_>) -> Result<HandleList, Memory>
+fn listed(reserved: Reserved<'_>) -> Result<HandleList, OutOfMemory>
     // ensures ok { IfOk result (λ handles. handles ≡ reserved.entry) }
     // ensures memory { OnErr result (0 < length reserved.entry) }
 {

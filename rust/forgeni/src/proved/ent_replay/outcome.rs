@@ -1,7 +1,7 @@
 // Made of crates/ent_replay/src/outcome.rt by rust/erase. It isn't edited by hand.
 
-use crate::proved::ent_replay::handle_list::HandleList;
-use crate::proved::ent_handle::Handle;
+use crate::traces::handle_list::HandleList;
+use crate::handles::Handle;
 
 /// What an event that was applied gave.
 #[derive(Debug, PartialEq, Eq)]

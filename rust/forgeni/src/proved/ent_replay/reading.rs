@@ -2,9 +2,9 @@
 
 use alloc::vec::Vec;
 use crate::kit::vec::FallibleVec;
-use crate::proved::ent_replay::event::Event;
-use crate::proved::ent_replay::read_fault::{Cause, ReadFault};
-use crate::proved::ent_handle::{Handle, read_decimal, split_once};
+use crate::traces::event::Event;
+use crate::traces::read_fault::{Cause, ReadFault};
+use crate::handles::{Handle, read_decimal, split_once};
 
 /// The first line of a text, and the text after its line feed.
 #[inline]

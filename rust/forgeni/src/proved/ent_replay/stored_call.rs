@@ -1,6 +1,6 @@
 // Made of crates/ent_replay/src/stored_call.rt by rust/erase. It isn't edited by hand.
 
-use crate::proved::ent_alloc::Span;
+use crate::allocator::Span;
 
 /// What the machine stores of an open call.
 ///

@@ -2,14 +2,14 @@
 
 use alloc::vec::Vec;
 use crate::kit::vec::FallibleVec;
-use crate::proved::ent_replay::fault::ReplayFault;
-use crate::proved::ent_replay::handle_list::HandleList;
-use crate::proved::ent_replay::outcome::Outcome;
-use crate::proved::ent_handle::{Handle, Memory};
+use crate::traces::fault::ReplayFault;
+use crate::traces::handle_list::HandleList;
+use crate::traces::outcome::Outcome;
+use crate::handles::{Handle, OutOfMemory};
 use crate::kit::itoa::{Buffer, Integer};
 
 #[inline]
-fn append(out: &mut Vec<u8>, text: &[u8]) -> Result<(), Memory>
+fn append(out: &mut Vec<u8>, text: &[u8]) -> Result<(), OutOfMemory>
     // ensures ok { OnOk result (out.new.items ≡ out.old.items ++ text.now) }
     // ensures err { OnErr result (out.new.items ≡ out.old.items) }
     // ensures full { OnErr result (vec_capacity out.old < vec_len out.old + length text.now) }
@@ -19,7 +19,7 @@ fn append(out: &mut Vec<u8>, text: &[u8]) -> Result<(), Memory>
 }
 
 #[inline]
-fn append_number<N: Integer>(out: &mut Vec<u8>, number: N) -> Result<(), Memory>
+fn append_number<N: Integer>(out: &mut Vec<u8>, number: N) -> Result<(), OutOfMemory>
     // ensures ok { OnOk result (out.new.items ≡ out.old.items ++ N.text number) }
     // ensures err { OnErr result (out.new.items ≡ out.old.items) }
     // ensures full { OnErr result (vec_capacity out.old < vec_len out.old + length (N.text number)) }
@@ -69,7 +69,7 @@ fn list_len(outcome: &Outcome) -> usize
 
 /// Appends a space before each handle.
 #[inline]
-fn append_spaced(out: &mut Vec<u8>, handles: &[Handle]) -> Result<(), Memory>
+fn append_spaced(out: &mut Vec<u8>, handles: &[Handle]) -> Result<(), OutOfMemory>
     // ensures ok { OnOk result (out.new.items ≡ out.old.items ++ spaced handles.now) }
     // ensures kept { OnErr result (take (vec_len out.old) out.new.items ≡ out.old.items) }
     // ensures full { OnErr result (vec_capacity out.old
@@ -84,7 +84,7 @@ fn append_spaced(out: &mut Vec<u8>, handles: &[Handle]) -> Result<(), Memory>
 }
 
 #[inline]
-fn write_handles(out: &mut Vec<u8>, handles: &HandleList) -> Result<(), Memory>
+fn write_handles(out: &mut Vec<u8>, handles: &HandleList) -> Result<(), OutOfMemory>
     // ensures ok { OnOk result (out.new.items ≡ out.old.items ++ handles_text handles.now) }
     // ensures kept { OnErr result (take (vec_len out.old) out.new.items ≡ out.old.items) }
     // ensures full { OnErr result (vec_capacity out.old
@@ -99,7 +99,7 @@ fn write_handles(out: &mut Vec<u8>, handles: &HandleList) -> Result<(), Memory>
 }
 
 #[inline]
-fn write_born(out: &mut Vec<u8>, handles: &HandleList) -> Result<(), Memory>
+fn write_born(out: &mut Vec<u8>, handles: &HandleList) -> Result<(), OutOfMemory>
     // ensures ok { OnOk result (out.new.items ≡ out.old.items ++ born_text handles.now) }
     // ensures kept { OnErr result (take (vec_len out.old) out.new.items ≡ out.old.items) }
     // ensures full { OnErr result (vec_capacity out.old
@@ -111,7 +111,7 @@ fn write_born(out: &mut Vec<u8>, handles: &HandleList) -> Result<(), Memory>
 }
 
 #[inline]
-fn write_freed(out: &mut Vec<u8>, handle: Handle, next: Option<Handle>) -> Result<(), Memory>
+fn write_freed(out: &mut Vec<u8>, handle: Handle, next: Option<Handle>) -> Result<(), OutOfMemory>
     // ensures ok { OnOk result (out.new.items ≡ out.old.items ++ freed_text handle next) }
     // ensures kept { OnErr result (take (vec_len out.old) out.new.items ≡ out.old.items) }
     // ensures full { OnErr result (vec_capacity out.old
@@ -128,7 +128,7 @@ fn write_freed(out: &mut Vec<u8>, handle: Handle, next: Option<Handle>) -> Resul
 }
 
 #[inline]
-fn write_space(out: &mut Vec<u8>, wanted: u32, left: u32) -> Result<(), Memory>
+fn write_space(out: &mut Vec<u8>, wanted: u32, left: u32) -> Result<(), OutOfMemory>
     // ensures ok { OnOk result (out.new.items ≡ out.old.items ++ space_text wanted left) }
     // ensures kept { OnErr result (take (vec_len out.old) out.new.items ≡ out.old.items) }
     // ensures full { OnErr result (vec_capacity out.old
@@ -142,7 +142,7 @@ fn write_space(out: &mut Vec<u8>, wanted: u32, left: u32) -> Result<(), Memory>
 }
 
 #[inline(always)]
-fn write_text(outcome: &Outcome, out: &mut Vec<u8>) -> Result<(), Memory>
+fn write_text(outcome: &Outcome, out: &mut Vec<u8>) -> Result<(), OutOfMemory>
     // ensures ok { OnOk result (out.new.items ≡ out.old.items ++ outcome_text outcome.now) }
     // ensures kept { OnErr result (take (vec_len out.old) out.new.items ≡ out.old.items) }
     // ensures full { OnErr result (vec_capacity out.old
@@ -166,7 +166,7 @@ fn write_text(outcome: &Outcome, out: &mut Vec<u8>) -> Result<(), Memory>
 }
 
 #[inline]
-fn write_fault(fault: ReplayFault, out: &mut Vec<u8>) -> Result<(), Memory>
+fn write_fault(fault: ReplayFault, out: &mut Vec<u8>) -> Result<(), OutOfMemory>
     // requires { fault ≢ ReplayFault.Memory }
     // ensures ok { OnOk result (out.new.items ≡ out.old.items ++ replay_fault_text fault) }
     // ensures kept { OnErr result (take (vec_len out.old) out.new.items ≡ out.old.items) }
@@ -190,7 +190,7 @@ fn write_fault(fault: ReplayFault, out: &mut Vec<u8>) -> Result<(), Memory>
 }
 
 #[inline(always)]
-fn write_line(outcome: &Result<Outcome, ReplayFault>, out: &mut Vec<u8>) -> Result<(), Memory>
+fn write_line(outcome: &Result<Outcome, ReplayFault>, out: &mut Vec<u8>) -> Result<(), OutOfMemory>
     // requires { outcome.now ≢ Err ReplayFault.Memory }
     // ensures ok { OnOk result (out.new.items ≡ out.old.items ++ line_of outcome.now) }
     // ensures kept { OnErr result (take (vec_len out.old) out.new.items ≡ out.old.items) }
@@ -221,7 +221,7 @@ fn write_line(outcome: &Result<Outcome, ReplayFault>, out: &mut Vec<u8>) -> Resu
 pub(crate) fn write_outcome(
     outcome: &Result<Outcome, ReplayFault>,
     out: &mut Vec<u8>,
-) -> Result<(), Memory>
+) -> Result<(), OutOfMemory>
     // requires { outcome.now ≢ Err ReplayFault.Memory }
     // ensures ok { OnOk result (out.new.items ≡ out.old.items ++ line_of outcome.now) }
     // ensures err { OnErr result (out.new.items ≡ out.old.items) }

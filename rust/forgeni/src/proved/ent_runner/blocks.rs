@@ -10,7 +10,7 @@ mod run_error;
 mod running;
 mod splitting;
 
-pub use crate::proved::ent_runner::blocks::filling::fill_in_blocks;
-pub use crate::proved::ent_runner::blocks::frame::{Unframed, run_frame_in_blocks};
-pub use crate::proved::ent_runner::blocks::run_error::RunError;
-pub use crate::proved::ent_runner::blocks::running::run_in_blocks;
+pub use crate::running::blocks::filling::fill_in_blocks;
+pub use crate::running::blocks::frame::{Unframed, run_frame_in_blocks};
+pub use crate::running::blocks::run_error::RunError;
+pub use crate::running::blocks::running::run_in_blocks;

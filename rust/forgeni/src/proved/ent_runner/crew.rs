@@ -13,15 +13,15 @@ mod worker;
 
 use alloc::vec::Vec;
 use crate::kit::vec::FallibleVec;
-pub use crate::proved::ent_runner::crew::claimer::Claimer;
-pub use crate::proved::ent_runner::crew::claims::Claims;
-use crate::proved::ent_runner::crew::collecting::{collect, put_all};
-pub use crate::proved::ent_runner::crew::jobs::Jobs;
-pub use crate::proved::ent_runner::crew::record::ClaimRecord;
-use crate::proved::ent_runner::crew::worker::{Site, Worker, run_all};
-use crate::proved::ent_handle::Memory;
+pub use crate::running::crew::claimer::Claimer;
+pub use crate::running::crew::claims::Claims;
+use crate::running::crew::collecting::{collect, put_all};
+pub use crate::running::crew::jobs::Jobs;
+pub use crate::running::crew::record::ClaimRecord;
+use crate::running::crew::worker::{Site, Worker, run_all};
+use crate::handles::OutOfMemory;
 use crate::kit::alloc::AllocError;
-use crate::kit::thread::Threads;
+use crate::kit::thread::Join;
 
 /// Workers that do jobs side by side, and the room that they need for it.
 ///
@@ -44,9 +44,9 @@ impl<O> Crew<O> {
     ///
     /// # Errors
     ///
-    /// [`Memory`] if there is no memory for them.
+    /// [`OutOfMemory`] if there is no memory for them.
     #[inline]
-    pub(crate) fn new(jobs: usize, workers: usize) -> Result<Self, Memory>
+    pub(crate) fn new(jobs: usize, workers: usize) -> Result<Self, OutOfMemory>
         // requires jobs { jobs ≤ 2 ^ 16 }
         // requires some { 0 < workers }
         // requires few { workers ≤ 64 }
@@ -78,7 +78,7 @@ impl<O> Crew<O> {
     #[inline]
     pub(crate) fn work<R, L, J>(self, rt: &R, lent: &mut [L], jobs: &J) -> Result<Vec<O>, Vec<Option<O>>>
     where
-        R: Threads + Sync,
+        R: Join + Sync,
         O: Send,
         L: Send,
         J: Jobs<O, L> + Sync,

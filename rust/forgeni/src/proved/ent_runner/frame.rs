@@ -9,17 +9,17 @@ mod side;
 pub(super) mod system;
 
 use alloc::vec::Vec;
-use crate::proved::ent_runner::crew::Crew;
-use crate::proved::ent_runner::frame::gate::Gate;
-use crate::proved::ent_runner::frame::report::{FrameFault, FrameReport};
-use crate::proved::ent_runner::frame::system::System;
-use crate::proved::ent_runner::stage::SharedStage;
-use crate::proved::ent_runner::systems::Issuers;
-use crate::proved::ent_alloc::Limits;
-use crate::proved::ent_shared::Shared;
-use crate::proved::ent_world::{SyncFault, World};
+use crate::running::crew::Crew;
+use crate::running::frame::gate::Gate;
+use crate::running::frame::report::{FrameFault, FrameReport};
+use crate::running::frame::system::System;
+use crate::running::stage::SharedStage;
+use crate::running::systems::Issuers;
+use crate::allocator::Limits;
+use crate::reserving::SharedSource;
+use crate::worlds::{SyncFault, World};
 use core::mem;
-use crate::kit::thread::Threads;
+use crate::kit::thread::Join;
 
 /// Runs each system once, on that many workers side by side, and then the sync point.
 ///
@@ -51,8 +51,8 @@ pub(crate) fn run_frame<R, S, G>(
     gate: &G,
 ) -> Result<FrameReport, FrameFault>
 where
-    R: Threads + Sync,
-    S: System<Shared> + Sync,
+    R: Join + Sync,
+    S: System<SharedSource> + Sync,
     G: Gate + Sync,
     // requires flushed { world.old.allocator.asked ≡ 0 }
     // requires systems { length systems.now ≤ 2 ^ 16 }

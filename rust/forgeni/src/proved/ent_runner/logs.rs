@@ -7,16 +7,16 @@ pub(super) mod log_error;
 pub(super) mod system;
 
 use alloc::vec::Vec;
-use crate::proved::ent_runner::crew::Crew;
-use crate::proved::ent_runner::logs::log_error::LogError;
-use crate::proved::ent_runner::logs::system::LogSystem;
-use crate::proved::ent_runner::stage::SharedStage;
-use crate::proved::ent_runner::systems::Loggers;
-use crate::proved::ent_alloc::{Entities, Limits};
-use crate::proved::ent_log::Log;
-use crate::proved::ent_shared::{Shared, share};
+use crate::running::crew::Crew;
+use crate::running::logs::log_error::LogError;
+use crate::running::logs::system::LogSystem;
+use crate::running::stage::SharedStage;
+use crate::running::systems::Loggers;
+use crate::allocator::{Entities, Limits};
+use crate::logs::Log;
+use crate::reserving::{SharedSource, share};
 use core::mem;
-use crate::kit::thread::Threads;
+use crate::kit::thread::Join;
 
 /// How many workers may run systems.
 const WORKERS: usize = 64;
@@ -26,7 +26,7 @@ const SYSTEMS: usize = 65_536;
 
 /// Runs each system once, on that many workers side by side, each with a log of its own. The logs
 /// are in the order of the systems, whatever the order in which they ended, and
-/// [`SyncPoint::begin`](crate::proved::ent_log::SyncPoint::begin) takes them.
+/// [`SyncPoint::begin`](crate::logs::SyncPoint::begin) takes them.
 ///
 /// A worker takes the next system that nobody has taken yet, until none is left. If a thread can't
 /// be started, another one does its work. One worker starts no thread.
@@ -81,9 +81,9 @@ pub fn run_logs<R, C, S>(
     workers: usize,
 ) -> Result<Vec<Log<C>>, LogError>
 where
-    R: Threads + Sync,
+    R: Join + Sync,
     C: Send,
-    S: LogSystem<C, Shared> + Sync,
+    S: LogSystem<C, SharedSource> + Sync,
 {
     if entities.needs_flush() {
         return Err(LogError::NeedsFlush);

@@ -1,24 +1,24 @@
 // Made of crates/ent_runner/src/stage.rt by rust/erase. It isn't edited by hand.
 
 //! The systems of a run are the jobs of a crew.
-use crate::proved::ent_runner::crew::Jobs;
-use crate::proved::ent_runner::systems::Systems;
-use crate::proved::ent_blocks::{BlockReserver, Blocks, again};
-use crate::proved::ent_handle::Memory;
-use crate::proved::ent_queue::{Commands, Output};
-use crate::proved::ent_shared::{Reserver, Shared};
+use crate::running::crew::Jobs;
+use crate::running::systems::Systems;
+use crate::in_blocks::{BlockReserver, Blocks, again};
+use crate::handles::OutOfMemory;
+use crate::commands::{SystemCommands, Output};
+use crate::reserving::{SharedReserver, SharedSource};
 
 /// Systems over a shared allocator. A worker lends each of its systems its one reserver.
 pub(super) struct SharedStage<'a, 's, T> {
-    pub(super) shared: &'a Shared,
+    pub(super) shared: &'a SharedSource,
     pub(super) systems: &'s T,
 }
 
-impl<O: Output, T: Systems<O, Shared>> Jobs<O, Reserver> for SharedStage<'_, '_, T> {
+impl<O: Output, T: Systems<O, SharedSource>> Jobs<O, SharedReserver> for SharedStage<'_, '_, T> {
     /// Runs the system of this number. Its output has what it added, also if it stopped.
     #[inline]
-    fn run(&self, number: usize, reserver: &mut Reserver) -> (O, Result<(), Memory>) {
-        let mut commands = Commands::new(self.shared, reserver);
+    fn run(&self, number: usize, reserver: &mut SharedReserver) -> (O, Result<(), OutOfMemory>) {
+        let mut commands = SystemCommands::new(self.shared, reserver);
         let ran = self.systems.run_at(number, &mut commands);
         (commands.finish(), ran)
     }
@@ -38,9 +38,9 @@ impl<O: Output, T: Systems<O, Blocks>> Jobs<(O, BlockReserver), ()>
     /// Runs the system of this number, which is run once. Its output has what it added, also if it
     /// stopped.
     #[inline]
-    fn run(&self, number: usize, lent: &mut ()) -> ((O, BlockReserver), Result<(), Memory>) {
+    fn run(&self, number: usize, lent: &mut ()) -> ((O, BlockReserver), Result<(), OutOfMemory>) {
         let mut reserver = again(&self.reservers[number]);
-        let mut commands = Commands::new(self.blocks, &mut reserver);
+        let mut commands = SystemCommands::new(self.blocks, &mut reserver);
         let ran = self.systems.run_at(number, &mut commands);
         let output = commands.finish();
         ((output, reserver), ran)

@@ -2,14 +2,14 @@
 
 //! The systems of a run, by their numbers. Each fills an output of its own: a queue, or a log.
 
-use crate::proved::ent_runner::frame::gate::Gate;
-use crate::proved::ent_runner::frame::system::System;
-use crate::proved::ent_runner::logs::system::LogSystem;
-use crate::proved::ent_alloc::Source;
-use crate::proved::ent_handle::Memory;
-use crate::proved::ent_log::Log;
-use crate::proved::ent_queue::{CommandQueue, Commands, Output};
-use crate::proved::ent_world::View;
+use crate::running::frame::gate::Gate;
+use crate::running::frame::system::System;
+use crate::running::logs::system::LogSystem;
+use crate::allocator::Source;
+use crate::handles::OutOfMemory;
+use crate::logs::Log;
+use crate::commands::{IssuedCommands, SystemCommands, Output};
+use crate::worlds::View;
 
 /// Systems with numbers from 0, each of which fills an output once, with handles of the source `S`.
 pub(super) trait Systems<O: Output, S: Source> {
@@ -21,8 +21,8 @@ pub(super) trait Systems<O: Output, S: Source> {
     fn run_at(
         &self,
         number: usize,
-        commands: &mut Commands<'_, O, S>,
-    ) -> Result<(), Memory>;
+        commands: &mut SystemCommands<'_, O, S>,
+    ) -> Result<(), OutOfMemory>;
         // requires number { number < count self.now }
         // requires ready { IsReady S.serves commands.old }
         // ensures extends { Extends O.adds S.serves S.may_reply commands.old commands.new }
@@ -39,13 +39,13 @@ pub(super) struct Issuers<'v, 's, 'g, T, G> {
     pub(super) gate: &'g G,
 }
 
-impl<S: Source, T: System<S>, G: Gate> Systems<CommandQueue, S> for Issuers<'_, '_, '_, T, G> {
+impl<S: Source, T: System<S>, G: Gate> Systems<IssuedCommands, S> for Issuers<'_, '_, '_, T, G> {
     #[inline]
     fn run_at(
         &self,
         number: usize,
-        commands: &mut Commands<'_, CommandQueue, S>,
-    ) -> Result<(), Memory> {
+        commands: &mut SystemCommands<'_, IssuedCommands, S>,
+    ) -> Result<(), OutOfMemory> {
         self.gate.entered(number);
         self.systems[number].run(&self.view, commands)
     }
@@ -61,8 +61,8 @@ impl<C, S: Source, T: LogSystem<C, S>> Systems<Log<C>, S> for Loggers<'_, T> {
     fn run_at(
         &self,
         number: usize,
-        commands: &mut Commands<'_, Log<C>, S>,
-    ) -> Result<(), Memory> {
+        commands: &mut SystemCommands<'_, Log<C>, S>,
+    ) -> Result<(), OutOfMemory> {
         self.systems[number].run(commands)
     }
 }

@@ -1,8 +1,8 @@
 // Made of crates/ent_script/src/birth.rt by rust/erase. It isn't edited by hand.
 
-use crate::proved::ent_script::cause::Cause;
-use crate::proved::ent_script::sizes::SYSTEMS;
-use crate::proved::ent_handle::{Birth, read_decimal, split_once};
+use crate::scripts::cause::Cause;
+use crate::scripts::sizes::SYSTEMS;
+use crate::handles::{Birth, read_decimal, split_once};
 
 #[inline]
 fn number(decimal: &[u8]) -> Result<u32, Cause>

@@ -4,4 +4,4 @@
 ///
 /// A long script has millions of bundles, and most are of one component. Such a bundle takes no
 /// memory.
-pub type Bundle = crate::proved::ent_storage::Bundle<1>;
+pub type Bundle = crate::components::InlineBundle<1>;

@@ -2,9 +2,9 @@
 
 use alloc::vec::Vec;
 use crate::kit::programs::string::String;
-use crate::proved::ent_script::number::number;
-use crate::proved::ent_script::passing::pass_rest;
-use crate::proved::ent_script::read_fault::ReadFault;
+use crate::scripts::number::number;
+use crate::scripts::passing::pass_rest;
+use crate::scripts::read_fault::ReadFault;
 use crate::kit::programs::json::{Reader, Token};
 use crate::kit::programs::serde_json::{Map, Value};
 

@@ -4,7 +4,7 @@
 
 use alloc::vec::Vec;
 use crate::kit::programs::string::String;
-use crate::proved::ent_script::names::is_name;
+use crate::scripts::names::is_name;
 use crate::kit::programs::serde_json::{Map, Value};
 
 /// The elements of an array. `None` if the value is no array.

@@ -1,7 +1,7 @@
 // Made of crates/ent_script/src/fields.rt by rust/erase. It isn't edited by hand.
 
-use crate::proved::ent_script::part::{Part, read_part};
-use crate::proved::ent_script::read_fault::ReadFault;
+use crate::scripts::part::{Part, read_part};
+use crate::scripts::read_fault::ReadFault;
 use crate::kit::programs::json::Reader;
 
 /// Which kinds of operation have each of the keys that were read.

@@ -1,7 +1,7 @@
 // Made of crates/ent_script/src/frame.rt by rust/erase. It isn't edited by hand.
 
 use alloc::vec::Vec;
-use crate::proved::ent_script::system::System;
+use crate::scripts::system::System;
 
 /// The systems of a frame, in order. Contracts see the list of them.
 pub struct Frame {

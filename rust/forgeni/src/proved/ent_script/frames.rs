@@ -2,21 +2,21 @@
 
 use alloc::vec::Vec;
 use crate::kit::vec::FallibleVec;
-use crate::proved::ent_script::at::At;
-use crate::proved::ent_script::cause::{Cause, ScriptCause};
-use crate::proved::ent_script::fields::{Fields, read_fields};
-use crate::proved::ent_script::format::Format;
-use crate::proved::ent_script::frame::Frame;
-use crate::proved::ent_script::kind::{Kind, kind_of};
-use crate::proved::ent_script::names::Names;
-use crate::proved::ent_script::operation::Operation;
-use crate::proved::ent_script::part_fault::PartFault;
-use crate::proved::ent_script::parts::{binding, bundle, bundle_or_none, count, removed, target};
-use crate::proved::ent_script::read_fault::ReadFault;
-use crate::proved::ent_script::sizes::{FRAMES, OPERATIONS, SYSTEMS};
-use crate::proved::ent_script::streaming::{begins_array, begins_object, fault_of_array};
-use crate::proved::ent_script::system::System;
-use crate::proved::ent_handle::Memory;
+use crate::scripts::at::At;
+use crate::scripts::cause::{Cause, ScriptCause};
+use crate::scripts::fields::{Fields, read_fields};
+use crate::scripts::format::Format;
+use crate::scripts::frame::Frame;
+use crate::scripts::kind::{Kind, kind_of};
+use crate::scripts::names::Names;
+use crate::scripts::operation::Operation;
+use crate::scripts::part_fault::PartFault;
+use crate::scripts::parts::{binding, bundle, bundle_or_none, count, removed, target};
+use crate::scripts::read_fault::ReadFault;
+use crate::scripts::sizes::{FRAMES, OPERATIONS, SYSTEMS};
+use crate::scripts::streaming::{begins_array, begins_object, fault_of_array};
+use crate::scripts::system::System;
+use crate::handles::OutOfMemory;
 use crate::kit::programs::json::Reader;
 #[inline]
 fn operation_of_kind(
@@ -81,7 +81,7 @@ fn operation(
 
 /// Adds the name that an operation binds, if it binds one.
 #[inline]
-fn bind<'a>(bound: &mut Names<'a>, fields: &Fields<'a>) -> Result<(), Memory>
+fn bind<'a>(bound: &mut Names<'a>, fields: &Fields<'a>) -> Result<(), OutOfMemory>
     // ensures { OnOk result ((ms : Members) → AreFields fields.now ms
     //     → bound.new ≡ with_part bound.old (bound_name (object ms))) }
 {

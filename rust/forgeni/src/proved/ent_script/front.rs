@@ -1,7 +1,7 @@
 // Made of crates/ent_script/src/front.rt by rust/erase. It isn't edited by hand.
 
 use alloc::vec::Vec;
-use crate::proved::ent_script::heading::Heading;
+use crate::scripts::heading::Heading;
 use crate::kit::programs::serde_json::Value;
 
 /// What a script says before its frames.

@@ -1,7 +1,7 @@
 // Made of crates/ent_script/src/heading.rt by rust/erase. It isn't edited by hand.
 
-use crate::proved::ent_script::format::Format;
-use crate::proved::ent_alloc::Limits;
+use crate::scripts::format::Format;
+use crate::allocator::Limits;
 
 /// What a script says before its components.
 #[derive(Clone, Copy)]

@@ -1,6 +1,6 @@
 // Made of crates/ent_script/src/kind.rt by rust/erase. It isn't edited by hand.
 
-use crate::proved::ent_script::fields::Fields;
+use crate::scripts::fields::Fields;
 
 /// What an operation does.
 #[derive(Clone, Copy)]

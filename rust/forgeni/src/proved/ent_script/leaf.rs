@@ -1,7 +1,7 @@
 // Made of crates/ent_script/src/leaf.rt by rust/erase. It isn't edited by hand.
 
-use crate::proved::ent_script::number::number;
-use crate::proved::ent_script::passing::pass_rest;
+use crate::scripts::number::number;
+use crate::scripts::passing::pass_rest;
 use crate::kit::programs::json::{Invalid, Reader, Token};
 use crate::kit::programs::serde_json::Number;
 

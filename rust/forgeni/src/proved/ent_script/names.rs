@@ -2,7 +2,7 @@
 
 use alloc::vec::Vec;
 use crate::kit::vec::FallibleVec;
-use crate::proved::ent_handle::Memory;
+use crate::handles::OutOfMemory;
 use crate::kit::collections::BTreeMap;
 
 /// Whether the text is 1 to 32 letters from `a` to `z`, digits and `_`.
@@ -57,7 +57,7 @@ impl<'a> Names<'a> {
 
     /// Puts the name last, unless it is there.
     #[inline]
-    pub(super) fn add(&mut self, name: &'a str) -> Result<(), Memory>
+    pub(super) fn add(&mut self, name: &'a str) -> Result<(), OutOfMemory>
         // ensures ok { OnOk result (self.new ≡ with_name self.old name.now) }
     {
         if self.numbers.contains_key(name) {

@@ -1,7 +1,7 @@
 // Made of crates/ent_script/src/object.rt by rust/erase. It isn't edited by hand.
 
-use crate::proved::ent_script::leaf::Leaf;
-use crate::proved::ent_handle::Memory;
+use crate::scripts::leaf::Leaf;
+use crate::handles::OutOfMemory;
 use crate::kit::collections::BTreeMap;
 
 /// The members of an object, in the order of their keys. Most objects have one, which takes no
@@ -18,7 +18,7 @@ fn insert<'a>(
     map: &mut BTreeMap<&'a str, Leaf<'a>>,
     key: &'a str,
     leaf: Leaf<'a>,
-) -> Result<(), Memory>
+) -> Result<(), OutOfMemory>
     // ensures ok { OnOk result (leaves_of map.new.entries
     //     ≡ put key.now (leaf_data leaf.entry) (leaves_of map.old.entries)) }
 {
@@ -33,7 +33,7 @@ impl<'a> Object<'a> {
         self,
         key: &'a str,
         leaf: Leaf<'a>,
-    ) -> Result<Object<'a>, Memory>
+    ) -> Result<Object<'a>, OutOfMemory>
         // ensures ok { IfOk result (λ new. members_of new
         //     ≡ put key.now (leaf_data leaf.entry) (members_of self.entry)) }
     {

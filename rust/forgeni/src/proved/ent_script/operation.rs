@@ -1,8 +1,8 @@
 // Made of crates/ent_script/src/operation.rt by rust/erase. It isn't edited by hand.
 
-use crate::proved::ent_script::bundle::Bundle;
-use crate::proved::ent_script::target::Target;
-use crate::proved::ent_handle::ComponentId;
+use crate::scripts::bundle::Bundle;
+use crate::scripts::target::Target;
+use crate::handles::ComponentId;
 
 /// One thing that a system does.
 ///

@@ -1,11 +1,11 @@
 // Made of crates/ent_script/src/part.rt by rust/erase. It isn't edited by hand.
 
-use crate::proved::ent_script::leaf::read_leaf;
-use crate::proved::ent_script::names::is_name;
-use crate::proved::ent_script::number::number;
-use crate::proved::ent_script::object::Object;
-use crate::proved::ent_script::passing::pass_rest;
-use crate::proved::ent_script::read_fault::ReadFault;
+use crate::scripts::leaf::read_leaf;
+use crate::scripts::names::is_name;
+use crate::scripts::number::number;
+use crate::scripts::object::Object;
+use crate::scripts::passing::pass_rest;
+use crate::scripts::read_fault::ReadFault;
 use crate::kit::programs::json::{Reader, Token};
 use crate::kit::programs::serde_json::Number;
 

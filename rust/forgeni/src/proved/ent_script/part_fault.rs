@@ -1,7 +1,7 @@
 // Made of crates/ent_script/src/part_fault.rt by rust/erase. It isn't edited by hand.
 
-use crate::proved::ent_script::cause::Cause;
-use crate::proved::ent_handle::Memory;
+use crate::scripts::cause::Cause;
+use crate::handles::OutOfMemory;
 
 /// Why an operation could not be read.
 #[derive(Clone, Copy)]
@@ -19,9 +19,9 @@ impl From<Cause> for PartFault {
     }
 }
 
-impl From<Memory> for PartFault {
+impl From<OutOfMemory> for PartFault {
     #[inline]
-    fn from(_refused: Memory) -> Self {
+    fn from(_refused: OutOfMemory) -> Self {
         PartFault::Memory
     }
 }

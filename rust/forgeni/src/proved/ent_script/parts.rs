@@ -1,16 +1,16 @@
 // Made of crates/ent_script/src/parts.rt by rust/erase. It isn't edited by hand.
 
-use crate::proved::ent_script::birth::birth;
-use crate::proved::ent_script::bundle::Bundle;
-use crate::proved::ent_script::cause::Cause;
-use crate::proved::ent_script::leaf::Leaf;
-use crate::proved::ent_script::names::Names;
-use crate::proved::ent_script::object::Object;
-use crate::proved::ent_script::part::Part;
-use crate::proved::ent_script::part_fault::PartFault;
-use crate::proved::ent_script::sizes::SPAWNED;
-use crate::proved::ent_script::target::Target;
-use crate::proved::ent_handle::{ComponentId, Handle};
+use crate::scripts::birth::birth;
+use crate::scripts::bundle::Bundle;
+use crate::scripts::cause::Cause;
+use crate::scripts::leaf::Leaf;
+use crate::scripts::names::Names;
+use crate::scripts::object::Object;
+use crate::scripts::part::Part;
+use crate::scripts::part_fault::PartFault;
+use crate::scripts::sizes::SPAWNED;
+use crate::scripts::target::Target;
+use crate::handles::{ComponentId, Handle};
 use crate::kit::collections::BTreeMap;
 
 /// The number of a component.

@@ -1,6 +1,6 @@
 // Made of crates/ent_script/src/passing.rt by rust/erase. It isn't edited by hand.
 
-use crate::proved::ent_script::number::number;
+use crate::scripts::number::number;
 use crate::kit::programs::json::{Invalid, Reader, Token};
 
 /// Passes over a value that `serde_json` reads. Arrays and objects may nest `depth` deep.

@@ -1,7 +1,7 @@
 // Made of crates/ent_script/src/read_fault.rt by rust/erase. It isn't edited by hand.
 
-use crate::proved::ent_script::cause::{Cause, ScriptCause};
-use crate::proved::ent_handle::Memory;
+use crate::scripts::cause::{Cause, ScriptCause};
+use crate::handles::OutOfMemory;
 use crate::kit::programs::json::Invalid;
 use crate::kit::alloc::{AllocError, AllocFailed};
 
@@ -62,9 +62,9 @@ impl From<ScriptCause> for ReadFault {
     }
 }
 
-impl From<Memory> for ReadFault {
+impl From<OutOfMemory> for ReadFault {
     #[inline]
-    fn from(_refused: Memory) -> Self {
+    fn from(_refused: OutOfMemory) -> Self {
         ReadFault::Memory
     }
 }

@@ -2,8 +2,8 @@
 
 use alloc::vec::Vec;
 use crate::kit::programs::string::String;
-use crate::proved::ent_script::frame::Frame;
-use crate::proved::ent_alloc::Limits;
+use crate::scripts::frame::Frame;
+use crate::allocator::Limits;
 
 /// A script: the limits of its allocator, the names of its components, and its frames in order.
 /// The component at index `i` has the number `i`.

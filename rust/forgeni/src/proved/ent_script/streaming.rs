@@ -2,9 +2,9 @@
 
 use alloc::vec::Vec;
 use crate::kit::vec::FallibleVec;
-use crate::proved::ent_script::cutting::read_cut;
-use crate::proved::ent_script::passing::{pass_rest, pass_value};
-use crate::proved::ent_script::read_fault::ReadFault;
+use crate::scripts::cutting::read_cut;
+use crate::scripts::passing::{pass_rest, pass_value};
+use crate::scripts::read_fault::ReadFault;
 use crate::kit::programs::json::{Invalid, Reader, Token};
 use crate::kit::programs::serde_json::Value;
 

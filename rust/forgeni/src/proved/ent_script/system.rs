@@ -1,7 +1,7 @@
 // Made of crates/ent_script/src/system.rt by rust/erase. It isn't edited by hand.
 
 use alloc::vec::Vec;
-use crate::proved::ent_script::operation::Operation;
+use crate::scripts::operation::Operation;
 
 /// The operations of a system, in order. Contracts see the list of them.
 pub struct System {

@@ -1,6 +1,6 @@
 // Made of crates/ent_script/src/target.rt by rust/erase. It isn't edited by hand.
 
-use crate::proved::ent_handle::{Birth, ComponentId, Handle};
+use crate::handles::{Birth, ComponentId, Handle};
 
 /// Which entities an operation is for.
 #[derive(Clone, Copy, Debug, PartialEq, Eq, Hash)]

@@ -2,11 +2,11 @@
 
 use alloc::vec::Vec;
 use crate::kit::programs::string::String;
-use crate::proved::ent_script::cutting::read_cut;
-use crate::proved::ent_script::passing::pass_rest;
-use crate::proved::ent_script::read_fault::ReadFault;
-use crate::proved::ent_script::sizes::COMPONENTS;
-use crate::proved::ent_script::streaming::read_elements;
+use crate::scripts::cutting::read_cut;
+use crate::scripts::passing::pass_rest;
+use crate::scripts::read_fault::ReadFault;
+use crate::scripts::sizes::COMPONENTS;
+use crate::scripts::streaming::read_elements;
 use crate::kit::programs::json::{Reader, Token};
 use crate::kit::programs::serde_json::{Map, Value};
 

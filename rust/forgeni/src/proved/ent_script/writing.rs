@@ -2,14 +2,14 @@
 
 use alloc::vec::Vec;
 use crate::kit::vec::FallibleVec;
-use crate::proved::ent_script::at::At;
-use crate::proved::ent_script::cause::{Cause, ScriptCause};
-use crate::proved::ent_script::read_fault::ReadFault;
-use crate::proved::ent_handle::Memory;
+use crate::scripts::at::At;
+use crate::scripts::cause::{Cause, ScriptCause};
+use crate::scripts::read_fault::ReadFault;
+use crate::handles::OutOfMemory;
 use crate::kit::itoa::Buffer;
 
 #[inline]
-fn append(out: &mut Vec<u8>, text: &[u8]) -> Result<(), Memory>
+fn append(out: &mut Vec<u8>, text: &[u8]) -> Result<(), OutOfMemory>
     // ensures ok { OnOk result (out.new.items ≡ out.old.items ++ text.now) }
     // ensures err { OnErr result (out.new.items ≡ out.old.items) }
     // ensures full { OnErr result (vec_capacity out.old < vec_len out.old + length text.now) }
@@ -20,7 +20,7 @@ fn append(out: &mut Vec<u8>, text: &[u8]) -> Result<(), Memory>
 
 /// Appends a space and the decimal of a number.
 #[inline]
-fn append_number(out: &mut Vec<u8>, number: usize) -> Result<(), Memory>
+fn append_number(out: &mut Vec<u8>, number: usize) -> Result<(), OutOfMemory>
     // ensures ok { OnOk result (out.new.items ≡ out.old.items ++ spaced_number number) }
     // ensures kept { OnErr result (take (vec_len out.old) out.new.items ≡ out.old.items) }
     // ensures full { OnErr result (vec_capacity out.old
@@ -33,7 +33,7 @@ fn append_number(out: &mut Vec<u8>, number: usize) -> Result<(), Memory>
 
 /// Appends the numbers of a system and of its frame.
 #[inline]
-fn append_system(out: &mut Vec<u8>, frame: usize, system: usize) -> Result<(), Memory>
+fn append_system(out: &mut Vec<u8>, frame: usize, system: usize) -> Result<(), OutOfMemory>
     // ensures ok { OnOk result (out.new.items
     //     ≡ out.old.items ++ spaced_number frame ++ spaced_number system) }
     // ensures kept { OnErr result (take (vec_len out.old) out.new.items ≡ out.old.items) }
@@ -46,7 +46,7 @@ fn append_system(out: &mut Vec<u8>, frame: usize, system: usize) -> Result<(), M
 }
 
 #[inline]
-fn append_cause(out: &mut Vec<u8>, operation: usize, cause: Cause) -> Result<(), Memory>
+fn append_cause(out: &mut Vec<u8>, operation: usize, cause: Cause) -> Result<(), OutOfMemory>
     // ensures ok { OnOk result (out.new.items
     //     ≡ out.old.items ++ spaced_number operation ++ 32 ∷ operation_cause_text cause) }
     // ensures kept { OnErr result (take (vec_len out.old) out.new.items ≡ out.old.items) }
@@ -61,7 +61,7 @@ fn append_cause(out: &mut Vec<u8>, operation: usize, cause: Cause) -> Result<(),
 
 /// Appends the numbers of an operation, its system and its frame, and what is wrong with it.
 #[inline]
-fn append_operation(out: &mut Vec<u8>, at: At, cause: Cause) -> Result<(), Memory>
+fn append_operation(out: &mut Vec<u8>, at: At, cause: Cause) -> Result<(), OutOfMemory>
     // ensures ok { OnOk result (out.new.items
     //     ≡ out.old.items ++ operation_text at.frame at.system at.operation cause) }
     // ensures kept { OnErr result (take (vec_len out.old) out.new.items ≡ out.old.items) }
@@ -74,7 +74,7 @@ fn append_operation(out: &mut Vec<u8>, at: At, cause: Cause) -> Result<(), Memor
 }
 
 #[inline]
-fn append_script_text(out: &mut Vec<u8>, cause: ScriptCause) -> Result<(), Memory>
+fn append_script_text(out: &mut Vec<u8>, cause: ScriptCause) -> Result<(), OutOfMemory>
     // ensures ok { OnOk result (out.new.items
     //     ≡ out.old.items ++ codes "refused script " ++ script_cause_text cause) }
     // ensures kept { OnErr result (take (vec_len out.old) out.new.items ≡ out.old.items) }
@@ -87,7 +87,7 @@ fn append_script_text(out: &mut Vec<u8>, cause: ScriptCause) -> Result<(), Memor
 }
 
 #[inline]
-fn append_frame_text(out: &mut Vec<u8>, frame: usize) -> Result<(), Memory>
+fn append_frame_text(out: &mut Vec<u8>, frame: usize) -> Result<(), OutOfMemory>
     // ensures ok { OnOk result (out.new.items
     //     ≡ out.old.items ++ codes "refused frame" ++ spaced_number frame) }
     // ensures kept { OnErr result (take (vec_len out.old) out.new.items ≡ out.old.items) }
@@ -100,7 +100,7 @@ fn append_frame_text(out: &mut Vec<u8>, frame: usize) -> Result<(), Memory>
 }
 
 #[inline]
-fn append_system_text(out: &mut Vec<u8>, frame: usize, system: usize) -> Result<(), Memory>
+fn append_system_text(out: &mut Vec<u8>, frame: usize, system: usize) -> Result<(), OutOfMemory>
     // ensures ok { OnOk result (out.new.items
     //     ≡ out.old.items ++ codes "refused system" ++ spaced_number frame ++ spaced_number system) }
     // ensures kept { OnErr result (take (vec_len out.old) out.new.items ≡ out.old.items) }
@@ -113,7 +113,7 @@ fn append_system_text(out: &mut Vec<u8>, frame: usize, system: usize) -> Result<
 }
 
 #[inline]
-fn append_operation_text(out: &mut Vec<u8>, at: At, cause: Cause) -> Result<(), Memory>
+fn append_operation_text(out: &mut Vec<u8>, at: At, cause: Cause) -> Result<(), OutOfMemory>
     // ensures ok { OnOk result (out.new.items
     //     ≡ out.old.items ++ codes "refused operation"
     //     ++ operation_text at.frame at.system at.operation cause) }
@@ -128,7 +128,7 @@ fn append_operation_text(out: &mut Vec<u8>, at: At, cause: Cause) -> Result<(), 
 }
 
 #[inline]
-fn append_text(fault: ReadFault, out: &mut Vec<u8>) -> Result<(), Memory>
+fn append_text(fault: ReadFault, out: &mut Vec<u8>) -> Result<(), OutOfMemory>
     // requires { fault ≢ ReadFault.Memory }
     // ensures ok { OnOk result (out.new.items ≡ out.old.items ++ refusal_text fault) }
     // ensures kept { OnErr result (take (vec_len out.old) out.new.items ≡ out.old.items) }
@@ -159,7 +159,7 @@ fn append_text(fault: ReadFault, out: &mut Vec<u8>) -> Result<(), Memory>
 }
 
 #[inline]
-fn append_line(fault: ReadFault, out: &mut Vec<u8>) -> Result<(), Memory>
+fn append_line(fault: ReadFault, out: &mut Vec<u8>) -> Result<(), OutOfMemory>
     // requires { fault ≢ ReadFault.Memory }
     // ensures ok { OnOk result (out.new.items ≡ out.old.items ++ refusal_line fault) }
     // ensures kept { OnErr result (take (vec_len out.old) out.new.items ≡ out.old.items) }
@@ -178,7 +178,7 @@ fn append_line(fault: ReadFault, out: &mut Vec<u8>) -> Result<(), Memory>
 ///
 /// `Memory` if there is no room for all of the line. `out` keeps its items then.
 #[inline]
-pub(crate) fn write_refusal(fault: ReadFault, out: &mut Vec<u8>) -> Result<(), Memory>
+pub(crate) fn write_refusal(fault: ReadFault, out: &mut Vec<u8>) -> Result<(), OutOfMemory>
     // requires { fault ≢ ReadFault.Memory }
     // ensures ok { OnOk result (out.new.items ≡ out.old.items ++ refusal_line fault) }
     // ensures err { OnErr result (out.new.items ≡ out.old.items) }

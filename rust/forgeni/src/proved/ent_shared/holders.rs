@@ -2,8 +2,8 @@
 
 //! How records move from holder to holder of one atomic word. No step here changes the word.
 
-pub use crate::proved::ent_shared::plays::HeldRecords;
-use crate::proved::ent_shared::plays::{Merge, NewHolder, SplitFirst};
+pub use crate::reserving::plays::HeldRecords;
+use crate::reserving::plays::{Merge, NewHolder, SplitFirst};
 use crate::kit::atomic_table::{Badge, Seat, Table, TableRule};
 
 /// One atomic word under the rule `P`, opened with a `K`, whose holders know records of type `R`.

@@ -13,8 +13,8 @@ mod shared;
 mod source;
 mod word;
 
-pub use crate::proved::ent_alloc::Refused;
+pub use crate::allocator::Refused;
 pub(crate) use phase::share;
 pub use record::{Record, RecordEntry, Reservation, Start};
-pub use reserver::Reserver;
-pub use shared::Shared;
+pub use reserver::SharedReserver;
+pub use shared::SharedSource;

@@ -2,25 +2,25 @@
 
 use alloc::vec::Vec;
 use crate::kit::vec::FallibleVec;
-use crate::proved::ent_shared::holders::split_first;
-use crate::proved::ent_shared::reserver::Reserver;
-use crate::proved::ent_shared::rule::Opening;
-use crate::proved::ent_shared::shared::Shared;
-use crate::proved::ent_shared::word;
-use crate::proved::ent_alloc::Entities;
-use crate::proved::ent_handle::Memory;
+use crate::reserving::holders::split_first;
+use crate::reserving::reserver::SharedReserver;
+use crate::reserving::rule::Opening;
+use crate::reserving::shared::SharedSource;
+use crate::reserving::word;
+use crate::allocator::Entities;
+use crate::handles::OutOfMemory;
 
 /// Shares a flushed allocator among `n` reservers, 1 to 1,024, each of which may request
-/// [`QUOTA`](crate::proved::ent_alloc::QUOTA) handles. Bevy has no such limits; they are this project's own.
+/// [`QUOTA`](crate::allocator::QUOTA) handles. Bevy has no such limits; they are this project's own.
 ///
 /// # Errors
 ///
-/// [`Memory`], with the allocator as it was.
+/// [`OutOfMemory`], with the allocator as it was.
 #[inline]
 pub(crate) fn share(
     entities: Entities,
     n: usize,
-) -> Result<(Shared, Vec<Reserver>), (Entities, Memory)>
+) -> Result<(SharedSource, Vec<SharedReserver>), (Entities, OutOfMemory)>
     // requires flushed { entities.allocator.asked ≡ 0 }
     // requires some { 0 < n }
     // requires few { n ≤ 1024 }
@@ -38,17 +38,17 @@ pub(crate) fn share(
 {
     let mut reservers = match Vec::with_capacity_fallibly(n) {
         Ok(reservers) => reservers,
-        Err(_) => return Err((entities, Memory)),
+        Err(_) => return Err((entities, OutOfMemory)),
     };
     let top = i64::from(entities.top());
     let opening = Opening { entities, count: n };
     let Ok((word, mut all)) = word::open(&opening) else {
         let Opening { entities, .. } = opening;
-        return Err((entities, Memory));
+        return Err((entities, OutOfMemory));
     };
     for number in 0..n {
-        reservers.push_reserved(Reserver::new(split_first(&word, &mut all), number, top));
+        reservers.push_reserved(SharedReserver::new(split_first(&word, &mut all), number, top));
     }
     let Opening { entities, count } = opening;
-    Ok((Shared::new(entities, word, count), reservers))
+    Ok((SharedSource::new(entities, word, count), reservers))
 }

@@ -2,8 +2,8 @@
 
 //! What one caller has done in a phase. Contracts speak of it, and no value of it is ever made.
 
-use crate::proved::ent_alloc::{Entities, Space};
-use crate::proved::ent_handle::Handle;
+use crate::allocator::{Entities, Space};
+use crate::handles::Handle;
 use crate::kit::collections::LinkedList;
 
 /// The allocator as it was shared, without the rows that a program keeps beside its state: what a

@@ -1,27 +1,27 @@
 // Made of crates/ent_shared/src/reserver.rt by rust/erase. It isn't edited by hand.
 
-use crate::proved::ent_shared::holders::RecordsToken;
-use crate::proved::ent_shared::record::Record;
-use crate::proved::ent_alloc::QUOTA;
+use crate::reserving::holders::RecordsToken;
+use crate::reserving::record::Record;
+use crate::allocator::QUOTA;
 
 /// The right of one caller to reserve from a shared allocator, and what is left of its quota.
 ///
-/// [`share`](crate::proved::ent_shared::share) makes them, and [`Shared::close`](crate::proved::ent_shared::Shared::close) takes them back.
+/// `share` makes them, and `SharedSource::close` takes them back.
 /// A caller that reserves in a thread of its own takes one with it.
-pub struct Reserver {
+pub struct SharedReserver {
     pub(super) token: RecordsToken<Record>,
     pub(super) number: usize,
     pub(super) left: u64,
     pub(super) floor: i64,
 }
 
-impl Reserver {
+impl SharedReserver {
     #[inline]
     pub(super) fn new(token: RecordsToken<Record>, number: usize, floor: i64) -> Self
         // requires { IsHolding token.views number quota floor }
         // ensures { result ≡ record { word = token.table_id; own = own_of token.views } }
     {
-        Reserver {
+        SharedReserver {
             token,
             number,
             left: QUOTA,
@@ -30,36 +30,20 @@ impl Reserver {
     }
 
     /// Which of the reservers it is: its position in the list that `share` gave, from 0.
-    ///
-    /// <details><summary>Contract</summary>
-    ///
-    /// In the words of the folder `specs/` of crate `ent_shared`:
-    ///
-    /// ```text
-    /// ensures { result ≡ self.now.own.number }
-    /// ```
-    ///
-    /// </details>
     #[inline]
-    pub fn number(&self) -> usize {
+    pub(crate) fn number(&self) -> usize
+        // ensures { result ≡ self.now.own.number }
+    {
         self.number
     }
 
     /// How many handles it may still request in this phase: [`QUOTA`] less what it has requested,
     /// served or not.
-    ///
-    /// <details><summary>Contract</summary>
-    ///
-    /// In the words of the folder `specs/` of crate `ent_shared`:
-    ///
-    /// ```text
-    /// ensures left { result ≡ self.now.own.left }
-    /// ensures quota { result + requested_by self.now.own ≡ quota }
-    /// ```
-    ///
-    /// </details>
     #[inline]
-    pub fn left(&self) -> u64 {
+    pub(crate) fn left(&self) -> u64
+        // ensures left { result ≡ self.now.own.left }
+        // ensures quota { result + requested_by self.now.own ≡ quota }
+    {
         self.left
     }
 }

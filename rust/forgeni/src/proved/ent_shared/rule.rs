@@ -2,10 +2,10 @@
 
 //! The rule over the cursor word and the records of all reservers, and what its steps tell.
 
-use crate::proved::ent_shared::holders::HeldRecords;
-use crate::proved::ent_shared::record::Record;
+use crate::reserving::holders::HeldRecords;
+use crate::reserving::record::Record;
 use crate::kit::atomic_table::{Join, Play, Split, TableRule};
-use crate::proved::ent_alloc::Entities;
+use crate::allocator::Entities;
 
 /// What a phase begins with.
 pub(super) struct Opening {

@@ -1,12 +1,12 @@
 // Made of crates/ent_shared/src/shared.rt by rust/erase. It isn't edited by hand.
 
 use alloc::vec::Vec;
-use crate::proved::ent_shared::holders::{merge, new_holder};
-use crate::proved::ent_shared::reserver::Reserver;
-use crate::proved::ent_shared::word;
-use crate::proved::ent_shared::word::Word;
-use crate::proved::ent_alloc::{Entities, Living, Refused, Reserved, Span};
-use crate::proved::ent_handle::Handle;
+use crate::reserving::holders::{merge, new_holder};
+use crate::reserving::reserver::SharedReserver;
+use crate::reserving::word;
+use crate::reserving::word::Word;
+use crate::allocator::{Entities, Living, Refused, Reserved, Span};
+use crate::handles::Handle;
 
 /// An allocator that many callers reserve from at once, each with a reserver of its own.
 ///
@@ -21,13 +21,13 @@ use crate::proved::ent_handle::Handle;
 /// assert_eq!(run_logs(&mut Entities::new(), &[spawn; 4], 2)?.len(), 4);
 /// # Ok::<(), Box<dyn std::error::Error>>(())
 /// ```
-pub struct Shared {
+pub struct SharedSource {
     entities: Entities,
     word: Word,
     count: usize,
 }
 
-impl Shared {
+impl SharedSource {
     #[inline]
     pub(super) fn new(entities: Entities, word: Word, count: usize) -> Self
         // requires { IsPhase entities count word.shared.key word.shared.table_id }
@@ -38,7 +38,7 @@ impl Shared {
         //   count = count;
         // } }
     {
-        Shared {
+        SharedSource {
             entities,
             word,
             count,
@@ -46,7 +46,7 @@ impl Shared {
     }
 }
 
-impl Shared {
+impl SharedSource {
     /// How many reservers `share` made for it.
     ///
     /// <details><summary>Contract</summary>
@@ -191,7 +191,7 @@ impl Shared {
     /// - [`Refused::Space`] if the pool is empty. The request is taken from the quota all the
     ///   same.
     #[inline]
-    pub(crate) fn reserve(&self, reserver: &mut Reserver) -> Result<Handle, Refused>
+    pub(crate) fn reserve(&self, reserver: &mut SharedReserver) -> Result<Handle, Refused>
         // requires { IsOf self.now reserver.old }
         // ensures stays { IsOf self.now reserver.new }
         // ensures quota { reserver.old.own.left ≡ 0
@@ -229,7 +229,7 @@ impl Shared {
     /// - [`Refused::Space`] if the pool has fewer than `n` handles. The request is taken from the
     ///   quota all the same, and the pool gives no more until the next flush.
     #[inline]
-    pub(crate) fn reserve_many(&self, reserver: &mut Reserver, n: u32) -> Result<Reserved<'_>, Refused>
+    pub(crate) fn reserve_many(&self, reserver: &mut SharedReserver, n: u32) -> Result<Reserved<'_>, Refused>
         // requires { IsOf self.now reserver.old }
         // ensures stays { IsOf self.now reserver.new }
         // ensures quota { reserver.old.own.left < n
@@ -268,7 +268,7 @@ impl Shared {
     /// Orders two reservers: every later reservation by `a` comes after everything that `b` has
     /// reserved or learned of so far. It makes two atomic steps, takes no memory, and never waits.
     #[inline]
-    pub(crate) fn meet(&self, a: &mut Reserver, b: &mut Reserver)
+    pub(crate) fn meet(&self, a: &mut SharedReserver, b: &mut SharedReserver)
         // requires first { IsOf self.now a.old }
         // requires second { IsOf self.now b.old }
         // ensures meets { a.new ≡ record a.old { own = after_meeting a.old.own b.old.own } }
@@ -286,7 +286,7 @@ impl Shared {
     /// Ends the phase with all its reservers. The allocator is as if their reservations had been
     /// made one by one, in the order of their atomic steps. It takes no memory.
     #[inline]
-    pub(crate) fn close(self, reservers: Vec<Reserver>) -> Entities
+    pub(crate) fn close(self, reservers: Vec<SharedReserver>) -> Entities
         // requires all { length reservers.items ≡ self.count }
         // requires own { All (IsOf self) reservers.items }
         // ensures legal { IsLegal self.start (history_of (records_of reservers.items)) }
@@ -315,7 +315,7 @@ impl Shared {
         //     (h : HandleValue) →
         //     IsLive (after_flush result.allocator) h ↔ (IsLive self.start h ⊎ Contains given h) }
     {
-        let Shared {
+        let SharedSource {
             mut entities,
             word,
             ..
@@ -330,7 +330,7 @@ impl Shared {
     /// of the pool counts as reserved, as far as it goes, including handles that no caller got. It
     /// takes no memory.
     #[inline]
-    pub(crate) fn close_lost(self, reservers: Vec<Reserver>) -> Entities
+    pub(crate) fn close_lost(self, reservers: Vec<SharedReserver>) -> Entities
         // requires own { All (IsOf self) reservers.items }
         // ensures after { result.allocator ≡ after_loss self.start result.allocator.asked }
         // ensures rows { result.rows ≡ self.rows }
@@ -364,7 +364,7 @@ impl Shared {
         // ensures brings_to_life { (h : HandleValue) → IsLive (after_flush result.allocator) h
         //     ↔ (IsLive self.start h ⊎ Contains result.allocator.taken h) }
     {
-        let Shared {
+        let SharedSource {
             mut entities,
             word,
             ..
@@ -378,7 +378,7 @@ impl Shared {
 
 /// The cursor at the end of a phase, and the least floor of the reservers that are here.
 #[inline]
-fn end_phase(word: Word, top: i64, reservers: Vec<Reserver>) -> (i64, i64)
+fn end_phase(word: Word, top: i64, reservers: Vec<SharedReserver>) -> (i64, i64)
     // requires word { (word.shared.table_id.words ≡ 1) × (word.shared.table_id.slots ≡ 0) }
     // requires own { All (λ r. r.word ≡ word.shared.table_id) reservers.items }
     // ensures cursor { let opening = word.shared.key in

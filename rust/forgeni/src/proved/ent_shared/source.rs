@@ -1,13 +1,13 @@
 // Made of crates/ent_shared/src/source.rt by rust/erase. It isn't edited by hand.
 
-use crate::proved::ent_shared::reserver::Reserver;
-use crate::proved::ent_shared::shared::Shared;
-use crate::proved::ent_alloc::{Refused, Reserved, Source};
-use crate::proved::ent_handle::Handle;
+use crate::reserving::reserver::SharedReserver;
+use crate::reserving::shared::SharedSource;
+use crate::allocator::{Refused, Reserved, Source};
+use crate::handles::Handle;
 
 /// Each reservation is an atomic step of all reservers' one cursor.
-impl Source for Shared {
-    type Reserver = Reserver;
+impl Source for SharedSource {
+    type Reserver = SharedReserver;
 
     #[inline]
     fn was_alive(&self, handle: Handle) -> bool {
@@ -20,12 +20,12 @@ impl Source for Shared {
     }
 
     #[inline(always)]
-    fn serve_one(&self, reserver: &mut Reserver) -> Result<Handle, Refused> {
+    fn serve_one(&self, reserver: &mut SharedReserver) -> Result<Handle, Refused> {
         self.reserve(reserver)
     }
 
     #[inline(always)]
-    fn serve_many(&self, reserver: &mut Reserver, n: u32) -> Result<Reserved<'_>, Refused> {
+    fn serve_many(&self, reserver: &mut SharedReserver, n: u32) -> Result<Reserved<'_>, Refused> {
         self.reserve_many(reserver, n)
     }
 }

@@ -2,9 +2,9 @@
 
 //! The cursor as one atomic word: what each kind of step does to the word and to the records.
 
-use crate::proved::ent_shared::holders::{RecordsHolder, RecordsToken, RecordsWord};
-use crate::proved::ent_shared::record::Record;
-use crate::proved::ent_shared::rule::{Cursor, Meet, Opening, Reserve, SplitSecond};
+use crate::reserving::holders::{RecordsHolder, RecordsToken, RecordsWord};
+use crate::reserving::record::Record;
+use crate::reserving::rule::{Cursor, Meet, Opening, Reserve, SplitSecond};
 use crate::kit::atomic_table::{Badge, Table};
 use crate::kit::alloc::AllocError;
 use core::mem;

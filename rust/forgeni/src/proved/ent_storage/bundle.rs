@@ -1,7 +1,7 @@
 // Made of crates/ent_storage/src/bundle.rt by rust/erase. It isn't edited by hand.
 
-use crate::proved::ent_storage::pairs::search;
-use crate::proved::ent_handle::{ComponentId, Memory};
+use crate::components::pairs::search;
+use crate::handles::{ComponentId, OutOfMemory};
 use crate::kit::smallvec::SmallVec;
 
 /// Components and their values, by strictly rising number: what an entity is given. Contracts see the
@@ -18,11 +18,11 @@ use crate::kit::smallvec::SmallVec;
 /// assert_eq!(bundle.items(), [(mass, 7), (speed, 2)]);
 /// # Ok::<(), forgeni::OutOfMemory>(())
 /// ```
-pub struct Bundle<const INLINE: usize> {
+pub struct InlineBundle<const INLINE: usize> {
     items: SmallVec<(ComponentId, i64), INLINE>,
 }
 
-impl<const INLINE: usize> Bundle<INLINE> {
+impl<const INLINE: usize> InlineBundle<INLINE> {
     /// A bundle with no components. It takes no memory.
     ///
     /// <details><summary>Contract</summary>
@@ -37,7 +37,7 @@ impl<const INLINE: usize> Bundle<INLINE> {
     #[must_use]
     #[inline]
     pub fn new() -> Self {
-        Bundle {
+        InlineBundle {
             items: SmallVec::new(),
         }
     }
@@ -59,8 +59,8 @@ impl<const INLINE: usize> Bundle<INLINE> {
     ///
     /// </details>
     #[inline]
-    pub fn with_capacity(count: usize) -> Result<Self, Memory> {
-        Ok(Bundle {
+    pub fn with_capacity(count: usize) -> Result<Self, OutOfMemory> {
+        Ok(InlineBundle {
             items: SmallVec::with_capacity(count)?,
         })
     }
@@ -85,8 +85,8 @@ impl<const INLINE: usize> Bundle<INLINE> {
     ///
     /// </details>
     #[inline(always)]
-    pub fn of(items: &[(ComponentId, i64)]) -> Result<Self, Memory> {
-        let mut bundle = Bundle::new();
+    pub fn of(items: &[(ComponentId, i64)]) -> Result<Self, OutOfMemory> {
+        let mut bundle = InlineBundle::new();
         for (id, value) in items {
             bundle.put(*id, *value)?;
         }
@@ -113,7 +113,7 @@ impl<const INLINE: usize> Bundle<INLINE> {
     ///
     /// </details>
     #[inline(always)]
-    pub fn put(&mut self, id: ComponentId, value: i64) -> Result<(), Memory> {
+    pub fn put(&mut self, id: ComponentId, value: i64) -> Result<(), OutOfMemory> {
         match search(self.items.as_slice(), id) {
             Ok(index) => self.items[index].1 = value,
             Err(index) => self.items.insert(index, (id, value))?,

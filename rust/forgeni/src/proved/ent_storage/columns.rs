@@ -3,7 +3,7 @@
 use alloc::vec::Vec;
 use crate::kit::vec::FallibleVec;
 use super::sparse_set::SparseSet;
-use crate::proved::ent_handle::ComponentId;
+use crate::handles::ComponentId;
 use crate::kit::alloc::AllocError;
 
 /// A copy of each column.

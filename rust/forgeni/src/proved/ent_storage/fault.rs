@@ -18,7 +18,7 @@ use core::fmt;
 /// # Ok::<(), Box<dyn std::error::Error>>(())
 /// ```
 #[derive(Clone, Copy, Debug, PartialEq, Eq, Hash)]
-pub enum StorageFault {
+pub enum StorageError {
     /// No entity has that handle.
     Absent,
     /// An entity has that handle already.
@@ -27,22 +27,22 @@ pub enum StorageFault {
     Memory,
 }
 
-impl fmt::Display for StorageFault {
+impl fmt::Display for StorageError {
     #[inline]
     fn fmt(&self, f: &mut fmt::Formatter<'_>) -> fmt::Result {
         match self {
-            StorageFault::Absent => f.write_str("no such entity"),
-            StorageFault::Present => f.write_str("the entity is there already"),
-            StorageFault::Memory => f.write_str("out of memory"),
+            StorageError::Absent => f.write_str("no such entity"),
+            StorageError::Present => f.write_str("the entity is there already"),
+            StorageError::Memory => f.write_str("out of memory"),
         }
     }
 }
 
-impl Error for StorageFault {}
+impl Error for StorageError {}
 
-impl From<crate::proved::ent_handle::Memory> for StorageFault {
+impl From<crate::handles::OutOfMemory> for StorageError {
     #[inline]
-    fn from(_refused: crate::proved::ent_handle::Memory) -> Self {
-        StorageFault::Memory
+    fn from(_refused: crate::handles::OutOfMemory) -> Self {
+        StorageError::Memory
     }
 }

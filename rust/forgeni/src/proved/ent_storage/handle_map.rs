@@ -14,16 +14,16 @@ mod values;
 
 use alloc::vec::Vec;
 use crate::kit::vec::FallibleVec;
-use crate::proved::ent_storage::handle_map::emptying::move_values;
-pub use crate::proved::ent_storage::handle_map::entry::{Entry, OccupiedEntry, VacantEntry};
-pub use crate::proved::ent_storage::handle_map::error::InsertError;
-pub use crate::proved::ent_storage::handle_map::iter::Iter;
-pub use crate::proved::ent_storage::handle_map::keys::Keys;
-use crate::proved::ent_storage::handle_map::retaining::retain_slots;
-use crate::proved::ent_storage::handle_map::slot::{Slot, append_clones, make_slot};
-pub use crate::proved::ent_storage::handle_map::values::Values;
-use crate::proved::ent_storage::limit::Limit;
-use crate::proved::ent_handle::{HandedBack, Handle, Memory};
+use crate::components::handle_map::emptying::move_values;
+pub use crate::components::handle_map::entry::{Entry, OccupiedEntry, VacantEntry};
+pub use crate::components::handle_map::error::InsertError;
+pub use crate::components::handle_map::iter::Iter;
+pub use crate::components::handle_map::keys::Keys;
+use crate::components::handle_map::retaining::retain_slots;
+use crate::components::handle_map::slot::{Slot, append_clones, make_slot};
+pub use crate::components::handle_map::values::Values;
+use crate::components::limit::Limit;
+use crate::handles::{HandedBack, Handle, OutOfMemory};
 use core::mem;
 
 /// A value of any type for each of some handles: a component. At most one handle of a slot has a
@@ -94,6 +94,7 @@ pub struct HandleMap<T> {
     limit: Limit,
 }
 
+/// # Making one
 impl<T> HandleMap<T> {
     /// A map without values, and without a limit. It takes no memory.
     ///
@@ -194,212 +195,90 @@ impl<T> HandleMap<T> {
     ///
     /// </details>
     #[inline]
-    pub fn with_capacity(slots: usize) -> Result<Self, Memory> {
+    pub fn with_capacity(slots: usize) -> Result<Self, OutOfMemory> {
         Ok(HandleMap {
             slots: Vec::with_capacity_fallibly(slots)?,
             len: 0,
             limit: Limit::of(u32::MAX),
         })
     }
+}
 
-    /// For how many slots the map may have values, from slot 0 on: 4,294,967,295, which is no limit,
-    /// or the limit that was set.
+/// # Values
+impl<T> HandleMap<T> {
+    /// Gives the handle a value, and returns the one that it had. If an earlier occupant of the slot
+    /// has one, that is dropped.
     ///
-    /// ```
-    /// use forgeni::HandleMap;
-    ///
-    /// let names: HandleMap<&str> = HandleMap::new();
-    /// assert_eq!(names.limit(), u32::MAX);
-    /// assert_eq!(HandleMap::<&str>::with_limit(1_000).limit(), 1_000);
-    /// ```
-    ///
-    /// <details><summary>Contract</summary>
-    ///
-    /// In the words of the folder `specs/` of crate `ent_storage`:
-    ///
-    /// ```text
-    /// ensures { result ≡ self.now.limit }
-    /// ```
-    ///
-    /// </details>
-    #[must_use]
-    #[inline]
-    pub const fn limit(&self) -> u32 {
-        self.limit.slots()
-    }
-
-    /// Sets the limit. The map keeps the values that it has, even those of slots at or above the
-    /// limit.
+    /// If there is room for the slot ([`capacity`](Self::capacity)), it takes no memory, and
+    /// constant time. If not, it takes memory and time for all slots up to that of the handle.
     ///
     /// ```
     /// use forgeni::{Handle, HandleMap, InsertError};
     ///
-    /// let [third, fourth] = [Handle::new(3, 1).unwrap(), Handle::new(4, 1).unwrap()];
+    /// let [first, second] = [Handle::new(7, 1).unwrap(), Handle::new(7, 2).unwrap()];
     /// let mut map = HandleMap::new();
-    /// map.insert(third, "c")?;
-    /// map.set_limit(3);
-    /// assert_eq!((map.limit(), map.get(third)), (3, Some(&"c")));
-    /// assert_eq!(*map.insert(fourth, "d").unwrap_err().error(), InsertError::Limit);
+    /// assert_eq!(map.insert(first, "a")?, None);
+    /// assert_eq!(map.insert(first, "b")?, Some("a"));
+    /// assert_eq!(map.insert(second, "c")?, None);
+    /// assert_eq!((map.get(first), map.get(second)), (None, Some(&"c")));
+    ///
+    /// let refused = map.insert(first, "d").unwrap_err();
+    /// assert_eq!(refused.into_parts(), ("d", InsertError::Later));
     /// # Ok::<(), Box<dyn std::error::Error + Send + Sync>>(())
     /// ```
     ///
-    /// <details><summary>Contract</summary>
+    /// # Errors
     ///
-    /// In the words of the folder `specs/` of crate `ent_storage`:
+    /// [`HandedBack`] has the value, and nothing has changed. The reason is the first of these that
+    /// applies:
     ///
-    /// ```text
-    /// ensures { self.new ≡ record self.old { limit = limit } }
-    /// ```
-    ///
-    /// </details>
-    #[inline]
-    pub fn set_limit(&mut self, limit: u32) {
-        self.limit = Limit::of(limit);
-    }
-
-    /// How many values there are. It takes constant time.
-    ///
-    /// ```
-    /// use forgeni::HandleMap;
-    ///
-    /// let mut names = HandleMap::new();
-    /// names.insert("7v1".parse()?, "Ada")?;
-    /// names.insert("7v2".parse()?, "Bob")?;
-    /// // A slot has one value.
-    /// assert_eq!((names.len(), names.slots()), (1, 8));
-    /// # Ok::<(), Box<dyn std::error::Error>>(())
-    /// ```
+    /// - `Limit`: the handle's slot is at or above the [`limit`](Self::limit), or the handle is
+    ///   [`Handle::PLACEHOLDER`], which no map takes.
+    /// - `Later`: a later occupant of the slot has a value.
+    /// - `Memory`: memory ran out.
     ///
     /// <details><summary>Contract</summary>
     ///
     /// In the words of the folder `specs/` of crate `ent_storage`:
     ///
     /// ```text
-    /// ensures { result ≡ map.len self.now.values }
+    /// ensures ok { OnOk result (self.new.values
+    ///     ≡ map.insert (without_slot self.old.values handle.index) handle value) }
+    /// ensures before { IfOk result (λ before. before ≡ map.get self.old.values handle) }
+    /// ensures slots { OnOk result (self.new.slots ≡ max self.old.slots (handle.index + 1)) }
+    /// ensures room { self.old.room ≤ self.new.room }
+    /// ensures kept { self.new.limit ≡ self.old.limit }
+    ///
+    /// ensures limit { (error_of result ≡ Some InsertError.Limit)
+    ///     ↔ IsBeyond self.old.limit handle }
+    /// ensures later { (error_of result ≡ Some InsertError.Later)
+    ///     ↔ (¬ (IsBeyond self.old.limit handle) × HasLater self.old.values handle) }
+    /// ensures memory { error_of result ≡ Some InsertError.Memory → self.old.room ≤ handle.index }
+    /// ensures back { IfErr result (λ refused. refused.value ≡ value) }
+    /// ensures err { OnErr result (self.new ≡ self.old) }
     /// ```
     ///
     /// </details>
-    #[must_use]
     #[inline]
-    pub fn len(&self) -> usize {
-        self.len
-    }
-
-    /// Whether there is no value.
-    ///
-    /// ```
-    /// use forgeni::HandleMap;
-    ///
-    /// let mut burning = HandleMap::new();
-    /// let cart = "0v1".parse()?;
-    /// burning.insert(cart, 3)?;
-    /// burning.remove(cart);
-    /// assert!(burning.is_empty());
-    /// # Ok::<(), Box<dyn std::error::Error>>(())
-    /// ```
-    ///
-    /// <details><summary>Contract</summary>
-    ///
-    /// In the words of the folder `specs/` of crate `ent_storage`:
-    ///
-    /// ```text
-    /// ensures { IsTrue result ↔ (map.len self.now.values ≡ 0) }
-    /// ```
-    ///
-    /// </details>
-    #[must_use]
-    #[inline]
-    pub fn is_empty(&self) -> bool {
-        self.len() == 0
-    }
-
-    /// How many slots there is room for. Inserting a handle whose index is below it takes no
-    /// memory.
-    ///
-    /// ```
-    /// use forgeni::{Handle, HandleMap};
-    ///
-    /// let mut names = HandleMap::with_capacity(100)?;
-    /// let last = Handle::new(99, 1).ok_or("out of range")?;
-    /// assert!(names.capacity() > last.index() as usize);
-    /// names.insert(last, "Ada")?;
-    /// assert_eq!(names.capacity(), 100);
-    /// # Ok::<(), Box<dyn std::error::Error>>(())
-    /// ```
-    ///
-    /// <details><summary>Contract</summary>
-    ///
-    /// In the words of the folder `specs/` of crate `ent_storage`:
-    ///
-    /// ```text
-    /// ensures { result ≡ self.now.room }
-    /// ```
-    ///
-    /// </details>
-    #[must_use]
-    #[inline]
-    pub fn capacity(&self) -> usize {
-        self.slots.sized_capacity()
-    }
-
-    /// How many slots there are. They reach up to the slot with the greatest index of those that
-    /// were given a value since the map was made or cleared.
-    ///
-    /// ```
-    /// use forgeni::HandleMap;
-    ///
-    /// let mut names = HandleMap::new();
-    /// let ada = "99v1".parse()?;
-    /// names.insert(ada, "Ada")?;
-    /// names.remove(ada);
-    /// // A walk looks at each of them.
-    /// assert_eq!((names.len(), names.slots()), (0, 100));
-    /// # Ok::<(), Box<dyn std::error::Error>>(())
-    /// ```
-    ///
-    /// <details><summary>Contract</summary>
-    ///
-    /// In the words of the folder `specs/` of crate `ent_storage`:
-    ///
-    /// ```text
-    /// ensures value { result ≡ self.now.slots }
-    /// ensures room { self.now.slots ≤ self.now.room }
-    /// ensures values { (handle : Handle) → IsSome (map.get self.now.values handle)
-    ///     → handle.index < self.now.slots }
-    /// ```
-    ///
-    /// </details>
-    #[must_use]
-    #[inline]
-    pub fn slots(&self) -> usize {
-        self.slots.len()
-    }
-
-    /// Whether the handle has a value. It takes constant time.
-    ///
-    /// ```
-    /// use forgeni::HandleMap;
-    ///
-    /// let mut burning = HandleMap::new();
-    /// let (old, new) = ("7v1".parse()?, "7v2".parse()?);
-    /// burning.insert(old, 3)?;
-    /// assert!(burning.contains(old) && !burning.contains(new));
-    /// # Ok::<(), Box<dyn std::error::Error>>(())
-    /// ```
-    ///
-    /// <details><summary>Contract</summary>
-    ///
-    /// In the words of the folder `specs/` of crate `ent_storage`:
-    ///
-    /// ```text
-    /// ensures { result ≡ map.contains_key self.now.values handle }
-    /// ```
-    ///
-    /// </details>
-    #[must_use]
-    #[inline]
-    pub fn contains(&self, handle: Handle) -> bool {
-        self.get(handle).is_some()
+    pub fn insert(
+        &mut self,
+        handle: Handle,
+        value: T,
+    ) -> Result<Option<T>, HandedBack<T, InsertError>> {
+        if self.limit.refuses(handle) {
+            return Err(HandedBack::new(value, InsertError::Limit));
+        }
+        let index = index_of(handle);
+        let standing = generation_in(&self.slots, index);
+        if handle.generation() < standing {
+            return Err(HandedBack::new(value, InsertError::Later));
+        }
+        let Ok(()) = make_slot(&mut self.slots, index) else {
+            return Err(HandedBack::new(value, InsertError::Memory));
+        };
+        let before = mem::replace(&mut self.slots[index], Slot::of(handle, value));
+        self.len += before.lacking();
+        Ok(before.into_value(handle.generation()))
     }
 
     /// The value of the handle, if it has one. It takes constant time.
@@ -471,65 +350,88 @@ impl<T> HandleMap<T> {
         }
     }
 
-    /// The value of a handle that has one.
-    #[inline]
-    fn value_mut(&mut self, handle: Handle) -> &mut T
-        // requires { IsSome (map.get self.old.values handle) }
-        // ensures* writes_back { sem 𝓛 (lends_value T.row self.entry handle result) }
-        // ensures value { map.get self.old.values handle ≡ Some result.now }
-    {
-        self.slots[handle.index() as usize].value_mut()
-    }
-
-    /// Makes room for that many slots more than there [are](Self::slots), as `Vec::reserve` does.
-    /// It takes no memory if there is room.
+    /// Removes the value of the handle, and returns it if it had one. It takes constant time and no
+    /// memory.
     ///
     /// ```
     /// use forgeni::{Handle, HandleMap};
     ///
-    /// let mut map = HandleMap::new();
-    /// map.insert(Handle::new(9, 1).unwrap(), "last")?;
-    /// map.reserve(90)?;
-    /// assert!(map.slots() == 10 && map.capacity() >= 100);
+    /// let crate_of_gold = Handle::new(0, 1).unwrap();
+    /// let mut weight = HandleMap::new();
+    /// weight.insert(crate_of_gold, 900)?;
+    /// assert_eq!(weight.remove(crate_of_gold), Some(900));
+    /// assert_eq!(weight.remove(crate_of_gold), None);
     /// # Ok::<(), Box<dyn std::error::Error + Send + Sync>>(())
     /// ```
-    ///
-    /// # Errors
-    ///
-    /// Out of memory. Nothing has changed.
     ///
     /// <details><summary>Contract</summary>
     ///
     /// In the words of the folder `specs/` of crate `ent_storage`:
     ///
     /// ```text
-    /// ensures room { OnOk result (self.old.slots + additional ≤ self.new.room) }
-    /// ensures kept { self.new ≡ record self.old { room = self.new.room } }
-    /// ensures grows { self.old.room ≤ self.new.room }
-    /// ensures in_place { self.old.slots + additional ≤ self.old.room → self.new ≡ self.old }
-    /// ensures memory { OnErr result (self.old.room < self.old.slots + additional) }
-    /// ensures err { OnErr result (self.new ≡ self.old) }
+    /// ensures value { result ≡ map.get self.old.values handle }
+    /// ensures map { self.new
+    ///     ≡ record self.old { values = map.remove self.old.values handle } }
     /// ```
     ///
     /// </details>
     #[inline]
-    pub fn reserve(&mut self, additional: usize) -> Result<(), Memory> {
-        if self.slots.sized_capacity() - self.slots.len() < additional {
-            self.slots.reserve_fallibly(additional)?;
+    pub fn remove(&mut self, handle: Handle) -> Option<T> {
+        if !self.contains(handle) {
+            return None;
         }
-        Ok(())
+        self.len -= 1;
+        let slot = mem::replace(&mut self.slots[handle.index() as usize], Slot::Vacant);
+        slot.into_value(handle.generation())
     }
 
-    /// Frees the room that no slot needs, as `Vec::shrink_to_fit` does. If there is no memory to
-    /// move the slots to, the room stays.
+    /// Whether the handle has a value. It takes constant time.
     ///
     /// ```
-    /// use forgeni::{Handle, HandleMap};
+    /// use forgeni::HandleMap;
     ///
-    /// let mut map = HandleMap::with_capacity(1000)?;
-    /// map.insert(Handle::new(9, 1).unwrap(), "last")?;
-    /// map.shrink_to_fit();
-    /// assert_eq!((map.slots(), map.capacity()), (10, 10));
+    /// let mut burning = HandleMap::new();
+    /// let (old, new) = ("7v1".parse()?, "7v2".parse()?);
+    /// burning.insert(old, 3)?;
+    /// assert!(burning.contains(old) && !burning.contains(new));
+    /// # Ok::<(), Box<dyn std::error::Error>>(())
+    /// ```
+    ///
+    /// <details><summary>Contract</summary>
+    ///
+    /// In the words of the folder `specs/` of crate `ent_storage`:
+    ///
+    /// ```text
+    /// ensures { result ≡ map.contains_key self.now.values handle }
+    /// ```
+    ///
+    /// </details>
+    #[must_use]
+    #[inline]
+    pub fn contains(&self, handle: Handle) -> bool {
+        self.get(handle).is_some()
+    }
+
+    /// What the map has for the handle: a value, or none. Each call of the entry looks for the
+    /// handle once more.
+    ///
+    /// ```
+    /// use forgeni::handle_map::Entry;
+    /// use forgeni::{Entities, HandleMap};
+    ///
+    /// let mut entities = Entities::new();
+    /// let mut hits: HandleMap<u32> = HandleMap::new();
+    /// let [ball, cart] = [entities.alloc()?, entities.alloc()?];
+    /// for one in [ball, cart, ball] {
+    ///     *hits.entry(one).or_insert(0)? += 1;
+    /// }
+    /// hits.entry(cart).and_modify(|hits| *hits += 10).or_insert(1)?;
+    /// assert_eq!((hits[ball], hits[cart]), (2, 11));
+    ///
+    /// if let Entry::Occupied(entry) = hits.entry(ball) {
+    ///     assert_eq!(entry.remove(), 2);
+    /// }
+    /// assert!(!hits.contains(ball));
     /// # Ok::<(), Box<dyn std::error::Error + Send + Sync>>(())
     /// ```
     ///
@@ -538,18 +440,26 @@ impl<T> HandleMap<T> {
     /// In the words of the folder `specs/` of crate `ent_storage`:
     ///
     /// ```text
-    /// ensures kept { self.new ≡ record self.old { room = self.new.room } }
-    /// ensures shrinks { self.new.room ≤ self.old.room }
-    /// ensures fits { self.old.slots ≤ self.new.room }
-    /// ensures frees { self.old.slots ≡ 0 → self.new.room ≡ 0 }
+    /// ensures handle { entry_handle result ≡ handle }
+    /// ensures value { entry_value result ≡ map.get self.old.values handle }
+    /// ensures map { entry_map result ≡ self.old }
+    /// ensures same_map { (entry_ref result).ghost_name ≡ self.entry.ghost_name }
     /// ```
     ///
     /// </details>
+    #[must_use]
     #[inline]
-    pub fn shrink_to_fit(&mut self) {
-        self.slots.shrink_to_fit_fallibly();
+    pub fn entry(&mut self, handle: Handle) -> Entry<'_, T> {
+        if self.contains(handle) {
+            Entry::Occupied(OccupiedEntry { map: self, handle })
+        } else {
+            Entry::Vacant(VacantEntry { map: self, handle })
+        }
     }
+}
 
+/// # All values
+impl<T> HandleMap<T> {
     /// The handles and their values, by rising slot. It takes time for each slot.
     ///
     /// ```
@@ -633,163 +543,6 @@ impl<T> HandleMap<T> {
     pub fn values(&self) -> Values<'_, T> {
         Values::new(self.iter())
     }
-}
-
-impl<T> HandleMap<T> {
-    /// Gives the handle a value, and returns the one that it had. If an earlier occupant of the slot
-    /// has one, that is dropped.
-    ///
-    /// If there is room for the slot ([`capacity`](Self::capacity)), it takes no memory, and
-    /// constant time. If not, it takes memory and time for all slots up to that of the handle.
-    ///
-    /// ```
-    /// use forgeni::{Handle, HandleMap, InsertError};
-    ///
-    /// let [first, second] = [Handle::new(7, 1).unwrap(), Handle::new(7, 2).unwrap()];
-    /// let mut map = HandleMap::new();
-    /// assert_eq!(map.insert(first, "a")?, None);
-    /// assert_eq!(map.insert(first, "b")?, Some("a"));
-    /// assert_eq!(map.insert(second, "c")?, None);
-    /// assert_eq!((map.get(first), map.get(second)), (None, Some(&"c")));
-    ///
-    /// let refused = map.insert(first, "d").unwrap_err();
-    /// assert_eq!(refused.into_parts(), ("d", InsertError::Later));
-    /// # Ok::<(), Box<dyn std::error::Error + Send + Sync>>(())
-    /// ```
-    ///
-    /// # Errors
-    ///
-    /// [`HandedBack`] has the value, and nothing has changed. The reason is the first of these that
-    /// applies:
-    ///
-    /// - `Limit`: the handle's slot is at or above the [`limit`](Self::limit), or the handle is
-    ///   [`Handle::PLACEHOLDER`], which no map takes.
-    /// - `Later`: a later occupant of the slot has a value.
-    /// - `Memory`: memory ran out.
-    ///
-    /// <details><summary>Contract</summary>
-    ///
-    /// In the words of the folder `specs/` of crate `ent_storage`:
-    ///
-    /// ```text
-    /// ensures ok { OnOk result (self.new.values
-    ///     ≡ map.insert (without_slot self.old.values handle.index) handle value) }
-    /// ensures before { IfOk result (λ before. before ≡ map.get self.old.values handle) }
-    /// ensures slots { OnOk result (self.new.slots ≡ max self.old.slots (handle.index + 1)) }
-    /// ensures room { self.old.room ≤ self.new.room }
-    /// ensures kept { self.new.limit ≡ self.old.limit }
-    ///
-    /// ensures limit { (error_of result ≡ Some InsertError.Limit)
-    ///     ↔ IsBeyond self.old.limit handle }
-    /// ensures later { (error_of result ≡ Some InsertError.Later)
-    ///     ↔ (¬ (IsBeyond self.old.limit handle) × HasLater self.old.values handle) }
-    /// ensures memory { error_of result ≡ Some InsertError.Memory → self.old.room ≤ handle.index }
-    /// ensures back { IfErr result (λ refused. refused.value ≡ value) }
-    /// ensures err { OnErr result (self.new ≡ self.old) }
-    /// ```
-    ///
-    /// </details>
-    #[inline]
-    pub fn insert(
-        &mut self,
-        handle: Handle,
-        value: T,
-    ) -> Result<Option<T>, HandedBack<T, InsertError>> {
-        if self.limit.refuses(handle) {
-            return Err(HandedBack::new(value, InsertError::Limit));
-        }
-        let index = index_of(handle);
-        let standing = generation_in(&self.slots, index);
-        if handle.generation() < standing {
-            return Err(HandedBack::new(value, InsertError::Later));
-        }
-        let Ok(()) = make_slot(&mut self.slots, index) else {
-            return Err(HandedBack::new(value, InsertError::Memory));
-        };
-        let before = mem::replace(&mut self.slots[index], Slot::of(handle, value));
-        self.len += before.lacking();
-        Ok(before.into_value(handle.generation()))
-    }
-
-    /// What the map has for the handle: a value, or none. Each call of the entry looks for the
-    /// handle once more.
-    ///
-    /// ```
-    /// use forgeni::handle_map::Entry;
-    /// use forgeni::{Entities, HandleMap};
-    ///
-    /// let mut entities = Entities::new();
-    /// let mut hits: HandleMap<u32> = HandleMap::new();
-    /// let [ball, cart] = [entities.alloc()?, entities.alloc()?];
-    /// for one in [ball, cart, ball] {
-    ///     *hits.entry(one).or_insert(0)? += 1;
-    /// }
-    /// hits.entry(cart).and_modify(|hits| *hits += 10).or_insert(1)?;
-    /// assert_eq!((hits[ball], hits[cart]), (2, 11));
-    ///
-    /// if let Entry::Occupied(entry) = hits.entry(ball) {
-    ///     assert_eq!(entry.remove(), 2);
-    /// }
-    /// assert!(!hits.contains(ball));
-    /// # Ok::<(), Box<dyn std::error::Error + Send + Sync>>(())
-    /// ```
-    ///
-    /// <details><summary>Contract</summary>
-    ///
-    /// In the words of the folder `specs/` of crate `ent_storage`:
-    ///
-    /// ```text
-    /// ensures handle { entry_handle result ≡ handle }
-    /// ensures value { entry_value result ≡ map.get self.old.values handle }
-    /// ensures map { entry_map result ≡ self.old }
-    /// ensures same_map { (entry_ref result).ghost_name ≡ self.entry.ghost_name }
-    /// ```
-    ///
-    /// </details>
-    #[must_use]
-    #[inline]
-    pub fn entry(&mut self, handle: Handle) -> Entry<'_, T> {
-        if self.contains(handle) {
-            Entry::Occupied(OccupiedEntry { map: self, handle })
-        } else {
-            Entry::Vacant(VacantEntry { map: self, handle })
-        }
-    }
-
-    /// Removes the value of the handle, and returns it if it had one. It takes constant time and no
-    /// memory.
-    ///
-    /// ```
-    /// use forgeni::{Handle, HandleMap};
-    ///
-    /// let crate_of_gold = Handle::new(0, 1).unwrap();
-    /// let mut weight = HandleMap::new();
-    /// weight.insert(crate_of_gold, 900)?;
-    /// assert_eq!(weight.remove(crate_of_gold), Some(900));
-    /// assert_eq!(weight.remove(crate_of_gold), None);
-    /// # Ok::<(), Box<dyn std::error::Error + Send + Sync>>(())
-    /// ```
-    ///
-    /// <details><summary>Contract</summary>
-    ///
-    /// In the words of the folder `specs/` of crate `ent_storage`:
-    ///
-    /// ```text
-    /// ensures value { result ≡ map.get self.old.values handle }
-    /// ensures map { self.new
-    ///     ≡ record self.old { values = map.remove self.old.values handle } }
-    /// ```
-    ///
-    /// </details>
-    #[inline]
-    pub fn remove(&mut self, handle: Handle) -> Option<T> {
-        if !self.contains(handle) {
-            return None;
-        }
-        self.len -= 1;
-        let slot = mem::replace(&mut self.slots[handle.index() as usize], Slot::Vacant);
-        slot.into_value(handle.generation())
-    }
 
     /// Calls `keep` on each value once, by rising slot, and drops the values for which it returns
     /// `false`. It may change those that stay. The room stays.
@@ -833,38 +586,6 @@ impl<T> HandleMap<T> {
         retain_slots(&mut self.slots, &mut self.len, keep);
     }
 
-    /// The handles and their values, by rising slot.
-    ///
-    /// ```
-    /// use forgeni::{Handle, HandleMap};
-    ///
-    /// let handle = |index| Handle::new(index, 1).unwrap();
-    /// let names: HandleMap<&str> = [(handle(8), "Bob"), (handle(3), "Ada")].into_iter().collect();
-    /// assert_eq!(names.into_entries()?, [(handle(3), "Ada"), (handle(8), "Bob")]);
-    /// # Ok::<(), forgeni::OutOfMemory>(())
-    /// ```
-    ///
-    /// # Errors
-    ///
-    /// Out of memory. The values are dropped.
-    ///
-    /// <details><summary>Contract</summary>
-    ///
-    /// In the words of the folder `specs/` of crate `ent_storage`:
-    ///
-    /// ```text
-    /// ensures entries { IfOk result (λ all. all.items ≡ map.entries self.values) }
-    /// ensures memory { OnErr result (0 < map.len self.values) }
-    /// ```
-    ///
-    /// </details>
-    #[inline]
-    pub fn into_entries(self) -> Result<Vec<(Handle, T)>, Memory> {
-        let mut all = Vec::with_capacity_fallibly(self.len)?;
-        move_values(self.slots, self.len, &mut all);
-        Ok(all)
-    }
-
     /// Drops all values. The room stays.
     ///
     /// ```
@@ -894,8 +615,298 @@ impl<T> HandleMap<T> {
         self.len = 0;
         self.slots.clear();
     }
+
+    /// The handles and their values, by rising slot.
+    ///
+    /// ```
+    /// use forgeni::{Handle, HandleMap};
+    ///
+    /// let handle = |index| Handle::new(index, 1).unwrap();
+    /// let names: HandleMap<&str> = [(handle(8), "Bob"), (handle(3), "Ada")].into_iter().collect();
+    /// assert_eq!(names.into_entries()?, [(handle(3), "Ada"), (handle(8), "Bob")]);
+    /// # Ok::<(), forgeni::OutOfMemory>(())
+    /// ```
+    ///
+    /// # Errors
+    ///
+    /// Out of memory. The values are dropped.
+    ///
+    /// <details><summary>Contract</summary>
+    ///
+    /// In the words of the folder `specs/` of crate `ent_storage`:
+    ///
+    /// ```text
+    /// ensures entries { IfOk result (λ all. all.items ≡ map.entries self.values) }
+    /// ensures memory { OnErr result (0 < map.len self.values) }
+    /// ```
+    ///
+    /// </details>
+    #[inline]
+    pub fn into_entries(self) -> Result<Vec<(Handle, T)>, OutOfMemory> {
+        let mut all = Vec::with_capacity_fallibly(self.len)?;
+        move_values(self.slots, self.len, &mut all);
+        Ok(all)
+    }
 }
 
+/// # Counts and room
+impl<T> HandleMap<T> {
+    /// How many values there are. It takes constant time.
+    ///
+    /// ```
+    /// use forgeni::HandleMap;
+    ///
+    /// let mut names = HandleMap::new();
+    /// names.insert("7v1".parse()?, "Ada")?;
+    /// names.insert("7v2".parse()?, "Bob")?;
+    /// // A slot has one value.
+    /// assert_eq!((names.len(), names.slots()), (1, 8));
+    /// # Ok::<(), Box<dyn std::error::Error>>(())
+    /// ```
+    ///
+    /// <details><summary>Contract</summary>
+    ///
+    /// In the words of the folder `specs/` of crate `ent_storage`:
+    ///
+    /// ```text
+    /// ensures { result ≡ map.len self.now.values }
+    /// ```
+    ///
+    /// </details>
+    #[must_use]
+    #[inline]
+    pub fn len(&self) -> usize {
+        self.len
+    }
+
+    /// Whether there is no value.
+    ///
+    /// ```
+    /// use forgeni::HandleMap;
+    ///
+    /// let mut burning = HandleMap::new();
+    /// let cart = "0v1".parse()?;
+    /// burning.insert(cart, 3)?;
+    /// burning.remove(cart);
+    /// assert!(burning.is_empty());
+    /// # Ok::<(), Box<dyn std::error::Error>>(())
+    /// ```
+    ///
+    /// <details><summary>Contract</summary>
+    ///
+    /// In the words of the folder `specs/` of crate `ent_storage`:
+    ///
+    /// ```text
+    /// ensures { IsTrue result ↔ (map.len self.now.values ≡ 0) }
+    /// ```
+    ///
+    /// </details>
+    #[must_use]
+    #[inline]
+    pub fn is_empty(&self) -> bool {
+        self.len() == 0
+    }
+
+    /// How many slots there are. They reach up to the slot with the greatest index of those that
+    /// were given a value since the map was made or cleared.
+    ///
+    /// ```
+    /// use forgeni::HandleMap;
+    ///
+    /// let mut names = HandleMap::new();
+    /// let ada = "99v1".parse()?;
+    /// names.insert(ada, "Ada")?;
+    /// names.remove(ada);
+    /// // A walk looks at each of them.
+    /// assert_eq!((names.len(), names.slots()), (0, 100));
+    /// # Ok::<(), Box<dyn std::error::Error>>(())
+    /// ```
+    ///
+    /// <details><summary>Contract</summary>
+    ///
+    /// In the words of the folder `specs/` of crate `ent_storage`:
+    ///
+    /// ```text
+    /// ensures value { result ≡ self.now.slots }
+    /// ensures room { self.now.slots ≤ self.now.room }
+    /// ensures values { (handle : Handle) → IsSome (map.get self.now.values handle)
+    ///     → handle.index < self.now.slots }
+    /// ```
+    ///
+    /// </details>
+    #[must_use]
+    #[inline]
+    pub fn slots(&self) -> usize {
+        self.slots.len()
+    }
+
+    /// For how many slots the map may have values, from slot 0 on: 4,294,967,295, which is no limit,
+    /// or the limit that was set.
+    ///
+    /// ```
+    /// use forgeni::HandleMap;
+    ///
+    /// let names: HandleMap<&str> = HandleMap::new();
+    /// assert_eq!(names.limit(), u32::MAX);
+    /// assert_eq!(HandleMap::<&str>::with_limit(1_000).limit(), 1_000);
+    /// ```
+    ///
+    /// <details><summary>Contract</summary>
+    ///
+    /// In the words of the folder `specs/` of crate `ent_storage`:
+    ///
+    /// ```text
+    /// ensures { result ≡ self.now.limit }
+    /// ```
+    ///
+    /// </details>
+    #[must_use]
+    #[inline]
+    pub const fn limit(&self) -> u32 {
+        self.limit.slots()
+    }
+
+    /// Sets the limit. The map keeps the values that it has, even those of slots at or above the
+    /// limit.
+    ///
+    /// ```
+    /// use forgeni::{Handle, HandleMap, InsertError};
+    ///
+    /// let [third, fourth] = [Handle::new(3, 1).unwrap(), Handle::new(4, 1).unwrap()];
+    /// let mut map = HandleMap::new();
+    /// map.insert(third, "c")?;
+    /// map.set_limit(3);
+    /// assert_eq!((map.limit(), map.get(third)), (3, Some(&"c")));
+    /// assert_eq!(*map.insert(fourth, "d").unwrap_err().error(), InsertError::Limit);
+    /// # Ok::<(), Box<dyn std::error::Error + Send + Sync>>(())
+    /// ```
+    ///
+    /// <details><summary>Contract</summary>
+    ///
+    /// In the words of the folder `specs/` of crate `ent_storage`:
+    ///
+    /// ```text
+    /// ensures { self.new ≡ record self.old { limit = limit } }
+    /// ```
+    ///
+    /// </details>
+    #[inline]
+    pub fn set_limit(&mut self, limit: u32) {
+        self.limit = Limit::of(limit);
+    }
+
+    /// How many slots there is room for. Inserting a handle whose index is below it takes no
+    /// memory.
+    ///
+    /// ```
+    /// use forgeni::{Handle, HandleMap};
+    ///
+    /// let mut names = HandleMap::with_capacity(100)?;
+    /// let last = Handle::new(99, 1).ok_or("out of range")?;
+    /// assert!(names.capacity() > last.index() as usize);
+    /// names.insert(last, "Ada")?;
+    /// assert_eq!(names.capacity(), 100);
+    /// # Ok::<(), Box<dyn std::error::Error>>(())
+    /// ```
+    ///
+    /// <details><summary>Contract</summary>
+    ///
+    /// In the words of the folder `specs/` of crate `ent_storage`:
+    ///
+    /// ```text
+    /// ensures { result ≡ self.now.room }
+    /// ```
+    ///
+    /// </details>
+    #[must_use]
+    #[inline]
+    pub fn capacity(&self) -> usize {
+        self.slots.sized_capacity()
+    }
+
+    /// Makes room for that many slots more than there [are](Self::slots), as `Vec::reserve` does.
+    /// It takes no memory if there is room.
+    ///
+    /// ```
+    /// use forgeni::{Handle, HandleMap};
+    ///
+    /// let mut map = HandleMap::new();
+    /// map.insert(Handle::new(9, 1).unwrap(), "last")?;
+    /// map.reserve(90)?;
+    /// assert!(map.slots() == 10 && map.capacity() >= 100);
+    /// # Ok::<(), Box<dyn std::error::Error + Send + Sync>>(())
+    /// ```
+    ///
+    /// # Errors
+    ///
+    /// Out of memory. Nothing has changed.
+    ///
+    /// <details><summary>Contract</summary>
+    ///
+    /// In the words of the folder `specs/` of crate `ent_storage`:
+    ///
+    /// ```text
+    /// ensures room { OnOk result (self.old.slots + additional ≤ self.new.room) }
+    /// ensures kept { self.new ≡ record self.old { room = self.new.room } }
+    /// ensures grows { self.old.room ≤ self.new.room }
+    /// ensures in_place { self.old.slots + additional ≤ self.old.room → self.new ≡ self.old }
+    /// ensures memory { OnErr result (self.old.room < self.old.slots + additional) }
+    /// ensures err { OnErr result (self.new ≡ self.old) }
+    /// ```
+    ///
+    /// </details>
+    #[inline]
+    pub fn reserve(&mut self, additional: usize) -> Result<(), OutOfMemory> {
+        if self.slots.sized_capacity() - self.slots.len() < additional {
+            self.slots.reserve_fallibly(additional)?;
+        }
+        Ok(())
+    }
+
+    /// Frees the room that no slot needs, as `Vec::shrink_to_fit` does. If there is no memory to
+    /// move the slots to, the room stays.
+    ///
+    /// ```
+    /// use forgeni::{Handle, HandleMap};
+    ///
+    /// let mut map = HandleMap::with_capacity(1000)?;
+    /// map.insert(Handle::new(9, 1).unwrap(), "last")?;
+    /// map.shrink_to_fit();
+    /// assert_eq!((map.slots(), map.capacity()), (10, 10));
+    /// # Ok::<(), Box<dyn std::error::Error + Send + Sync>>(())
+    /// ```
+    ///
+    /// <details><summary>Contract</summary>
+    ///
+    /// In the words of the folder `specs/` of crate `ent_storage`:
+    ///
+    /// ```text
+    /// ensures kept { self.new ≡ record self.old { room = self.new.room } }
+    /// ensures shrinks { self.new.room ≤ self.old.room }
+    /// ensures fits { self.old.slots ≤ self.new.room }
+    /// ensures frees { self.old.slots ≡ 0 → self.new.room ≡ 0 }
+    /// ```
+    ///
+    /// </details>
+    #[inline]
+    pub fn shrink_to_fit(&mut self) {
+        self.slots.shrink_to_fit_fallibly();
+    }
+}
+
+impl<T> HandleMap<T> {
+    /// The value of a handle that has one.
+    #[inline]
+    fn value_mut(&mut self, handle: Handle) -> &mut T
+        // requires { IsSome (map.get self.old.values handle) }
+        // ensures* writes_back { sem 𝓛 (lends_value T.row self.entry handle result) }
+        // ensures value { map.get self.old.values handle ≡ Some result.now }
+    {
+        self.slots[handle.index() as usize].value_mut()
+    }
+}
+
+/// # Snapshots
 impl<T: Clone> HandleMap<T> {
     /// A map with a clone of each value, and with the same slots and the same limit. Without slots it
     /// takes no memory.
@@ -931,7 +942,7 @@ impl<T: Clone> HandleMap<T> {
     ///
     /// </details>
     #[inline]
-    pub fn try_clone(&self) -> Result<Self, Memory> {
+    pub fn try_clone(&self) -> Result<Self, OutOfMemory> {
         let mut slots = Vec::with_capacity_fallibly(self.slots.len())?;
         append_clones(&mut slots, &self.slots)?;
         Ok(HandleMap {
@@ -997,7 +1008,7 @@ impl<T: Clone> HandleMap<T> {
     ///
     /// </details>
     #[inline]
-    pub fn try_clone_from(&mut self, source: &Self) -> Result<(), Memory> {
+    pub fn try_clone_from(&mut self, source: &Self) -> Result<(), OutOfMemory> {
         if self.slots.sized_capacity() < source.slots.len() {
             *self = source.try_clone()?;
             return Ok(());

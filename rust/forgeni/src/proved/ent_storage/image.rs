@@ -5,10 +5,10 @@
 use alloc::vec::Vec;
 use crate::kit::prove_eq;
 use crate::kit::vec::FallibleVec;
-use crate::proved::ent_storage::image_fault::StorageImageFault;
-use crate::proved::ent_storage::storage::Storage;
-use crate::proved::ent_handle::{
-    Birth, ComponentId, Handle, Memory, read_long, read_word, write_long, write_word,
+use crate::components::image_fault::StorageImageFault;
+use crate::components::storage::Storage;
+use crate::handles::{
+    Birth, ComponentId, Handle, OutOfMemory, read_long, read_word, write_long, write_word,
 };
 
 /// Appends a birth. There is room for its 16 bytes.
@@ -238,7 +238,7 @@ impl Storage {
         handle: Handle,
         id: ComponentId,
         value: Option<i64>,
-    ) -> Result<(), Memory>
+    ) -> Result<(), OutOfMemory>
         // requires at { slice_get self.old.places place ≡ Some handle }
         // requires there { is_some (birth_of self.old.entities handle) ≡ true }
         // requires free { value_of self.old.entities handle id ≡ None }
@@ -268,7 +268,7 @@ impl Storage {
         place: usize,
         handle: Handle,
         item: (ComponentId, i64),
-    ) -> Result<(), Memory>
+    ) -> Result<(), OutOfMemory>
         // requires { slice_get self.old.places place ≡ Some handle }
         // ensures ok { OnOk result (self.new.entities
         //     ≡ with_components self.old.entities handle (λ held. with_items held (item ∷ []))) }
@@ -297,7 +297,7 @@ fn read_values<'a>(
     handle: Handle,
     width: u32,
     bytes: &'a [u8],
-) -> Result<Option<&'a [u8]>, Memory>
+) -> Result<Option<&'a [u8]>, OutOfMemory>
     // requires at { slice_get storage.old.places place ≡ Some handle }
     // requires few { width ≤ 256 }
     // requires there { is_some (birth_of storage.old.entities handle) ≡ true }
@@ -336,7 +336,7 @@ fn read_entity<'a>(
     handle: Handle,
     width: u32,
     bytes: &'a [u8],
-) -> Result<Option<&'a [u8]>, Memory>
+) -> Result<Option<&'a [u8]>, OutOfMemory>
     // requires new { map.get storage.old.entities handle ≡ None }
     // requires few { width ≤ 256 }
     // requires room { 0 < storage.old.spare }

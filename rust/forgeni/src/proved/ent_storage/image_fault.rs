@@ -1,6 +1,6 @@
 // Made of crates/ent_storage/src/image_fault.rt by rust/erase. It isn't edited by hand.
 
-use crate::proved::ent_handle::Memory;
+use crate::handles::OutOfMemory;
 
 /// Why bytes were not read as the entities of a storage.
 ///
@@ -47,9 +47,9 @@ impl core::fmt::Display for StorageImageFault {
 
 impl core::error::Error for StorageImageFault {}
 
-impl From<Memory> for StorageImageFault {
+impl From<OutOfMemory> for StorageImageFault {
     #[inline]
-    fn from(_refused: Memory) -> Self {
+    fn from(_refused: OutOfMemory) -> Self {
         StorageImageFault::Memory
     }
 }

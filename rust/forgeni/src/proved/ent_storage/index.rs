@@ -6,7 +6,7 @@ use super::key::Key;
 use super::living::{Living, has_key_at};
 use super::places::MOST_PLACES;
 use super::slot::{at_slot, is_gap, search_slot};
-use crate::proved::ent_handle::Handle;
+use crate::handles::Handle;
 use crate::kit::alloc::AllocError;
 
 /// The place of each entity, and places of entities that are gone. The pairs are in the order of

@@ -2,7 +2,7 @@
 
 use super::columns;
 use super::sparse_set::SparseSet;
-use crate::proved::ent_handle::ComponentId;
+use crate::handles::ComponentId;
 
 /// The components of one entity and their values, by rising number.
 ///

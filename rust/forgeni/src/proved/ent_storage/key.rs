@@ -1,6 +1,6 @@
 // Made of crates/ent_storage/src/key.rt by rust/erase. It isn't edited by hand.
 
-use crate::proved::ent_handle::Handle;
+use crate::handles::Handle;
 
 /// A handle as the index keeps it: two numbers, which are aligned as such. A handle of the package
 /// in plain Rust is aligned to 8 bytes, and a pair with it would have 16 bytes instead of 12.

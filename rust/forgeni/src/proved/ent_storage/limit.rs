@@ -1,6 +1,6 @@
 // Made of crates/ent_storage/src/limit.rt by rust/erase. It isn't edited by hand.
 
-use crate::proved::ent_handle::Handle;
+use crate::handles::Handle;
 
 /// For how many slots a map may have values, from slot 0 on.
 ///

@@ -9,7 +9,7 @@ use super::key::Key;
 use super::lists::overwrite;
 use super::order::least_of_birth;
 use super::sparse_set::SparseSet;
-use crate::proved::ent_handle::{Birth, ComponentId, Handle};
+use crate::handles::{Birth, ComponentId, Handle};
 use crate::kit::alloc::AllocError;
 
 /// What an entity has besides its components.

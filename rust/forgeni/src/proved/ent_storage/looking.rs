@@ -3,12 +3,45 @@
 //! What a storage has: the look-ups, which change nothing.
 
 use alloc::vec::Vec;
-use crate::proved::ent_storage::items::Items;
-use crate::proved::ent_storage::order::handles_in_order;
-use crate::proved::ent_storage::storage::Storage;
-use crate::proved::ent_handle::{Birth, ComponentId, Handle, Memory};
+use crate::components::items::Items;
+use crate::components::order::handles_in_order;
+use crate::components::storage::Storage;
+use crate::handles::{Birth, ComponentId, Handle, OutOfMemory};
 
+/// # Looking at entities
 impl Storage {
+    /// The value of the entity's component, if the entity is there and has it.
+    ///
+    /// ```
+    /// use forgeni::{Birth, ComponentId, Storage};
+    ///
+    /// const SPEED: ComponentId = ComponentId(0);
+    ///
+    /// let mut storage = Storage::new();
+    /// let cart = "0v1".parse()?;
+    /// storage.born(cart, Birth { frame: 0, system: 0, ordinal: 0 })?;
+    /// assert_eq!(storage.get(cart, SPEED), None);
+    /// storage.insert(cart, &[(SPEED, 40)])?;
+    /// assert_eq!(storage.get(cart, SPEED), Some(40));
+    /// # Ok::<(), Box<dyn std::error::Error>>(())
+    /// ```
+    ///
+    /// <details><summary>Contract</summary>
+    ///
+    /// In the words of the folder `specs/` of crate `ent_storage`:
+    ///
+    /// ```text
+    /// ensures { result ≡ value_of self.now.entities handle id }
+    /// ```
+    ///
+    /// </details>
+    #[must_use]
+    #[inline]
+    pub fn get(&self, handle: Handle, id: ComponentId) -> Option<i64> {
+        let place = self.place(handle)?;
+        self.get_at(place, handle, id)
+    }
+
     /// Whether the entity is there.
     ///
     /// ```
@@ -65,38 +98,6 @@ impl Storage {
         Some(self.living.birth(place))
     }
 
-    /// The value of the entity's component, if the entity is there and has it.
-    ///
-    /// ```
-    /// use forgeni::{Birth, ComponentId, Storage};
-    ///
-    /// const SPEED: ComponentId = ComponentId(0);
-    ///
-    /// let mut storage = Storage::new();
-    /// let cart = "0v1".parse()?;
-    /// storage.born(cart, Birth { frame: 0, system: 0, ordinal: 0 })?;
-    /// assert_eq!(storage.get(cart, SPEED), None);
-    /// storage.insert(cart, &[(SPEED, 40)])?;
-    /// assert_eq!(storage.get(cart, SPEED), Some(40));
-    /// # Ok::<(), Box<dyn std::error::Error>>(())
-    /// ```
-    ///
-    /// <details><summary>Contract</summary>
-    ///
-    /// In the words of the folder `specs/` of crate `ent_storage`:
-    ///
-    /// ```text
-    /// ensures { result ≡ value_of self.now.entities handle id }
-    /// ```
-    ///
-    /// </details>
-    #[must_use]
-    #[inline]
-    pub fn get(&self, handle: Handle, id: ComponentId) -> Option<i64> {
-        let place = self.place(handle)?;
-        self.get_at(place, handle, id)
-    }
-
     /// The entity's components and their values, by rising number, if the entity is there.
     ///
     /// ```
@@ -125,140 +126,6 @@ impl Storage {
     pub fn items(&self, handle: Handle) -> Option<Items<'_>> {
         let place = self.place(handle)?;
         Some(self.items_at(place, handle))
-    }
-
-    /// The place of the entity in the vector of entities, if it is there. It stays the same until an
-    /// entity is taken out.
-    ///
-    /// ```
-    /// use forgeni::{Birth, Storage};
-    ///
-    /// let mut storage = Storage::new();
-    /// let (cart, horse) = ("0v1".parse()?, "1v1".parse()?);
-    /// for (ordinal, one) in (0..).zip([cart, horse]) {
-    ///     storage.born(one, Birth { frame: 0, system: 0, ordinal })?;
-    /// }
-    /// storage.despawn(cart)?;
-    /// // The last one has moved into the gap.
-    /// assert_eq!(storage.place(horse), Some(0));
-    /// # Ok::<(), Box<dyn std::error::Error>>(())
-    /// ```
-    ///
-    /// <details><summary>Contract</summary>
-    ///
-    /// In the words of the folder `specs/` of crate `ent_storage`:
-    ///
-    /// ```text
-    /// ensures at { (i : ℕ) → (result ≡ Some i) ↔ (slice_get self.now.places i ≡ Some handle) }
-    /// ensures there { is_some result ≡ map.contains_key self.now.entities handle }
-    /// ```
-    ///
-    /// </details>
-    #[must_use]
-    #[inline(always)]
-    pub fn place(&self, handle: Handle) -> Option<usize> {
-        self.index.place(&self.living, handle)
-    }
-
-    /// The value of a component of the entity at this place, which has to be that of the handle
-    /// (`place`). It takes constant time.
-    #[inline(always)]
-    pub(crate) fn get_at(&self, place: usize, handle: Handle, id: ComponentId) -> Option<i64>
-        // requires { slice_get self.now.places place ≡ Some handle }
-        // ensures { result ≡ value_of self.now.entities handle id }
-    {
-        self.living.value(place, id)
-    }
-
-    /// The components and their values, by rising number, of the entity at this place, which has to
-    /// be that of the handle.
-    #[inline]
-    pub(crate) fn items_at(&self, place: usize, handle: Handle) -> Items<'_>
-        // requires { slice_get self.now.places place ≡ Some handle }
-        // ensures { option_map map.entries (components_of self.now.entities handle) ≡ Some result }
-    {
-        self.living.items(place)
-    }
-
-    /// When and by whom the entity at this place was brought to life. The place has to be that of
-    /// the handle. It takes constant time.
-    #[inline]
-    pub(crate) fn birth_at(&self, place: usize, handle: Handle) -> Birth
-        // requires { slice_get self.now.places place ≡ Some handle }
-        // ensures { birth_of self.now.entities handle ≡ Some result }
-    {
-        self.living.birth(place)
-    }
-
-    /// The handles of all entities, by birth and then by handle. It takes the time of a sort.
-    ///
-    /// ```
-    /// use forgeni::{Birth, Storage};
-    ///
-    /// let mut storage = Storage::new();
-    /// let (cart, horse) = ("0v2".parse()?, "1v1".parse()?);
-    /// storage.born(cart, Birth { frame: 5, system: 0, ordinal: 0 })?;
-    /// storage.born(horse, Birth { frame: 3, system: 0, ordinal: 0 })?;
-    /// assert_eq!(storage.by_birth()?, [horse, cart]);
-    /// # Ok::<(), Box<dyn std::error::Error>>(())
-    /// ```
-    ///
-    /// # Errors
-    ///
-    /// Out of memory for the list. It is never returned if there are no entities.
-    ///
-    /// <details><summary>Contract</summary>
-    ///
-    /// In the words of the folder `specs/` of crate `ent_storage`:
-    ///
-    /// ```text
-    /// ensures ok { IfOk result (λ handles. ListsAll self.now.entities handles.items) }
-    /// ensures memory { OnErr result (self.now.entities ≢ map.empty) }
-    /// ```
-    ///
-    /// </details>
-    #[inline]
-    pub fn by_birth(&self) -> Result<Vec<Handle>, Memory> {
-        let births = self.living.births()?;
-        Ok(handles_in_order(births)?)
-    }
-
-    /// The handle of the entity with that birth, if there is one. If several entities have the
-    /// birth, it is the least of their handles.
-    ///
-    /// It takes no memory, and time for each entity.
-    ///
-    /// ```
-    /// use forgeni::{Birth, Storage};
-    ///
-    /// let birth = Birth { frame: 5, system: 1, ordinal: 0 };
-    /// let mut storage = Storage::new();
-    /// let cart = "0v2".parse()?;
-    /// storage.born(cart, birth)?;
-    /// // A message of another machine, where the handle is another one.
-    /// assert_eq!(storage.of_birth(birth), Some(cart));
-    /// # Ok::<(), Box<dyn std::error::Error>>(())
-    /// ```
-    ///
-    /// <details><summary>Contract</summary>
-    ///
-    /// In the words of the folder `specs/` of crate `ent_storage`:
-    ///
-    /// ```text
-    /// ensures found { IfSome result (λ handle.
-    ///     birth_of self.now.entities handle ≡ Some birth) }
-    /// ensures least { IfSome result (λ handle. (other : Handle)
-    ///     → birth_of self.now.entities other ≡ Some birth
-    ///     → handle_cmp handle other ≢ Greater) }
-    /// ensures none { IfNone result ((handle : Handle)
-    ///     → birth_of self.now.entities handle ≢ Some birth) }
-    /// ```
-    ///
-    /// </details>
-    #[must_use]
-    #[inline]
-    pub fn of_birth(&self, birth: Birth) -> Option<Handle> {
-        self.living.of_birth(birth)
     }
 
     /// The place and the value of each entity that has the component, in no stated order. It takes
@@ -330,8 +197,144 @@ impl Storage {
     ///
     /// </details>
     #[inline]
-    pub fn with(&self, id: ComponentId) -> Result<Vec<Handle>, Memory> {
+    pub fn with(&self, id: ComponentId) -> Result<Vec<Handle>, OutOfMemory> {
         let births = self.living.births_at(self.living.pairs(id))?;
         Ok(handles_in_order(births)?)
+    }
+
+    /// The handles of all entities, by birth and then by handle. It takes the time of a sort.
+    ///
+    /// ```
+    /// use forgeni::{Birth, Storage};
+    ///
+    /// let mut storage = Storage::new();
+    /// let (cart, horse) = ("0v2".parse()?, "1v1".parse()?);
+    /// storage.born(cart, Birth { frame: 5, system: 0, ordinal: 0 })?;
+    /// storage.born(horse, Birth { frame: 3, system: 0, ordinal: 0 })?;
+    /// assert_eq!(storage.by_birth()?, [horse, cart]);
+    /// # Ok::<(), Box<dyn std::error::Error>>(())
+    /// ```
+    ///
+    /// # Errors
+    ///
+    /// Out of memory for the list. It is never returned if there are no entities.
+    ///
+    /// <details><summary>Contract</summary>
+    ///
+    /// In the words of the folder `specs/` of crate `ent_storage`:
+    ///
+    /// ```text
+    /// ensures ok { IfOk result (λ handles. ListsAll self.now.entities handles.items) }
+    /// ensures memory { OnErr result (self.now.entities ≢ map.empty) }
+    /// ```
+    ///
+    /// </details>
+    #[inline]
+    pub fn by_birth(&self) -> Result<Vec<Handle>, OutOfMemory> {
+        let births = self.living.births()?;
+        Ok(handles_in_order(births)?)
+    }
+
+    /// The handle of the entity with that birth, if there is one. If several entities have the
+    /// birth, it is the least of their handles.
+    ///
+    /// It takes no memory, and time for each entity.
+    ///
+    /// ```
+    /// use forgeni::{Birth, Storage};
+    ///
+    /// let birth = Birth { frame: 5, system: 1, ordinal: 0 };
+    /// let mut storage = Storage::new();
+    /// let cart = "0v2".parse()?;
+    /// storage.born(cart, birth)?;
+    /// // A message of another machine, where the handle is another one.
+    /// assert_eq!(storage.of_birth(birth), Some(cart));
+    /// # Ok::<(), Box<dyn std::error::Error>>(())
+    /// ```
+    ///
+    /// <details><summary>Contract</summary>
+    ///
+    /// In the words of the folder `specs/` of crate `ent_storage`:
+    ///
+    /// ```text
+    /// ensures found { IfSome result (λ handle.
+    ///     birth_of self.now.entities handle ≡ Some birth) }
+    /// ensures least { IfSome result (λ handle. (other : Handle)
+    ///     → birth_of self.now.entities other ≡ Some birth
+    ///     → handle_cmp handle other ≢ Greater) }
+    /// ensures none { IfNone result ((handle : Handle)
+    ///     → birth_of self.now.entities handle ≢ Some birth) }
+    /// ```
+    ///
+    /// </details>
+    #[must_use]
+    #[inline]
+    pub fn of_birth(&self, birth: Birth) -> Option<Handle> {
+        self.living.of_birth(birth)
+    }
+
+    /// The place of the entity in the vector of entities, if it is there. It stays the same until an
+    /// entity is taken out.
+    ///
+    /// ```
+    /// use forgeni::{Birth, Storage};
+    ///
+    /// let mut storage = Storage::new();
+    /// let (cart, horse) = ("0v1".parse()?, "1v1".parse()?);
+    /// for (ordinal, one) in (0..).zip([cart, horse]) {
+    ///     storage.born(one, Birth { frame: 0, system: 0, ordinal })?;
+    /// }
+    /// storage.despawn(cart)?;
+    /// // The last one has moved into the gap.
+    /// assert_eq!(storage.place(horse), Some(0));
+    /// # Ok::<(), Box<dyn std::error::Error>>(())
+    /// ```
+    ///
+    /// <details><summary>Contract</summary>
+    ///
+    /// In the words of the folder `specs/` of crate `ent_storage`:
+    ///
+    /// ```text
+    /// ensures at { (i : ℕ) → (result ≡ Some i) ↔ (slice_get self.now.places i ≡ Some handle) }
+    /// ensures there { is_some result ≡ map.contains_key self.now.entities handle }
+    /// ```
+    ///
+    /// </details>
+    #[must_use]
+    #[inline(always)]
+    pub fn place(&self, handle: Handle) -> Option<usize> {
+        self.index.place(&self.living, handle)
+    }
+}
+
+impl Storage {
+    /// The value of a component of the entity at this place, which has to be that of the handle
+    /// (`place`). It takes constant time.
+    #[inline(always)]
+    pub(crate) fn get_at(&self, place: usize, handle: Handle, id: ComponentId) -> Option<i64>
+        // requires { slice_get self.now.places place ≡ Some handle }
+        // ensures { result ≡ value_of self.now.entities handle id }
+    {
+        self.living.value(place, id)
+    }
+
+    /// The components and their values, by rising number, of the entity at this place, which has to
+    /// be that of the handle.
+    #[inline]
+    pub(crate) fn items_at(&self, place: usize, handle: Handle) -> Items<'_>
+        // requires { slice_get self.now.places place ≡ Some handle }
+        // ensures { option_map map.entries (components_of self.now.entities handle) ≡ Some result }
+    {
+        self.living.items(place)
+    }
+
+    /// When and by whom the entity at this place was brought to life. The place has to be that of
+    /// the handle. It takes constant time.
+    #[inline]
+    pub(crate) fn birth_at(&self, place: usize, handle: Handle) -> Birth
+        // requires { slice_get self.now.places place ≡ Some handle }
+        // ensures { birth_of self.now.entities handle ≡ Some result }
+    {
+        self.living.birth(place)
     }
 }

@@ -6,16 +6,19 @@
 //! vector an index has the place of each handle, and for each component number a sparse set has the
 //! values, by places.
 //!
-//! [`Bundle`] has components and their values by themselves, as commands carry them. And [`search`]
+//! [`InlineBundle`] has components and their values by themselves, as commands carry them. And [`search`]
 //! finds the position of a key among pairs of a key and a value, by strictly rising key.
 //!
 //! `handle_map` has a map from handles to values of any type, at most one for each slot, and
 //! `sparse_map` one for values that few handles have.
 
+mod storage;
+mod looking;
+pub mod handle_map;
+pub mod sparse_map;
 mod bundle;
 mod columns;
 mod fault;
-pub mod handle_map;
 mod image;
 mod image_fault;
 mod index;
@@ -24,17 +27,14 @@ mod key;
 mod limit;
 mod lists;
 mod living;
-mod looking;
 mod order;
 mod pairs;
 mod places;
 mod slot;
-pub mod sparse_map;
 mod sparse_set;
-mod storage;
 
-pub use bundle::Bundle;
-pub use fault::StorageFault;
+pub use bundle::InlineBundle;
+pub use fault::StorageError;
 pub use image_fault::StorageImageFault;
 pub use items::Items;
 pub(crate) use pairs::search;

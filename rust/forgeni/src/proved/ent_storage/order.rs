@@ -4,7 +4,7 @@ use alloc::vec::Vec;
 use crate::kit::vec::CollectIn;
 use crate::kit::vec::FallibleVec;
 use super::living::Resident;
-use crate::proved::ent_handle::{Birth, Handle};
+use crate::handles::{Birth, Handle};
 use crate::kit::alloc::AllocError;
 
 /// The handles, by birth and then by handle. It takes no memory for nobody.

@@ -1,7 +1,7 @@
 // Made of crates/ent_storage/src/slot.rt by rust/erase. It isn't edited by hand.
 
 use super::key::Key;
-use crate::proved::ent_handle::Handle;
+use crate::handles::Handle;
 
 /// The position of the handle, or the position where it would go. It is looked for at its slot's
 /// number first, and only then by a binary search.

@@ -8,20 +8,20 @@ mod positions;
 
 use alloc::vec::Vec;
 use crate::kit::vec::FallibleVec;
-use crate::proved::ent_storage::handle_map::{InsertError, index_of};
-use crate::proved::ent_storage::limit::Limit;
-use crate::proved::ent_storage::lists::overwrite;
-pub use crate::proved::ent_storage::sparse_map::entry::{Entry, OccupiedEntry, VacantEntry};
-pub use crate::proved::ent_storage::sparse_map::iter::Iter;
-use crate::proved::ent_storage::sparse_map::positions::{make_position, position_of};
-use crate::proved::ent_handle::{HandedBack, Handle, Memory};
+use crate::components::handle_map::{InsertError, index_of};
+use crate::components::limit::Limit;
+use crate::components::lists::overwrite;
+pub use crate::components::sparse_map::entry::{Entry, OccupiedEntry, VacantEntry};
+pub use crate::components::sparse_map::iter::Iter;
+use crate::components::sparse_map::positions::{make_position, position_of};
+use crate::handles::{HandedBack, Handle, OutOfMemory};
 use crate::kit::alloc::AllocError;
 use core::mem;
 
 /// A value of any type for each of few handles: a rare component. At most one handle of a slot has
 /// a value.
 ///
-/// It takes and refuses what a [`HandleMap`](crate::proved::ent_storage::handle_map::HandleMap) does. The values lie
+/// It takes and refuses what a [`HandleMap`](crate::components::handle_map::HandleMap) does. The values lie
 /// side by side, and each slot takes only four bytes, for the position of its value. So ten values
 /// among a million slots take 4.5 MB with values of any size, and a walk over them takes the time
 /// of the ten. A look-up is two accesses to vectors, where a `HandleMap` makes one.
@@ -60,6 +60,7 @@ pub struct SparseMap<T> {
     limit: Limit,
 }
 
+/// # Making one
 impl<T> SparseMap<T> {
     /// A map without values, and without a limit. It takes no memory.
     ///
@@ -122,397 +123,9 @@ impl<T> SparseMap<T> {
             limit: Limit::of(limit),
         }
     }
-
-    /// For how many slots the map may have values, from slot 0 on: 4,294,967,295, which is no
-    /// limit, or the limit that was set.
-    ///
-    /// ```
-    /// use forgeni::SparseMap;
-    ///
-    /// let names: SparseMap<&str> = SparseMap::with_limit(1_000);
-    /// assert_eq!((names.limit(), SparseMap::<&str>::new().limit()), (1_000, u32::MAX));
-    /// ```
-    ///
-    /// <details><summary>Contract</summary>
-    ///
-    /// In the words of the folder `specs/` of crate `ent_storage`:
-    ///
-    /// ```text
-    /// ensures { result ≡ self.now.limit }
-    /// ```
-    ///
-    /// </details>
-    #[must_use]
-    #[inline]
-    pub fn limit(&self) -> u32 {
-        self.limit.slots()
-    }
-
-    /// Sets the limit. The map keeps the values that it has, even those of slots at or above the
-    /// limit.
-    ///
-    /// ```
-    /// use forgeni::SparseMap;
-    ///
-    /// let mut names = SparseMap::new();
-    /// let (last, next) = ("999v1".parse()?, "1000v1".parse()?);
-    /// names.set_limit(1_000);
-    /// names.insert(last, "Ada")?;
-    /// assert!(names.insert(next, "Bob").is_err());
-    /// # Ok::<(), Box<dyn std::error::Error>>(())
-    /// ```
-    ///
-    /// <details><summary>Contract</summary>
-    ///
-    /// In the words of the folder `specs/` of crate `ent_storage`:
-    ///
-    /// ```text
-    /// ensures { self.new ≡ record self.old { limit = limit } }
-    /// ```
-    ///
-    /// </details>
-    #[inline]
-    pub fn set_limit(&mut self, limit: u32) {
-        self.limit = Limit::of(limit);
-    }
-
-    /// How many values there are. It takes constant time.
-    ///
-    /// ```
-    /// use forgeni::SparseMap;
-    ///
-    /// let mut names = SparseMap::new();
-    /// names.insert("7v1".parse()?, "Ada")?;
-    /// names.insert("7v2".parse()?, "Bob")?;
-    /// // A slot has one value.
-    /// assert_eq!(names.len(), 1);
-    /// # Ok::<(), Box<dyn std::error::Error>>(())
-    /// ```
-    ///
-    /// <details><summary>Contract</summary>
-    ///
-    /// In the words of the folder `specs/` of crate `ent_storage`:
-    ///
-    /// ```text
-    /// ensures { result ≡ map.len self.now.values }
-    /// ```
-    ///
-    /// </details>
-    #[must_use]
-    #[inline]
-    pub fn len(&self) -> usize {
-        self.entries.len()
-    }
-
-    /// Whether there is no value.
-    ///
-    /// ```
-    /// use forgeni::SparseMap;
-    ///
-    /// let mut bosses = SparseMap::new();
-    /// let dragon = "99v1".parse()?;
-    /// bosses.insert(dragon, "dragon")?;
-    /// bosses.remove(dragon);
-    /// assert!(bosses.is_empty());
-    /// # Ok::<(), Box<dyn std::error::Error>>(())
-    /// ```
-    ///
-    /// <details><summary>Contract</summary>
-    ///
-    /// In the words of the folder `specs/` of crate `ent_storage`:
-    ///
-    /// ```text
-    /// ensures { IsTrue result ↔ (map.len self.now.values ≡ 0) }
-    /// ```
-    ///
-    /// </details>
-    #[must_use]
-    #[inline]
-    pub fn is_empty(&self) -> bool {
-        self.len() == 0
-    }
-
-    /// How many values there is room for.
-    ///
-    /// ```
-    /// use forgeni::{Handle, SparseMap};
-    ///
-    /// let mut names = SparseMap::with_capacity(10)?;
-    /// for index in 0..10 {
-    ///     names.insert(Handle::new(index, 1).ok_or("out of range")?, index)?;
-    /// }
-    /// assert_eq!(names.capacity(), 10);
-    /// # Ok::<(), Box<dyn std::error::Error>>(())
-    /// ```
-    ///
-    /// <details><summary>Contract</summary>
-    ///
-    /// In the words of the folder `specs/` of crate `ent_storage`:
-    ///
-    /// ```text
-    /// ensures { result ≡ self.now.room }
-    /// ```
-    ///
-    /// </details>
-    #[must_use]
-    #[inline]
-    pub fn capacity(&self) -> usize {
-        self.entries.sized_capacity()
-    }
-
-    /// How many slots there is room for, from slot 0 on. Each takes four bytes.
-    ///
-    /// ```
-    /// use forgeni::SparseMap;
-    ///
-    /// let mut names = SparseMap::new();
-    /// names.insert("999v1".parse()?, "Ada")?;
-    /// // From here on, no name of these slots takes memory for its slot.
-    /// assert!(names.slots() >= 1_000);
-    /// # Ok::<(), Box<dyn std::error::Error>>(())
-    /// ```
-    ///
-    /// <details><summary>Contract</summary>
-    ///
-    /// In the words of the folder `specs/` of crate `ent_storage`:
-    ///
-    /// ```text
-    /// ensures value { result ≡ self.now.slots }
-    /// ensures values { (handle : Handle) → IsSome (map.get self.now.values handle)
-    ///     → handle.index < self.now.slots }
-    /// ```
-    ///
-    /// </details>
-    #[must_use]
-    #[inline]
-    pub fn slots(&self) -> usize {
-        self.positions.len()
-    }
-
-    /// Whether the handle has a value. It takes constant time.
-    ///
-    /// ```
-    /// use forgeni::SparseMap;
-    ///
-    /// let mut bosses = SparseMap::new();
-    /// let (old, new) = ("7v1".parse()?, "7v2".parse()?);
-    /// bosses.insert(old, "dragon")?;
-    /// assert!(bosses.contains(old) && !bosses.contains(new));
-    /// # Ok::<(), Box<dyn std::error::Error>>(())
-    /// ```
-    ///
-    /// <details><summary>Contract</summary>
-    ///
-    /// In the words of the folder `specs/` of crate `ent_storage`:
-    ///
-    /// ```text
-    /// ensures { result ≡ map.contains_key self.now.values handle }
-    /// ```
-    ///
-    /// </details>
-    #[must_use]
-    #[inline]
-    pub fn contains(&self, handle: Handle) -> bool {
-        self.get(handle).is_some()
-    }
-
-    /// The value of the handle, if it has one. It takes constant time.
-    ///
-    /// ```
-    /// use forgeni::{Entities, SparseMap};
-    ///
-    /// let mut entities = Entities::new();
-    /// let mut names = SparseMap::new();
-    /// let player = entities.alloc()?;
-    /// names.insert(player, "Ada")?;
-    /// assert_eq!(names.get(player), Some(&"Ada"));
-    ///
-    /// let next = entities.free(player)?.next.unwrap();
-    /// assert_eq!(names.get(next), None);
-    /// # Ok::<(), Box<dyn std::error::Error + Send + Sync>>(())
-    /// ```
-    ///
-    /// <details><summary>Contract</summary>
-    ///
-    /// In the words of the folder `specs/` of crate `ent_storage`:
-    ///
-    /// ```text
-    /// ensures { option_copied result ≡ map.get self.now.values handle }
-    /// ```
-    ///
-    /// </details>
-    #[must_use]
-    #[inline]
-    pub fn get(&self, handle: Handle) -> Option<&T> {
-        find(&self.entries, &self.positions, handle)
-    }
-
-    /// The value of the handle, if it has one, to be changed. It takes constant time.
-    ///
-    /// ```
-    /// use forgeni::SparseMap;
-    ///
-    /// let mut shields = SparseMap::new();
-    /// let (knight, horse) = ("0v1".parse()?, "1v1".parse()?);
-    /// shields.insert(knight, 50)?;
-    /// for one in [knight, horse] {
-    ///     // Few have a shield, and it takes the blow.
-    ///     if let Some(shield) = shields.get_mut(one) {
-    ///         *shield -= 20;
-    ///     }
-    /// }
-    /// assert_eq!(shields[knight], 30);
-    /// # Ok::<(), Box<dyn std::error::Error>>(())
-    /// ```
-    ///
-    /// <details><summary>Contract</summary>
-    ///
-    /// In the words of the folder `specs/` of crate `ent_storage`:
-    ///
-    /// ```text
-    /// ensures* writes_back { sem 𝓛 (lends_get T.row self.entry handle result) }
-    /// ensures value { option_copied_mut result ≡ map.get self.old.values handle }
-    /// ```
-    ///
-    /// </details>
-    #[must_use]
-    #[inline]
-    pub fn get_mut(&mut self, handle: Handle) -> Option<&mut T> {
-        if self.contains(handle) {
-            Some(self.value_mut(handle))
-        } else {
-            None
-        }
-    }
-
-    /// The value of a handle that has one.
-    #[inline]
-    fn value_mut(&mut self, handle: Handle) -> &mut T
-        // requires { IsSome (map.get self.old.values handle) }
-        // ensures* writes_back { sem 𝓛 (lends_value T.row self.entry handle result) }
-        // ensures value { map.get self.old.values handle ≡ Some result.now }
-    {
-        let position = self.positions[handle.index() as usize] as usize;
-        &mut self.entries[position].1
-    }
-
-    /// Frees the room that no value needs, as `Vec::shrink_to_fit` does. If there is no memory to
-    /// move the values to, the room stays. The room for slots always stays.
-    ///
-    /// ```
-    /// use forgeni::SparseMap;
-    ///
-    /// let mut names = SparseMap::with_capacity(1_000)?;
-    /// names.insert("0v1".parse()?, "Ada")?;
-    /// names.shrink_to_fit();
-    /// assert_eq!(names.capacity(), 1);
-    /// # Ok::<(), Box<dyn std::error::Error>>(())
-    /// ```
-    ///
-    /// <details><summary>Contract</summary>
-    ///
-    /// In the words of the folder `specs/` of crate `ent_storage`:
-    ///
-    /// ```text
-    /// ensures kept { self.new ≡ record self.old { room = self.new.room } }
-    /// ensures shrinks { self.new.room ≤ self.old.room }
-    /// ensures fits { map.len self.old.values ≤ self.new.room }
-    /// ensures frees { map.len self.old.values ≡ 0 → self.new.room ≡ 0 }
-    /// ```
-    ///
-    /// </details>
-    #[inline]
-    pub fn shrink_to_fit(&mut self) {
-        self.entries.shrink_to_fit_fallibly();
-    }
-
-    /// The handles and their values, in no particular order. The same calls leave them in the same
-    /// order.
-    ///
-    /// ```
-    /// use forgeni::{Entities, SparseMap};
-    ///
-    /// let mut entities = Entities::new();
-    /// let mut health = SparseMap::new();
-    /// let all = entities.alloc_many(2)?;
-    /// health.insert(all[1], 20)?;
-    /// health.insert(all[0], 10)?;
-    /// let least = health.entries().iter().min_by_key(|(_, health)| health);
-    /// assert_eq!(least, Some(&(all[0], 10)));
-    /// # Ok::<(), Box<dyn std::error::Error + Send + Sync>>(())
-    /// ```
-    ///
-    /// <details><summary>Contract</summary>
-    ///
-    /// In the words of the folder `specs/` of crate `ent_storage`:
-    ///
-    /// ```text
-    /// ensures { AreEntries self.now.values result.now }
-    /// ```
-    ///
-    /// </details>
-    #[must_use]
-    #[inline]
-    pub fn entries(&self) -> &[(Handle, T)] {
-        &self.entries
-    }
-
-    /// The handles and their values, in the order of [`entries`](Self::entries).
-    ///
-    /// ```
-    /// use forgeni::SparseMap;
-    ///
-    /// let mut shields = SparseMap::new();
-    /// shields.insert("900v1".parse()?, 50)?;
-    /// shields.insert("7v1".parse()?, 30)?;
-    /// // Two entries, however many slots there are.
-    /// assert_eq!(shields.iter().map(|(_, shield)| shield).sum::<u32>(), 80);
-    /// # Ok::<(), Box<dyn std::error::Error>>(())
-    /// ```
-    ///
-    /// <details><summary>Contract</summary>
-    ///
-    /// In the words of the folder `specs/` of crate `ent_storage`:
-    ///
-    /// ```text
-    /// ensures { AreEntries self.now.values result }
-    /// ```
-    ///
-    /// </details>
-    #[inline]
-    pub fn iter(&self) -> Iter<'_, T> {
-        Iter::new(&self.entries)
-    }
-
-    /// The handles and their values, in the order of [`entries`](Self::entries). It takes no
-    /// memory.
-    ///
-    /// ```
-    /// use forgeni::SparseMap;
-    ///
-    /// let mut names = SparseMap::new();
-    /// let ada = "7v1".parse()?;
-    /// names.insert(ada, String::from("Ada"))?;
-    /// assert_eq!(names.into_entries(), [(ada, String::from("Ada"))]);
-    /// # Ok::<(), Box<dyn std::error::Error>>(())
-    /// ```
-    ///
-    /// <details><summary>Contract</summary>
-    ///
-    /// In the words of the folder `specs/` of crate `ent_storage`:
-    ///
-    /// ```text
-    /// ensures { AreEntries self.values result.items }
-    /// ```
-    ///
-    /// </details>
-    #[must_use]
-    #[inline]
-    pub fn into_entries(self) -> Vec<(Handle, T)> {
-        self.entries
-    }
 }
 
+/// # Values
 impl<T> SparseMap<T> {
     /// Gives the handle a value, and returns the one that it had. If an earlier occupant of the
     /// slot has one, that is dropped.
@@ -588,6 +201,135 @@ impl<T> SparseMap<T> {
         put(&mut self.entries, &mut self.positions, handle, value)
     }
 
+    /// The value of the handle, if it has one. It takes constant time.
+    ///
+    /// ```
+    /// use forgeni::{Entities, SparseMap};
+    ///
+    /// let mut entities = Entities::new();
+    /// let mut names = SparseMap::new();
+    /// let player = entities.alloc()?;
+    /// names.insert(player, "Ada")?;
+    /// assert_eq!(names.get(player), Some(&"Ada"));
+    ///
+    /// let next = entities.free(player)?.next.unwrap();
+    /// assert_eq!(names.get(next), None);
+    /// # Ok::<(), Box<dyn std::error::Error + Send + Sync>>(())
+    /// ```
+    ///
+    /// <details><summary>Contract</summary>
+    ///
+    /// In the words of the folder `specs/` of crate `ent_storage`:
+    ///
+    /// ```text
+    /// ensures { option_copied result ≡ map.get self.now.values handle }
+    /// ```
+    ///
+    /// </details>
+    #[must_use]
+    #[inline]
+    pub fn get(&self, handle: Handle) -> Option<&T> {
+        find(&self.entries, &self.positions, handle)
+    }
+
+    /// The value of the handle, if it has one, to be changed. It takes constant time.
+    ///
+    /// ```
+    /// use forgeni::SparseMap;
+    ///
+    /// let mut shields = SparseMap::new();
+    /// let (knight, horse) = ("0v1".parse()?, "1v1".parse()?);
+    /// shields.insert(knight, 50)?;
+    /// for one in [knight, horse] {
+    ///     // Few have a shield, and it takes the blow.
+    ///     if let Some(shield) = shields.get_mut(one) {
+    ///         *shield -= 20;
+    ///     }
+    /// }
+    /// assert_eq!(shields[knight], 30);
+    /// # Ok::<(), Box<dyn std::error::Error>>(())
+    /// ```
+    ///
+    /// <details><summary>Contract</summary>
+    ///
+    /// In the words of the folder `specs/` of crate `ent_storage`:
+    ///
+    /// ```text
+    /// ensures* writes_back { sem 𝓛 (lends_get T.row self.entry handle result) }
+    /// ensures value { option_copied_mut result ≡ map.get self.old.values handle }
+    /// ```
+    ///
+    /// </details>
+    #[must_use]
+    #[inline]
+    pub fn get_mut(&mut self, handle: Handle) -> Option<&mut T> {
+        if self.contains(handle) {
+            Some(self.value_mut(handle))
+        } else {
+            None
+        }
+    }
+
+    /// Removes the value of the handle, and returns it if it had one. It takes constant time and no
+    /// memory.
+    ///
+    /// ```
+    /// use forgeni::{Handle, SparseMap};
+    ///
+    /// let crate_of_gold = Handle::new(0, 1).unwrap();
+    /// let mut weight = SparseMap::new();
+    /// weight.insert(crate_of_gold, 900)?;
+    /// assert_eq!(weight.remove(crate_of_gold), Some(900));
+    /// assert_eq!(weight.remove(crate_of_gold), None);
+    /// # Ok::<(), Box<dyn std::error::Error + Send + Sync>>(())
+    /// ```
+    ///
+    /// <details><summary>Contract</summary>
+    ///
+    /// In the words of the folder `specs/` of crate `ent_storage`:
+    ///
+    /// ```text
+    /// ensures value { result ≡ map.get self.old.values handle }
+    /// ensures map { self.new
+    ///     ≡ record self.old { values = map.remove self.old.values handle } }
+    /// ```
+    ///
+    /// </details>
+    #[inline]
+    pub fn remove(&mut self, handle: Handle) -> Option<T> {
+        if !self.contains(handle) {
+            return None;
+        }
+        Some(take(&mut self.entries, &mut self.positions, handle))
+    }
+
+    /// Whether the handle has a value. It takes constant time.
+    ///
+    /// ```
+    /// use forgeni::SparseMap;
+    ///
+    /// let mut bosses = SparseMap::new();
+    /// let (old, new) = ("7v1".parse()?, "7v2".parse()?);
+    /// bosses.insert(old, "dragon")?;
+    /// assert!(bosses.contains(old) && !bosses.contains(new));
+    /// # Ok::<(), Box<dyn std::error::Error>>(())
+    /// ```
+    ///
+    /// <details><summary>Contract</summary>
+    ///
+    /// In the words of the folder `specs/` of crate `ent_storage`:
+    ///
+    /// ```text
+    /// ensures { result ≡ map.contains_key self.now.values handle }
+    /// ```
+    ///
+    /// </details>
+    #[must_use]
+    #[inline]
+    pub fn contains(&self, handle: Handle) -> bool {
+        self.get(handle).is_some()
+    }
+
     /// What the map has for the handle: a value, or none. Each call of the entry looks for the
     /// handle once more.
     ///
@@ -632,18 +374,50 @@ impl<T> SparseMap<T> {
             Entry::Vacant(VacantEntry { map: self, handle })
         }
     }
+}
 
-    /// Removes the value of the handle, and returns it if it had one. It takes constant time and no
-    /// memory.
+/// # All values
+impl<T> SparseMap<T> {
+    /// The handles and their values, in the order of [`entries`](Self::entries).
     ///
     /// ```
-    /// use forgeni::{Handle, SparseMap};
+    /// use forgeni::SparseMap;
     ///
-    /// let crate_of_gold = Handle::new(0, 1).unwrap();
-    /// let mut weight = SparseMap::new();
-    /// weight.insert(crate_of_gold, 900)?;
-    /// assert_eq!(weight.remove(crate_of_gold), Some(900));
-    /// assert_eq!(weight.remove(crate_of_gold), None);
+    /// let mut shields = SparseMap::new();
+    /// shields.insert("900v1".parse()?, 50)?;
+    /// shields.insert("7v1".parse()?, 30)?;
+    /// // Two entries, however many slots there are.
+    /// assert_eq!(shields.iter().map(|(_, shield)| shield).sum::<u32>(), 80);
+    /// # Ok::<(), Box<dyn std::error::Error>>(())
+    /// ```
+    ///
+    /// <details><summary>Contract</summary>
+    ///
+    /// In the words of the folder `specs/` of crate `ent_storage`:
+    ///
+    /// ```text
+    /// ensures { AreEntries self.now.values result }
+    /// ```
+    ///
+    /// </details>
+    #[inline]
+    pub fn iter(&self) -> Iter<'_, T> {
+        Iter::new(&self.entries)
+    }
+
+    /// The handles and their values, in no particular order. The same calls leave them in the same
+    /// order.
+    ///
+    /// ```
+    /// use forgeni::{Entities, SparseMap};
+    ///
+    /// let mut entities = Entities::new();
+    /// let mut health = SparseMap::new();
+    /// let all = entities.alloc_many(2)?;
+    /// health.insert(all[1], 20)?;
+    /// health.insert(all[0], 10)?;
+    /// let least = health.entries().iter().min_by_key(|(_, health)| health);
+    /// assert_eq!(least, Some(&(all[0], 10)));
     /// # Ok::<(), Box<dyn std::error::Error + Send + Sync>>(())
     /// ```
     ///
@@ -652,18 +426,14 @@ impl<T> SparseMap<T> {
     /// In the words of the folder `specs/` of crate `ent_storage`:
     ///
     /// ```text
-    /// ensures value { result ≡ map.get self.old.values handle }
-    /// ensures map { self.new
-    ///     ≡ record self.old { values = map.remove self.old.values handle } }
+    /// ensures { AreEntries self.now.values result.now }
     /// ```
     ///
     /// </details>
+    #[must_use]
     #[inline]
-    pub fn remove(&mut self, handle: Handle) -> Option<T> {
-        if !self.contains(handle) {
-            return None;
-        }
-        Some(take(&mut self.entries, &mut self.positions, handle))
+    pub fn entries(&self) -> &[(Handle, T)] {
+        &self.entries
     }
 
     /// Drops all values. The room stays.
@@ -694,8 +464,249 @@ impl<T> SparseMap<T> {
     pub fn clear(&mut self) {
         self.entries.clear();
     }
+
+    /// The handles and their values, in the order of [`entries`](Self::entries). It takes no
+    /// memory.
+    ///
+    /// ```
+    /// use forgeni::SparseMap;
+    ///
+    /// let mut names = SparseMap::new();
+    /// let ada = "7v1".parse()?;
+    /// names.insert(ada, String::from("Ada"))?;
+    /// assert_eq!(names.into_entries(), [(ada, String::from("Ada"))]);
+    /// # Ok::<(), Box<dyn std::error::Error>>(())
+    /// ```
+    ///
+    /// <details><summary>Contract</summary>
+    ///
+    /// In the words of the folder `specs/` of crate `ent_storage`:
+    ///
+    /// ```text
+    /// ensures { AreEntries self.values result.items }
+    /// ```
+    ///
+    /// </details>
+    #[must_use]
+    #[inline]
+    pub fn into_entries(self) -> Vec<(Handle, T)> {
+        self.entries
+    }
 }
 
+/// # Counts and room
+impl<T> SparseMap<T> {
+    /// How many values there are. It takes constant time.
+    ///
+    /// ```
+    /// use forgeni::SparseMap;
+    ///
+    /// let mut names = SparseMap::new();
+    /// names.insert("7v1".parse()?, "Ada")?;
+    /// names.insert("7v2".parse()?, "Bob")?;
+    /// // A slot has one value.
+    /// assert_eq!(names.len(), 1);
+    /// # Ok::<(), Box<dyn std::error::Error>>(())
+    /// ```
+    ///
+    /// <details><summary>Contract</summary>
+    ///
+    /// In the words of the folder `specs/` of crate `ent_storage`:
+    ///
+    /// ```text
+    /// ensures { result ≡ map.len self.now.values }
+    /// ```
+    ///
+    /// </details>
+    #[must_use]
+    #[inline]
+    pub fn len(&self) -> usize {
+        self.entries.len()
+    }
+
+    /// Whether there is no value.
+    ///
+    /// ```
+    /// use forgeni::SparseMap;
+    ///
+    /// let mut bosses = SparseMap::new();
+    /// let dragon = "99v1".parse()?;
+    /// bosses.insert(dragon, "dragon")?;
+    /// bosses.remove(dragon);
+    /// assert!(bosses.is_empty());
+    /// # Ok::<(), Box<dyn std::error::Error>>(())
+    /// ```
+    ///
+    /// <details><summary>Contract</summary>
+    ///
+    /// In the words of the folder `specs/` of crate `ent_storage`:
+    ///
+    /// ```text
+    /// ensures { IsTrue result ↔ (map.len self.now.values ≡ 0) }
+    /// ```
+    ///
+    /// </details>
+    #[must_use]
+    #[inline]
+    pub fn is_empty(&self) -> bool {
+        self.len() == 0
+    }
+
+    /// How many slots there is room for, from slot 0 on. Each takes four bytes.
+    ///
+    /// ```
+    /// use forgeni::SparseMap;
+    ///
+    /// let mut names = SparseMap::new();
+    /// names.insert("999v1".parse()?, "Ada")?;
+    /// // From here on, no name of these slots takes memory for its slot.
+    /// assert!(names.slots() >= 1_000);
+    /// # Ok::<(), Box<dyn std::error::Error>>(())
+    /// ```
+    ///
+    /// <details><summary>Contract</summary>
+    ///
+    /// In the words of the folder `specs/` of crate `ent_storage`:
+    ///
+    /// ```text
+    /// ensures value { result ≡ self.now.slots }
+    /// ensures values { (handle : Handle) → IsSome (map.get self.now.values handle)
+    ///     → handle.index < self.now.slots }
+    /// ```
+    ///
+    /// </details>
+    #[must_use]
+    #[inline]
+    pub fn slots(&self) -> usize {
+        self.positions.len()
+    }
+
+    /// For how many slots the map may have values, from slot 0 on: 4,294,967,295, which is no
+    /// limit, or the limit that was set.
+    ///
+    /// ```
+    /// use forgeni::SparseMap;
+    ///
+    /// let names: SparseMap<&str> = SparseMap::with_limit(1_000);
+    /// assert_eq!((names.limit(), SparseMap::<&str>::new().limit()), (1_000, u32::MAX));
+    /// ```
+    ///
+    /// <details><summary>Contract</summary>
+    ///
+    /// In the words of the folder `specs/` of crate `ent_storage`:
+    ///
+    /// ```text
+    /// ensures { result ≡ self.now.limit }
+    /// ```
+    ///
+    /// </details>
+    #[must_use]
+    #[inline]
+    pub fn limit(&self) -> u32 {
+        self.limit.slots()
+    }
+
+    /// Sets the limit. The map keeps the values that it has, even those of slots at or above the
+    /// limit.
+    ///
+    /// ```
+    /// use forgeni::SparseMap;
+    ///
+    /// let mut names = SparseMap::new();
+    /// let (last, next) = ("999v1".parse()?, "1000v1".parse()?);
+    /// names.set_limit(1_000);
+    /// names.insert(last, "Ada")?;
+    /// assert!(names.insert(next, "Bob").is_err());
+    /// # Ok::<(), Box<dyn std::error::Error>>(())
+    /// ```
+    ///
+    /// <details><summary>Contract</summary>
+    ///
+    /// In the words of the folder `specs/` of crate `ent_storage`:
+    ///
+    /// ```text
+    /// ensures { self.new ≡ record self.old { limit = limit } }
+    /// ```
+    ///
+    /// </details>
+    #[inline]
+    pub fn set_limit(&mut self, limit: u32) {
+        self.limit = Limit::of(limit);
+    }
+
+    /// How many values there is room for.
+    ///
+    /// ```
+    /// use forgeni::{Handle, SparseMap};
+    ///
+    /// let mut names = SparseMap::with_capacity(10)?;
+    /// for index in 0..10 {
+    ///     names.insert(Handle::new(index, 1).ok_or("out of range")?, index)?;
+    /// }
+    /// assert_eq!(names.capacity(), 10);
+    /// # Ok::<(), Box<dyn std::error::Error>>(())
+    /// ```
+    ///
+    /// <details><summary>Contract</summary>
+    ///
+    /// In the words of the folder `specs/` of crate `ent_storage`:
+    ///
+    /// ```text
+    /// ensures { result ≡ self.now.room }
+    /// ```
+    ///
+    /// </details>
+    #[must_use]
+    #[inline]
+    pub fn capacity(&self) -> usize {
+        self.entries.sized_capacity()
+    }
+
+    /// Frees the room that no value needs, as `Vec::shrink_to_fit` does. If there is no memory to
+    /// move the values to, the room stays. The room for slots always stays.
+    ///
+    /// ```
+    /// use forgeni::SparseMap;
+    ///
+    /// let mut names = SparseMap::with_capacity(1_000)?;
+    /// names.insert("0v1".parse()?, "Ada")?;
+    /// names.shrink_to_fit();
+    /// assert_eq!(names.capacity(), 1);
+    /// # Ok::<(), Box<dyn std::error::Error>>(())
+    /// ```
+    ///
+    /// <details><summary>Contract</summary>
+    ///
+    /// In the words of the folder `specs/` of crate `ent_storage`:
+    ///
+    /// ```text
+    /// ensures kept { self.new ≡ record self.old { room = self.new.room } }
+    /// ensures shrinks { self.new.room ≤ self.old.room }
+    /// ensures fits { map.len self.old.values ≤ self.new.room }
+    /// ensures frees { map.len self.old.values ≡ 0 → self.new.room ≡ 0 }
+    /// ```
+    ///
+    /// </details>
+    #[inline]
+    pub fn shrink_to_fit(&mut self) {
+        self.entries.shrink_to_fit_fallibly();
+    }
+}
+
+impl<T> SparseMap<T> {
+    /// The value of a handle that has one.
+    #[inline]
+    fn value_mut(&mut self, handle: Handle) -> &mut T
+        // requires { IsSome (map.get self.old.values handle) }
+        // ensures* writes_back { sem 𝓛 (lends_value T.row self.entry handle result) }
+        // ensures value { map.get self.old.values handle ≡ Some result.now }
+    {
+        let position = self.positions[handle.index() as usize] as usize;
+        &mut self.entries[position].1
+    }
+}
+
+/// # Snapshots
 impl<T: Clone> SparseMap<T> {
     /// A map with a clone of each value, with room for the same slots, and with the same limit.
     /// Without room for slots it takes no memory.
@@ -730,7 +741,7 @@ impl<T: Clone> SparseMap<T> {
     ///
     /// </details>
     #[inline]
-    pub fn try_clone(&self) -> Result<Self, Memory> {
+    pub fn try_clone(&self) -> Result<Self, OutOfMemory> {
         let mut positions = Vec::with_capacity_fallibly(self.positions.len())?;
         positions.extend_from_slice_fallibly(&self.positions)?;
         let mut entries = Vec::with_capacity_fallibly(self.entries.len())?;
@@ -803,7 +814,7 @@ impl<T: Clone> SparseMap<T> {
     ///
     /// </details>
     #[inline]
-    pub fn try_clone_from(&mut self, source: &Self) -> Result<(), Memory> {
+    pub fn try_clone_from(&mut self, source: &Self) -> Result<(), OutOfMemory> {
         let values = source.entries.len();
         let slots = source.positions.len();
         if self.entries.sized_capacity() < values || self.positions.sized_capacity() < slots {

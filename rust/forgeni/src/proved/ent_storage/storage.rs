@@ -1,9 +1,9 @@
 // Made of crates/ent_storage/src/storage.rt by rust/erase. It isn't edited by hand.
 
-use super::fault::StorageFault;
+use super::fault::StorageError;
 use super::index::Index;
 use super::living::Living;
-use crate::proved::ent_handle::{Birth, ComponentId, Handle, Memory};
+use crate::handles::{Birth, ComponentId, Handle, OutOfMemory};
 
 /// The births and components of living entities: for each handle its birth, and a value for each
 /// component that the entity has.
@@ -39,6 +39,7 @@ pub struct Storage {
     pub(super) index: Index,
 }
 
+/// # Making one
 impl Storage {
     /// A storage without entities. It takes no memory.
     ///
@@ -71,7 +72,416 @@ impl Storage {
             index: Index::new(),
         }
     }
+}
 
+/// # Entities and components
+impl Storage {
+    /// Adds an entity without components. With `spare` above 0 it takes no memory, and `spare` is
+    /// then less by 1.
+    ///
+    /// It takes the time of one look-up if the handle comes after all others, or if the index has a
+    /// pair that doesn't count where the new pair goes, or beside it. With an allocator's handles
+    /// that is the pair of the slot's last occupant, or of a slot that was passed over: the index
+    /// makes those as far as it has room ([`reserve_slots`](Self::reserve_slots)). Otherwise the
+    /// later pairs of the index move up by one. If the index is full, the pairs of all entities
+    /// that are gone are dropped first, in one pass.
+    ///
+    /// ```
+    /// use forgeni::{Birth, Entities, Storage};
+    ///
+    /// let (mut entities, mut storage) = (Entities::new(), Storage::new());
+    /// let mut born = Vec::new();
+    /// entities.request_many(3)?;
+    /// entities.flush(&mut born)?;
+    /// for (ordinal, one) in (0..).zip(born) {
+    ///     storage.born(one, Birth { frame: 0, system: 0, ordinal })?;
+    /// }
+    /// assert_eq!(storage.len(), 3);
+    /// # Ok::<(), Box<dyn std::error::Error>>(())
+    /// ```
+    ///
+    /// # Errors
+    ///
+    /// Nothing has changed.
+    ///
+    /// - `Present`: the entity is there already. This is tested first.
+    /// - `Memory`: `spare` is 0, and memory ran out, or there are 4,294,967,296 entities, which is the
+    ///   most.
+    ///
+    /// <details><summary>Contract</summary>
+    ///
+    /// In the words of the folder `specs/` of crate `ent_storage`:
+    ///
+    /// ```text
+    /// ensures ok { OnOk result
+    ///     (self.new.entities ≡ map.insert self.old.entities handle (newborn birth)) }
+    /// ensures spare { OnOk result (0 < self.old.spare → self.new.spare + 1 ≡ self.old.spare) }
+    /// ensures places { OnOk result (self.new.places ≡ self.old.places ++ handle ∷ []) }
+    ///
+    /// ensures present { IsErrOf result StorageError.Present
+    ///     ↔ IsTrue (map.contains_key self.old.entities handle) }
+    /// ensures memory_without_room { IsErrOf result StorageError.Memory → self.old.spare ≡ 0 }
+    /// ensures never_absent { ¬ (IsErrOf result StorageError.Absent) }
+    /// ensures err { OnErr result (self.new ≡ self.old) }
+    /// ```
+    ///
+    /// </details>
+    #[inline(always)]
+    pub fn born(&mut self, handle: Handle, birth: Birth) -> Result<(), StorageError> {
+        if !self.has_spare() {
+            if self.contains(handle) {
+                return Err(StorageError::Present);
+            }
+            self.reserve(1)?;
+        }
+        self.born_within(handle, birth)
+    }
+
+    /// Removes the entity, with all its components. It takes no memory, and `spare` is then greater
+    /// by 1.
+    ///
+    /// It takes the time of two look-ups, and time for each component that any entity has ever had.
+    /// The index stays as it is, except for the entity that moves.
+    ///
+    /// ```
+    /// use forgeni::{Birth, Entities, Storage};
+    ///
+    /// let (mut entities, mut storage) = (Entities::new(), Storage::new());
+    /// let cart = entities.alloc()?;
+    /// storage.born(cart, Birth { frame: 0, system: 0, ordinal: 0 })?;
+    /// // The one doesn't know of the other: both have to be called.
+    /// storage.despawn(cart)?;
+    /// entities.free(cart)?;
+    /// assert!(storage.is_empty() && entities.is_empty());
+    /// # Ok::<(), Box<dyn std::error::Error>>(())
+    /// ```
+    ///
+    /// # Errors
+    ///
+    /// `Absent`: the entity is not there. Nothing has changed.
+    ///
+    /// <details><summary>Contract</summary>
+    ///
+    /// In the words of the folder `specs/` of crate `ent_storage`:
+    ///
+    /// ```text
+    /// ensures ok { OnOk result (self.new.entities ≡ map.remove self.old.entities handle) }
+    /// ensures spare { OnOk result (self.new.spare ≡ self.old.spare + 1) }
+    /// ensures places { OnOk result (SomeIndex self.old.places (λ place.
+    ///     (slice_get self.old.places place ≡ Some handle)
+    ///     × AreWithout place self.old.places self.new.places)) }
+    ///
+    /// ensures absent { IsErrOf result StorageError.Absent
+    ///     ↔ (map.get self.old.entities handle ≡ None) }
+    /// ensures only_absent { IfErr result (λ fault. fault ≡ StorageError.Absent) }
+    /// ensures err { OnErr result (self.new ≡ self.old) }
+    /// ```
+    ///
+    /// </details>
+    #[inline(always)]
+    pub fn despawn(&mut self, handle: Handle) -> Result<(), StorageError> {
+        let Some(place) = self.place(handle) else {
+            return Err(StorageError::Absent);
+        };
+        let _ = self.despawn_at(place, handle);
+        self.forget(handle);
+        Ok(())
+    }
+
+    /// Sets each of the components, and leaves the entity's others as they are. The list may be in any
+    /// order. If a component is in it twice, its last value counts.
+    ///
+    /// It takes memory only for components that the entity does not have yet.
+    ///
+    /// ```
+    /// use forgeni::{Birth, ComponentId, Handle, Storage};
+    ///
+    /// let [mass, speed] = [ComponentId(0), ComponentId(1)];
+    /// let cart = Handle::new(0, 1).unwrap();
+    /// let mut storage = Storage::new();
+    /// storage.born(cart, Birth { frame: 0, system: 0, ordinal: 0 })?;
+    /// storage.insert(cart, &[(speed, 1), (mass, 7), (speed, 2)])?;
+    /// assert!(storage.items(cart).unwrap().eq([(mass, 7), (speed, 2)]));
+    /// # Ok::<(), Box<dyn std::error::Error>>(())
+    /// ```
+    ///
+    /// # Errors
+    ///
+    /// Nothing has changed.
+    ///
+    /// - `Absent`: the entity is not there.
+    /// - `Memory`: memory ran out for the components that the entity does not have yet.
+    ///
+    /// <details><summary>Contract</summary>
+    ///
+    /// In the words of the folder `specs/` of crate `ent_storage`:
+    ///
+    /// ```text
+    /// ensures ok { OnOk result (self.new.entities
+    ///     ≡ with_components self.old.entities handle (λ held. with_items held items.now)) }
+    /// ensures spare { self.new.spare ≡ self.old.spare }
+    /// ensures places { self.new.places ≡ self.old.places }
+    ///
+    /// ensures absent { IsErrOf result StorageError.Absent
+    ///     ↔ (map.get self.old.entities handle ≡ None) }
+    /// ensures memory_to_grow { IsErrOf result StorageError.Memory
+    ///     → IfSome (components_of self.old.entities handle)
+    ///     (λ held. 0 < missing held items.now) }
+    /// ensures never_present { ¬ (IsErrOf result StorageError.Present) }
+    /// ensures err { OnErr result (self.new ≡ self.old) }
+    /// ```
+    ///
+    /// </details>
+    #[inline(always)]
+    pub fn insert(
+        &mut self,
+        handle: Handle,
+        items: &[(ComponentId, i64)],
+    ) -> Result<(), StorageError> {
+        let Some(place) = self.place(handle) else {
+            return Err(StorageError::Absent);
+        };
+        self.insert_at(place, handle, items)?;
+        Ok(())
+    }
+
+    /// Removes the component from the entity, and returns its value, or `None` if the entity
+    /// doesn't have it. It takes no memory.
+    ///
+    /// ```
+    /// use forgeni::{Birth, ComponentId, Storage};
+    ///
+    /// const BURNING: ComponentId = ComponentId(0);
+    ///
+    /// let mut storage = Storage::new();
+    /// let cart = "0v1".parse()?;
+    /// storage.born(cart, Birth { frame: 0, system: 0, ordinal: 0 })?;
+    /// storage.insert(cart, &[(BURNING, 3)])?;
+    /// assert_eq!(storage.remove(cart, BURNING)?, Some(3));
+    /// assert_eq!(storage.remove(cart, BURNING)?, None);
+    /// # Ok::<(), Box<dyn std::error::Error>>(())
+    /// ```
+    ///
+    /// # Errors
+    ///
+    /// `Absent`: the entity is not there. Nothing has changed.
+    ///
+    /// <details><summary>Contract</summary>
+    ///
+    /// In the words of the folder `specs/` of crate `ent_storage`:
+    ///
+    /// ```text
+    /// ensures value { IfOk result (λ value. value ≡ value_of self.old.entities handle id) }
+    /// ensures ok { OnOk result (self.new.entities
+    ///     ≡ with_components self.old.entities handle (λ held. map.remove held id)) }
+    /// ensures spare { self.new.spare ≡ self.old.spare }
+    /// ensures places { self.new.places ≡ self.old.places }
+    ///
+    /// ensures absent { IsErrOf result StorageError.Absent
+    ///     ↔ (map.get self.old.entities handle ≡ None) }
+    /// ensures only_absent { IfErr result (λ fault. fault ≡ StorageError.Absent) }
+    /// ensures err { OnErr result (self.new ≡ self.old) }
+    /// ```
+    ///
+    /// </details>
+    #[inline]
+    pub fn remove(&mut self, handle: Handle, id: ComponentId) -> Result<Option<i64>, StorageError> {
+        let Some(place) = self.place(handle) else {
+            return Err(StorageError::Absent);
+        };
+        Ok(self.remove_at(place, handle, id))
+    }
+}
+
+/// # Counts and room
+impl Storage {
+    /// How many entities there are. That is also the place of the next one that is born.
+    ///
+    /// ```
+    /// use forgeni::{Birth, Storage};
+    ///
+    /// let mut storage = Storage::new();
+    /// let cart = "0v1".parse()?;
+    /// storage.born(cart, Birth { frame: 0, system: 0, ordinal: 0 })?;
+    /// assert_eq!(storage.len(), 1);
+    /// storage.despawn(cart)?;
+    /// assert_eq!(storage.len(), 0);
+    /// # Ok::<(), Box<dyn std::error::Error>>(())
+    /// ```
+    ///
+    /// <details><summary>Contract</summary>
+    ///
+    /// In the words of the folder `specs/` of crate `ent_storage`:
+    ///
+    /// ```text
+    /// ensures value { result ≡ map.len self.now.entities }
+    /// ensures places { result ≡ length self.now.places }
+    /// ```
+    ///
+    /// </details>
+    #[must_use]
+    #[inline]
+    pub fn len(&self) -> usize {
+        self.living.len()
+    }
+
+    /// Whether there are no entities.
+    ///
+    /// ```
+    /// use forgeni::{Birth, Storage};
+    ///
+    /// let mut storage = Storage::new();
+    /// assert!(storage.is_empty());
+    /// storage.born("0v1".parse()?, Birth { frame: 0, system: 0, ordinal: 0 })?;
+    /// assert!(!storage.is_empty());
+    /// # Ok::<(), Box<dyn std::error::Error>>(())
+    /// ```
+    ///
+    /// <details><summary>Contract</summary>
+    ///
+    /// In the words of the folder `specs/` of crate `ent_storage`:
+    ///
+    /// ```text
+    /// ensures { IsTrue result ↔ (self.now.entities ≡ map.empty) }
+    /// ```
+    ///
+    /// </details>
+    #[must_use]
+    #[inline]
+    pub fn is_empty(&self) -> bool {
+        self.living.is_empty()
+    }
+
+    /// For how many more entities there is room.
+    ///
+    /// `born` lowers it by 1, or makes more room if it is 0. `reserve` and `despawn` raise it.
+    /// Nothing else changes it.
+    ///
+    /// ```
+    /// use forgeni::{Birth, Storage};
+    ///
+    /// let mut storage = Storage::new();
+    /// let cart = "0v1".parse()?;
+    /// storage.reserve(1)?;
+    /// let before = storage.spare();
+    /// storage.born(cart, Birth { frame: 0, system: 0, ordinal: 0 })?;
+    /// assert_eq!(storage.spare(), before - 1);
+    /// storage.despawn(cart)?;
+    /// assert_eq!(storage.spare(), before);
+    /// # Ok::<(), Box<dyn std::error::Error>>(())
+    /// ```
+    ///
+    /// <details><summary>Contract</summary>
+    ///
+    /// In the words of the folder `specs/` of crate `ent_storage`:
+    ///
+    /// ```text
+    /// ensures { result ≡ self.now.spare }
+    /// ```
+    ///
+    /// </details>
+    #[must_use]
+    #[inline]
+    pub fn spare(&self) -> usize {
+        let room = self.living.capacity().min(self.index.room());
+        room - self.living.len()
+    }
+
+    /// Makes room for `additional` more entities, so that `born` takes no memory for them. If there
+    /// is room for that many already, it takes no memory and changes nothing.
+    ///
+    /// ```
+    /// use forgeni::Storage;
+    ///
+    /// let mut storage = Storage::new();
+    /// storage.reserve(1000)?;
+    /// assert!(storage.spare() >= 1000);
+    /// # Ok::<(), forgeni::OutOfMemory>(())
+    /// ```
+    ///
+    /// # Errors
+    ///
+    /// Out of memory, or there would be more than 4,294,967,296 entities. The entities are as before,
+    /// and `spare` is below `additional`. It may have grown.
+    ///
+    /// <details><summary>Contract</summary>
+    ///
+    /// In the words of the folder `specs/` of crate `ent_storage`:
+    ///
+    /// ```text
+    /// ensures entities { self.new.entities ≡ self.old.entities }
+    /// ensures ok { OnOk result (additional ≤ self.new.spare) }
+    /// ensures grows { self.old.spare ≤ self.new.spare }
+    /// ensures places { self.new.places ≡ self.old.places }
+    ///
+    /// // With room for that many, the call succeeds and changes nothing.
+    /// ensures succeeds { additional ≤ self.old.spare → IsOk result }
+    /// ensures in_place { additional ≤ self.old.spare → self.new ≡ self.old }
+    ///
+    /// ensures err { OnErr result (self.new.spare < additional) }
+    /// ```
+    ///
+    /// </details>
+    #[inline]
+    pub fn reserve(&mut self, additional: usize) -> Result<(), OutOfMemory> {
+        if additional <= self.spare() {
+            return Ok(());
+        }
+        self.living.reserve(additional)?;
+        // With twice the room, the index drops handles that are gone half of its length at a time.
+        let twice = self.living.capacity().saturating_mul(2);
+        if self.index.reserve(twice).is_err() {
+            self.index.reserve(self.living.len() + additional)?;
+        }
+        Ok(())
+    }
+
+    /// Makes room in the index for a pair of each of the first `slots` slots. If an allocator gives
+    /// the handles, births in these slots then take constant time each, in any order. If there is
+    /// that room already, it takes no memory. Each slot takes twelve bytes.
+    ///
+    /// It is for a storage whose first births may be in the greatest slots, as with blocks. A
+    /// [`World`](crate::World) does it itself.
+    ///
+    /// ```
+    /// use forgeni::{Birth, Entities, Storage};
+    ///
+    /// let mut entities = Entities::new();
+    /// let mut storage = Storage::new();
+    /// let all = entities.alloc_many(1000)?;
+    /// storage.reserve_slots(entities.total() as usize)?;
+    /// for (ordinal, handle) in all.into_iter().rev().enumerate() {
+    ///     storage.born(handle, Birth { frame: 0, system: 0, ordinal: ordinal as u32 })?;
+    /// }
+    /// assert_eq!(storage.len(), 1000);
+    /// # Ok::<(), Box<dyn std::error::Error + Send + Sync>>(())
+    /// ```
+    ///
+    /// # Errors
+    ///
+    /// Out of memory, or more than 4,294,967,296 slots. Nothing has changed.
+    ///
+    /// <details><summary>Contract</summary>
+    ///
+    /// In the words of the folder `specs/` of crate `ent_storage`:
+    ///
+    /// ```text
+    /// ensures kept { self.new ≡ record self.old { spare = self.new.spare } }
+    /// ensures grows { self.old.spare ≤ self.new.spare }
+    /// ensures succeeds { slots ≤ length self.old.places + self.old.spare → IsOk result }
+    /// ensures err { OnErr result (self.new ≡ self.old) }
+    /// ```
+    ///
+    /// </details>
+    #[inline]
+    pub fn reserve_slots(&mut self, slots: usize) -> Result<(), OutOfMemory> {
+        self.index.reserve(slots)?;
+        Ok(())
+    }
+}
+
+/// # Snapshots
+impl Storage {
     /// A storage of the same entities at the same places, with at least the same room. Without
     /// entities and room it takes no memory.
     ///
@@ -107,7 +517,7 @@ impl Storage {
     ///
     /// </details>
     #[inline]
-    pub fn try_clone(&self) -> Result<Self, Memory> {
+    pub fn try_clone(&self) -> Result<Self, OutOfMemory> {
         if self.living.is_empty() && self.spare() == 0 {
             return Ok(Storage::new());
         }
@@ -167,71 +577,16 @@ impl Storage {
     ///
     /// </details>
     #[inline]
-    pub fn try_clone_from(&mut self, source: &Storage) -> Result<(), Memory> {
+    pub fn try_clone_from(&mut self, source: &Storage) -> Result<(), OutOfMemory> {
         let count = source.living.capacity().min(source.index.room());
         self.index.reserve_or_more(count, source.index.room())?;
         self.living.try_clone_from(&source.living, count)?;
         self.index.take_over(&source.index, &self.living);
         Ok(())
     }
+}
 
-    /// How many entities there are. That is also the place of the next one that is born.
-    ///
-    /// ```
-    /// use forgeni::{Birth, Storage};
-    ///
-    /// let mut storage = Storage::new();
-    /// let cart = "0v1".parse()?;
-    /// storage.born(cart, Birth { frame: 0, system: 0, ordinal: 0 })?;
-    /// assert_eq!(storage.len(), 1);
-    /// storage.despawn(cart)?;
-    /// assert_eq!(storage.len(), 0);
-    /// # Ok::<(), Box<dyn std::error::Error>>(())
-    /// ```
-    ///
-    /// <details><summary>Contract</summary>
-    ///
-    /// In the words of the folder `specs/` of crate `ent_storage`:
-    ///
-    /// ```text
-    /// ensures value { result ≡ map.len self.now.entities }
-    /// ensures places { result ≡ length self.now.places }
-    /// ```
-    ///
-    /// </details>
-    #[must_use]
-    #[inline]
-    pub fn len(&self) -> usize {
-        self.living.len()
-    }
-
-    /// Whether there are no entities.
-    ///
-    /// ```
-    /// use forgeni::{Birth, Storage};
-    ///
-    /// let mut storage = Storage::new();
-    /// assert!(storage.is_empty());
-    /// storage.born("0v1".parse()?, Birth { frame: 0, system: 0, ordinal: 0 })?;
-    /// assert!(!storage.is_empty());
-    /// # Ok::<(), Box<dyn std::error::Error>>(())
-    /// ```
-    ///
-    /// <details><summary>Contract</summary>
-    ///
-    /// In the words of the folder `specs/` of crate `ent_storage`:
-    ///
-    /// ```text
-    /// ensures { IsTrue result ↔ (self.now.entities ≡ map.empty) }
-    /// ```
-    ///
-    /// </details>
-    #[must_use]
-    #[inline]
-    pub fn is_empty(&self) -> bool {
-        self.living.is_empty()
-    }
-
+impl Storage {
     /// Changes the birth of the entity at this place, which has to be that of the handle, and
     /// leaves the rest. It takes no memory and constant time.
     #[inline]
@@ -244,41 +599,6 @@ impl Storage {
         self.living.set_birth(place, birth);
     }
 
-    /// For how many more entities there is room.
-    ///
-    /// `born` lowers it by 1, or makes more room if it is 0. `reserve` and `despawn` raise it.
-    /// Nothing else changes it.
-    ///
-    /// ```
-    /// use forgeni::{Birth, Storage};
-    ///
-    /// let mut storage = Storage::new();
-    /// let cart = "0v1".parse()?;
-    /// storage.reserve(1)?;
-    /// let before = storage.spare();
-    /// storage.born(cart, Birth { frame: 0, system: 0, ordinal: 0 })?;
-    /// assert_eq!(storage.spare(), before - 1);
-    /// storage.despawn(cart)?;
-    /// assert_eq!(storage.spare(), before);
-    /// # Ok::<(), Box<dyn std::error::Error>>(())
-    /// ```
-    ///
-    /// <details><summary>Contract</summary>
-    ///
-    /// In the words of the folder `specs/` of crate `ent_storage`:
-    ///
-    /// ```text
-    /// ensures { result ≡ self.now.spare }
-    /// ```
-    ///
-    /// </details>
-    #[must_use]
-    #[inline]
-    pub fn spare(&self) -> usize {
-        let room = self.living.capacity().min(self.index.room());
-        room - self.living.len()
-    }
-
     /// Whether there is room for one more entity.
     #[inline(always)]
     fn has_spare(&self) -> bool
@@ -288,159 +608,6 @@ impl Storage {
         len < self.living.capacity() && len < self.index.room()
     }
 
-    /// Makes room for `additional` more entities, so that `born` takes no memory for them. If there
-    /// is room for that many already, it takes no memory and changes nothing.
-    ///
-    /// ```
-    /// use forgeni::Storage;
-    ///
-    /// let mut storage = Storage::new();
-    /// storage.reserve(1000)?;
-    /// assert!(storage.spare() >= 1000);
-    /// # Ok::<(), forgeni::OutOfMemory>(())
-    /// ```
-    ///
-    /// # Errors
-    ///
-    /// Out of memory, or there would be more than 4,294,967,296 entities. The entities are as before,
-    /// and `spare` is below `additional`. It may have grown.
-    ///
-    /// <details><summary>Contract</summary>
-    ///
-    /// In the words of the folder `specs/` of crate `ent_storage`:
-    ///
-    /// ```text
-    /// ensures entities { self.new.entities ≡ self.old.entities }
-    /// ensures ok { OnOk result (additional ≤ self.new.spare) }
-    /// ensures grows { self.old.spare ≤ self.new.spare }
-    /// ensures places { self.new.places ≡ self.old.places }
-    ///
-    /// // With room for that many, the call succeeds and changes nothing.
-    /// ensures succeeds { additional ≤ self.old.spare → IsOk result }
-    /// ensures in_place { additional ≤ self.old.spare → self.new ≡ self.old }
-    ///
-    /// ensures err { OnErr result (self.new.spare < additional) }
-    /// ```
-    ///
-    /// </details>
-    #[inline]
-    pub fn reserve(&mut self, additional: usize) -> Result<(), Memory> {
-        if additional <= self.spare() {
-            return Ok(());
-        }
-        self.living.reserve(additional)?;
-        // With twice the room, the index drops handles that are gone half of its length at a time.
-        let twice = self.living.capacity().saturating_mul(2);
-        if self.index.reserve(twice).is_err() {
-            self.index.reserve(self.living.len() + additional)?;
-        }
-        Ok(())
-    }
-
-    /// Makes room in the index for a pair of each of the first `slots` slots. If an allocator gives
-    /// the handles, births in these slots then take constant time each, in any order. If there is
-    /// that room already, it takes no memory. Each slot takes twelve bytes.
-    ///
-    /// It is for a storage whose first births may be in the greatest slots, as with blocks. A
-    /// [`World`](crate::World) does it itself.
-    ///
-    /// ```
-    /// use forgeni::{Birth, Entities, Storage};
-    ///
-    /// let mut entities = Entities::new();
-    /// let mut storage = Storage::new();
-    /// let all = entities.alloc_many(1000)?;
-    /// storage.reserve_slots(entities.total() as usize)?;
-    /// for (ordinal, handle) in all.into_iter().rev().enumerate() {
-    ///     storage.born(handle, Birth { frame: 0, system: 0, ordinal: ordinal as u32 })?;
-    /// }
-    /// assert_eq!(storage.len(), 1000);
-    /// # Ok::<(), Box<dyn std::error::Error + Send + Sync>>(())
-    /// ```
-    ///
-    /// # Errors
-    ///
-    /// Out of memory, or more than 4,294,967,296 slots. Nothing has changed.
-    ///
-    /// <details><summary>Contract</summary>
-    ///
-    /// In the words of the folder `specs/` of crate `ent_storage`:
-    ///
-    /// ```text
-    /// ensures kept { self.new ≡ record self.old { spare = self.new.spare } }
-    /// ensures grows { self.old.spare ≤ self.new.spare }
-    /// ensures succeeds { slots ≤ length self.old.places + self.old.spare → IsOk result }
-    /// ensures err { OnErr result (self.new ≡ self.old) }
-    /// ```
-    ///
-    /// </details>
-    #[inline]
-    pub fn reserve_slots(&mut self, slots: usize) -> Result<(), Memory> {
-        self.index.reserve(slots)?;
-        Ok(())
-    }
-
-    /// Adds an entity without components. With `spare` above 0 it takes no memory, and `spare` is
-    /// then less by 1.
-    ///
-    /// It takes the time of one look-up if the handle comes after all others, or if the index has a
-    /// pair that doesn't count where the new pair goes, or beside it. With an allocator's handles
-    /// that is the pair of the slot's last occupant, or of a slot that was passed over: the index
-    /// makes those as far as it has room ([`reserve_slots`](Self::reserve_slots)). Otherwise the
-    /// later pairs of the index move up by one. If the index is full, the pairs of all entities
-    /// that are gone are dropped first, in one pass.
-    ///
-    /// ```
-    /// use forgeni::{Birth, Entities, Storage};
-    ///
-    /// let (mut entities, mut storage) = (Entities::new(), Storage::new());
-    /// let mut born = Vec::new();
-    /// entities.request_many(3)?;
-    /// entities.flush(&mut born)?;
-    /// for (ordinal, one) in (0..).zip(born) {
-    ///     storage.born(one, Birth { frame: 0, system: 0, ordinal })?;
-    /// }
-    /// assert_eq!(storage.len(), 3);
-    /// # Ok::<(), Box<dyn std::error::Error>>(())
-    /// ```
-    ///
-    /// # Errors
-    ///
-    /// Nothing has changed.
-    ///
-    /// - `Present`: the entity is there already. This is tested first.
-    /// - `Memory`: `spare` is 0, and memory ran out, or there are 4,294,967,296 entities, which is the
-    ///   most.
-    ///
-    /// <details><summary>Contract</summary>
-    ///
-    /// In the words of the folder `specs/` of crate `ent_storage`:
-    ///
-    /// ```text
-    /// ensures ok { OnOk result
-    ///     (self.new.entities ≡ map.insert self.old.entities handle (newborn birth)) }
-    /// ensures spare { OnOk result (0 < self.old.spare → self.new.spare + 1 ≡ self.old.spare) }
-    /// ensures places { OnOk result (self.new.places ≡ self.old.places ++ handle ∷ []) }
-    ///
-    /// ensures present { IsErrOf result StorageFault.Present
-    ///     ↔ IsTrue (map.contains_key self.old.entities handle) }
-    /// ensures memory_without_room { IsErrOf result StorageFault.Memory → self.old.spare ≡ 0 }
-    /// ensures never_absent { ¬ (IsErrOf result StorageFault.Absent) }
-    /// ensures err { OnErr result (self.new ≡ self.old) }
-    /// ```
-    ///
-    /// </details>
-    #[inline(always)]
-    pub fn born(&mut self, handle: Handle, birth: Birth) -> Result<(), StorageFault> {
-        if !self.has_spare() {
-            if self.contains(handle) {
-                return Err(StorageFault::Present);
-            }
-            self.reserve(1)?;
-        }
-        self.born_within(handle, birth)
-    }
-
     /// Does what [`Storage::born`] does, where there is room: a caller that adds many tests that once
     /// for all of them. It takes no memory, and `spare` is then less by 1.
     ///
@@ -448,74 +615,23 @@ impl Storage {
     ///
     /// `Present`: the entity is there already. Nothing has changed.
     #[inline(always)]
-    pub(crate) fn born_within(&mut self, handle: Handle, birth: Birth) -> Result<(), StorageFault>
+    pub(crate) fn born_within(&mut self, handle: Handle, birth: Birth) -> Result<(), StorageError>
         // requires room { 0 < self.old.spare }
         // ensures ok { OnOk result
         //     (self.new.entities ≡ map.insert self.old.entities handle (newborn birth)) }
         // ensures spare { OnOk result (self.new.spare + 1 ≡ self.old.spare) }
         // ensures places { OnOk result (self.new.places ≡ self.old.places ++ handle ∷ []) }
-        // ensures present { IsErrOf result StorageFault.Present
+        // ensures present { IsErrOf result StorageError.Present
         //     ↔ IsTrue (map.contains_key self.old.entities handle) }
-        // ensures only_present { IfErr result (λ fault. fault ≡ StorageFault.Present) }
+        // ensures only_present { IfErr result (λ fault. fault ≡ StorageError.Present) }
         // ensures err { OnErr result (self.new ≡ self.old) }
     {
         if self.index.put(&self.living, handle) {
             self.living.push(handle, birth);
             Ok(())
         } else {
-            Err(StorageFault::Present)
+            Err(StorageError::Present)
         }
-    }
-
-    /// Removes the entity, with all its components. It takes no memory, and `spare` is then greater
-    /// by 1.
-    ///
-    /// It takes the time of two look-ups, and time for each component that any entity has ever had.
-    /// The index stays as it is, except for the entity that moves.
-    ///
-    /// ```
-    /// use forgeni::{Birth, Entities, Storage};
-    ///
-    /// let (mut entities, mut storage) = (Entities::new(), Storage::new());
-    /// let cart = entities.alloc()?;
-    /// storage.born(cart, Birth { frame: 0, system: 0, ordinal: 0 })?;
-    /// // The one doesn't know of the other: both have to be called.
-    /// storage.despawn(cart)?;
-    /// entities.free(cart)?;
-    /// assert!(storage.is_empty() && entities.is_empty());
-    /// # Ok::<(), Box<dyn std::error::Error>>(())
-    /// ```
-    ///
-    /// # Errors
-    ///
-    /// `Absent`: the entity is not there. Nothing has changed.
-    ///
-    /// <details><summary>Contract</summary>
-    ///
-    /// In the words of the folder `specs/` of crate `ent_storage`:
-    ///
-    /// ```text
-    /// ensures ok { OnOk result (self.new.entities ≡ map.remove self.old.entities handle) }
-    /// ensures spare { OnOk result (self.new.spare ≡ self.old.spare + 1) }
-    /// ensures places { OnOk result (SomeIndex self.old.places (λ place.
-    ///     (slice_get self.old.places place ≡ Some handle)
-    ///     × AreWithout place self.old.places self.new.places)) }
-    ///
-    /// ensures absent { IsErrOf result StorageFault.Absent
-    ///     ↔ (map.get self.old.entities handle ≡ None) }
-    /// ensures only_absent { IfErr result (λ fault. fault ≡ StorageFault.Absent) }
-    /// ensures err { OnErr result (self.new ≡ self.old) }
-    /// ```
-    ///
-    /// </details>
-    #[inline(always)]
-    pub fn despawn(&mut self, handle: Handle) -> Result<(), StorageFault> {
-        let Some(place) = self.place(handle) else {
-            return Err(StorageFault::Absent);
-        };
-        let _ = self.despawn_at(place, handle);
-        self.forget(handle);
-        Ok(())
     }
 
     /// Lets the index forget an entity that has gone, so that the next birth in its slot looks at
@@ -552,63 +668,6 @@ impl Storage {
         }
     }
 
-    /// Sets each of the components, and leaves the entity's others as they are. The list may be in any
-    /// order. If a component is in it twice, its last value counts.
-    ///
-    /// It takes memory only for components that the entity does not have yet.
-    ///
-    /// ```
-    /// use forgeni::{Birth, ComponentId, Handle, Storage};
-    ///
-    /// let [mass, speed] = [ComponentId(0), ComponentId(1)];
-    /// let cart = Handle::new(0, 1).unwrap();
-    /// let mut storage = Storage::new();
-    /// storage.born(cart, Birth { frame: 0, system: 0, ordinal: 0 })?;
-    /// storage.insert(cart, &[(speed, 1), (mass, 7), (speed, 2)])?;
-    /// assert!(storage.items(cart).unwrap().eq([(mass, 7), (speed, 2)]));
-    /// # Ok::<(), Box<dyn std::error::Error>>(())
-    /// ```
-    ///
-    /// # Errors
-    ///
-    /// Nothing has changed.
-    ///
-    /// - `Absent`: the entity is not there.
-    /// - `Memory`: memory ran out for the components that the entity does not have yet.
-    ///
-    /// <details><summary>Contract</summary>
-    ///
-    /// In the words of the folder `specs/` of crate `ent_storage`:
-    ///
-    /// ```text
-    /// ensures ok { OnOk result (self.new.entities
-    ///     ≡ with_components self.old.entities handle (λ held. with_items held items.now)) }
-    /// ensures spare { self.new.spare ≡ self.old.spare }
-    /// ensures places { self.new.places ≡ self.old.places }
-    ///
-    /// ensures absent { IsErrOf result StorageFault.Absent
-    ///     ↔ (map.get self.old.entities handle ≡ None) }
-    /// ensures memory_to_grow { IsErrOf result StorageFault.Memory
-    ///     → IfSome (components_of self.old.entities handle)
-    ///     (λ held. 0 < missing held items.now) }
-    /// ensures never_present { ¬ (IsErrOf result StorageFault.Present) }
-    /// ensures err { OnErr result (self.new ≡ self.old) }
-    /// ```
-    ///
-    /// </details>
-    #[inline(always)]
-    pub fn insert(
-        &mut self,
-        handle: Handle,
-        items: &[(ComponentId, i64)],
-    ) -> Result<(), StorageFault> {
-        let Some(place) = self.place(handle) else {
-            return Err(StorageFault::Absent);
-        };
-        self.insert_at(place, handle, items)?;
-        Ok(())
-    }
-
     /// Sets each of these components of the entity at this place, and leaves its others as they
     /// are. The place has to be that of the handle. If a component is in the list twice, its last
     /// value counts.
@@ -625,7 +684,7 @@ impl Storage {
         place: usize,
         handle: Handle,
         items: &[(ComponentId, i64)],
-    ) -> Result<(), Memory>
+    ) -> Result<(), OutOfMemory>
         // requires { slice_get self.old.places place ≡ Some handle }
         // ensures ok { OnOk result (self.new.entities
         //     ≡ with_components self.old.entities handle (λ held. with_items held items.now)) }
@@ -639,53 +698,6 @@ impl Storage {
     {
         self.living.insert(place, items)?;
         Ok(())
-    }
-
-    /// Removes the component from the entity, and returns its value, or `None` if the entity
-    /// doesn't have it. It takes no memory.
-    ///
-    /// ```
-    /// use forgeni::{Birth, ComponentId, Storage};
-    ///
-    /// const BURNING: ComponentId = ComponentId(0);
-    ///
-    /// let mut storage = Storage::new();
-    /// let cart = "0v1".parse()?;
-    /// storage.born(cart, Birth { frame: 0, system: 0, ordinal: 0 })?;
-    /// storage.insert(cart, &[(BURNING, 3)])?;
-    /// assert_eq!(storage.remove(cart, BURNING)?, Some(3));
-    /// assert_eq!(storage.remove(cart, BURNING)?, None);
-    /// # Ok::<(), Box<dyn std::error::Error>>(())
-    /// ```
-    ///
-    /// # Errors
-    ///
-    /// `Absent`: the entity is not there. Nothing has changed.
-    ///
-    /// <details><summary>Contract</summary>
-    ///
-    /// In the words of the folder `specs/` of crate `ent_storage`:
-    ///
-    /// ```text
-    /// ensures value { IfOk result (λ value. value ≡ value_of self.old.entities handle id) }
-    /// ensures ok { OnOk result (self.new.entities
-    ///     ≡ with_components self.old.entities handle (λ held. map.remove held id)) }
-    /// ensures spare { self.new.spare ≡ self.old.spare }
-    /// ensures places { self.new.places ≡ self.old.places }
-    ///
-    /// ensures absent { IsErrOf result StorageFault.Absent
-    ///     ↔ (map.get self.old.entities handle ≡ None) }
-    /// ensures only_absent { IfErr result (λ fault. fault ≡ StorageFault.Absent) }
-    /// ensures err { OnErr result (self.new ≡ self.old) }
-    /// ```
-    ///
-    /// </details>
-    #[inline]
-    pub fn remove(&mut self, handle: Handle, id: ComponentId) -> Result<Option<i64>, StorageFault> {
-        let Some(place) = self.place(handle) else {
-            return Err(StorageFault::Absent);
-        };
-        Ok(self.remove_at(place, handle, id))
     }
 
     /// Takes the component out of the entity at this place, which has to be that of the handle.

@@ -2,14 +2,15 @@
 
 //! The sync point: queues take effect on their world.
 
-use crate::proved::ent_total::go_on_error::GoOnError;
-use crate::proved::ent_total::queues::Queues;
-use crate::proved::ent_total::stop::Stop;
-use crate::proved::ent_total::stopped::Stopped;
-use crate::proved::ent_total::sync_error::SyncError;
-use crate::proved::ent_total::world::World;
-use crate::proved::ent_world::{SyncFault, SyncReport};
+use crate::phases::go_on_error::GoOnError;
+use crate::phases::queues::Queues;
+use crate::phases::stop::Stop;
+use crate::phases::stopped::Stopped;
+use crate::phases::sync_error::SyncError;
+use crate::phases::world::World;
+use crate::worlds::{SyncFault, Report};
 
+/// # Sync points
 impl World {
     /// The sync point: brings to life what is reserved, and then lets the queues take effect, one
     /// after the other, in their order. A command on an entity that is not alive at its turn has no
@@ -59,7 +60,7 @@ impl World {
     ///
     /// </details>
     #[inline]
-    pub fn apply(&mut self, queues: Queues) -> Result<SyncReport, SyncError> {
+    pub fn apply(&mut self, queues: Queues) -> Result<Report, SyncError> {
         if queues.world() != self.number {
             return Err(SyncError::OtherWorld(queues));
         }
@@ -79,7 +80,7 @@ impl World {
 
 /// `World::apply`, with what it ensures as one fact.
 #[inline]
-fn sync(world: &mut crate::proved::ent_world::World, queues: Queues) -> Result<SyncReport, SyncError>
+fn sync(world: &mut crate::worlds::World, queues: Queues) -> Result<Report, SyncError>
     // ensures applied { IfOk result (λ report.
     //     IsSynced queues.queues world.old world.new report) }
     // ensures stopped { IfErr result (λ error. IfStopped error (λ stopped.
@@ -166,7 +167,7 @@ impl Stopped {
     ///
     /// </details>
     #[inline]
-    pub fn go_on(self, world: &mut World) -> Result<SyncReport, GoOnError> {
+    pub fn go_on(self, world: &mut World) -> Result<Report, GoOnError> {
         if self.world() != world.number {
             return Err(GoOnError::OtherWorld(self));
         }
@@ -184,10 +185,10 @@ impl Stopped {
 /// `World::apply_from`, with a stop as one value.
 #[inline]
 fn apply_left(
-    world: &mut crate::proved::ent_world::World,
-    queues: &[crate::proved::ent_queue::CommandQueue],
+    world: &mut crate::worlds::World,
+    queues: &[crate::commands::IssuedCommands],
     from: Stop,
-) -> Result<SyncReport, (Stop, SyncReport)>
+) -> Result<Report, (Stop, Report)>
     // requires flushed { world.old.allocator.asked ≡ 0 }
     // requires stop { IsStop from.system from.command from.done queues.now }
     // ensures done { IfOk result (λ r. IsFinished from queues.now world.old world.new r) }

@@ -2,8 +2,8 @@
 
 //! Clones of a world, as snapshots that a program goes back to.
 
-use crate::proved::ent_total::world::World;
-use crate::proved::ent_handle::Memory;
+use crate::phases::world::World;
+use crate::handles::OutOfMemory;
 
 /// Another world in the same state, with this number. So the queues of one are refused by the other.
 ///
@@ -23,7 +23,7 @@ use crate::proved::ent_handle::Memory;
 ///
 /// </details>
 #[inline]
-pub fn clone_world(world: &World, number: u64) -> Result<World, Memory> {
+pub fn clone_world(world: &World, number: u64) -> Result<World, OutOfMemory> {
     Ok(World {
         world: world.world.try_clone()?,
         number,
@@ -50,7 +50,7 @@ pub fn clone_world(world: &World, number: u64) -> Result<World, Memory> {
 ///
 /// </details>
 #[inline]
-pub fn clone_world_from(world: &mut World, source: &World, number: u64) -> Result<(), Memory> {
+pub fn clone_world_from(world: &mut World, source: &World, number: u64) -> Result<(), OutOfMemory> {
     world.world.try_clone_from(&source.world)?;
     world.number = number;
     world.spawned = source.spawned;

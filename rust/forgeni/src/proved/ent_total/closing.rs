@@ -3,13 +3,14 @@
 //! A phase ends, and gives the allocator back.
 
 use alloc::vec::Vec;
-use crate::proved::ent_total::close_error::CloseError;
-use crate::proved::ent_total::reserver::Reserver;
-use crate::proved::ent_total::returning::are_of;
-use crate::proved::ent_total::shared::Shared;
-use crate::proved::ent_alloc::Entities;
-use crate::proved::ent_handle::HandedBack;
+use crate::phases::close_error::CloseError;
+use crate::phases::reserver::Reserver;
+use crate::phases::returning::are_of;
+use crate::phases::shared::Shared;
+use crate::allocator::Entities;
+use crate::handles::HandedBack;
 
+/// # Closing
 impl Shared {
     /// Ends the phase with all its reservers: those that are returned, and these. The allocator is as
     /// if their reservations had been made one by one, in the order of their atomic steps, and
@@ -151,7 +152,9 @@ impl Shared {
             Err(shared) => Err(shared.in_use()),
         }
     }
+}
 
+impl Shared {
     /// How many reservers are missing beside those returned and these, if these may come back.
     #[inline]
     fn missing(&self, reservers: &[Reserver]) -> Option<usize>

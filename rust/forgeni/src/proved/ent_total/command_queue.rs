@@ -1,7 +1,7 @@
 // Made of crates/ent_total/src/command_queue.rt by rust/erase. It isn't edited by hand.
 
-use crate::proved::ent_total::commands::Commands;
-use crate::proved::ent_total::open_world::OpenWorld;
+use crate::phases::commands::Commands;
+use crate::phases::open_world::OpenWorld;
 
 /// The commands of one system, in the order of issue. [`OpenWorld::close`] and
 /// [`OpenWorld::close_lost`] take it.

@@ -1,12 +1,12 @@
 // Made of crates/ent_total/src/commands.rt by rust/erase. It isn't edited by hand.
 
 use alloc::vec::Vec;
-use crate::proved::ent_total::command_queue::CommandQueue;
-use crate::proved::ent_total::open_world::OpenWorld;
-use crate::proved::ent_alloc::ReserveError;
-use crate::proved::ent_handle::{Birth, ComponentId, Handle, Memory};
-use crate::proved::ent_shared::Reserver;
-use crate::proved::ent_world::View;
+use crate::phases::command_queue::CommandQueue;
+use crate::phases::open_world::OpenWorld;
+use crate::allocator::ReserveError;
+use crate::handles::{Birth, ComponentId, Handle, OutOfMemory};
+use crate::reserving::SharedReserver;
+use crate::worlds::View;
 use core::mem;
 use crate::kit::sync::Arc;
 
@@ -38,33 +38,14 @@ use crate::kit::sync::Arc;
 #[must_use]
 #[repr(align(128))]
 pub struct Commands {
-    pub(super) world: Arc<crate::proved::ent_world::OpenWorld>,
-    pub(super) reserver: Reserver,
-    pub(super) queue: crate::proved::ent_queue::CommandQueue,
+    pub(super) world: Arc<crate::worlds::OpenWorld>,
+    pub(super) reserver: SharedReserver,
+    pub(super) queue: crate::commands::IssuedCommands,
     pub(super) number: u64,
 }
 
+/// # Issuing
 impl Commands {
-    /// A system that has issued nothing.
-    #[inline]
-    pub(super) fn new(
-        world: Arc<crate::proved::ent_world::OpenWorld>,
-        mut reserver: Reserver,
-        number: u64,
-    ) -> Self
-        // requires stands_for { J.world_of number ≡ arc_value world }
-        // requires own { IsOf (arc_value world).shared reserver }
-        // ensures { result ≡ new_commands number (arc_value world) reserver }
-    {
-        let queue = crate::proved::ent_queue::Commands::new(world.shared(), &mut reserver).finish();
-        Commands {
-            world,
-            reserver,
-            queue,
-            number,
-        }
-    }
-
     /// Reserves a handle at once, by one atomic step. It is to have these components, in any order.
     /// If a component is listed twice, its last value counts.
     ///
@@ -118,7 +99,7 @@ impl Commands {
     ) -> Result<Handle, ReserveError> {
         let queue = self.take_queue();
         let shared = self.world.shared();
-        let mut commands = crate::proved::ent_queue::Commands::resume(shared, &mut self.reserver, queue);
+        let mut commands = crate::commands::SystemCommands::resume(shared, &mut self.reserver, queue);
         let spawned = commands.spawn_with(components);
         self.queue = commands.finish();
         spawned
@@ -179,7 +160,7 @@ impl Commands {
     ) -> Result<Vec<Handle>, ReserveError> {
         let queue = self.take_queue();
         let shared = self.world.shared();
-        let mut commands = crate::proved::ent_queue::Commands::resume(shared, &mut self.reserver, queue);
+        let mut commands = crate::commands::SystemCommands::resume(shared, &mut self.reserver, queue);
         let spawned = commands.spawn_many_with(n, components);
         self.queue = commands.finish();
         spawned
@@ -228,10 +209,10 @@ impl Commands {
         &mut self,
         handle: Handle,
         components: &[(ComponentId, i64)],
-    ) -> Result<(), Memory> {
+    ) -> Result<(), OutOfMemory> {
         let queue = self.take_queue();
         let shared = self.world.shared();
-        let mut commands = crate::proved::ent_queue::Commands::resume(shared, &mut self.reserver, queue);
+        let mut commands = crate::commands::SystemCommands::resume(shared, &mut self.reserver, queue);
         let issued = commands.insert_with(handle, components);
         self.queue = commands.finish();
         issued
@@ -270,10 +251,10 @@ impl Commands {
     ///
     /// </details>
     #[inline]
-    pub fn remove(&mut self, handle: Handle, id: ComponentId) -> Result<(), Memory> {
+    pub fn remove(&mut self, handle: Handle, id: ComponentId) -> Result<(), OutOfMemory> {
         let queue = self.take_queue();
         let shared = self.world.shared();
-        let mut commands = crate::proved::ent_queue::Commands::resume(shared, &mut self.reserver, queue);
+        let mut commands = crate::commands::SystemCommands::resume(shared, &mut self.reserver, queue);
         let issued = commands.remove(handle, id);
         self.queue = commands.finish();
         issued
@@ -316,26 +297,18 @@ impl Commands {
     ///
     /// </details>
     #[inline]
-    pub fn despawn(&mut self, handle: Handle) -> Result<(), Memory> {
+    pub fn despawn(&mut self, handle: Handle) -> Result<(), OutOfMemory> {
         let queue = self.take_queue();
         let shared = self.world.shared();
-        let mut commands = crate::proved::ent_queue::Commands::resume(shared, &mut self.reserver, queue);
+        let mut commands = crate::commands::SystemCommands::resume(shared, &mut self.reserver, queue);
         let issued = commands.despawn(handle);
         self.queue = commands.finish();
         issued
     }
+}
 
-    /// The queue, and leaves an empty one, which takes no memory.
-    #[inline]
-    fn take_queue(&mut self) -> crate::proved::ent_queue::CommandQueue
-        // ensures queue { result ≡ self.old.queue }
-        // ensures rest { self.new ≡ record self.old { queue = [] } }
-    {
-        let shared = self.world.shared();
-        let empty = crate::proved::ent_queue::Commands::new(shared, &mut self.reserver).finish();
-        mem::replace(&mut self.queue, empty)
-    }
-
+/// # Looking at the world
+impl Commands {
     /// The value of the entity's component, if the entity is alive and has it.
     ///
     /// ```
@@ -368,6 +341,35 @@ impl Commands {
         self.world.view().get(handle, id)
     }
 
+    /// Whether the entity is alive. What the systems of the phase spawn isn't yet.
+    ///
+    /// ```
+    /// use forgeni::World;
+    ///
+    /// let mut world = World::new();
+    /// let oak = world.spawn(&[])?;
+    /// let (_open, mut systems) = world.open(2)?;
+    /// systems[0].despawn(oak)?;
+    /// // Until the sync point every system sees the same world.
+    /// assert!(systems[1].contains(oak));
+    /// # Ok::<(), Box<dyn std::error::Error>>(())
+    /// ```
+    ///
+    /// <details><summary>Contract</summary>
+    ///
+    /// In the words of the folder `specs/` of crate `ent_total`:
+    ///
+    /// ```text
+    /// ensures { result ≡ map.contains_key self.now.world.entities handle }
+    /// ```
+    ///
+    /// </details>
+    #[must_use]
+    #[inline]
+    pub fn contains(&self, handle: Handle) -> bool {
+        self.world.view().contains(handle)
+    }
+
     /// When and by whom the entity was brought to life, if it is alive.
     ///
     /// ```
@@ -396,35 +398,6 @@ impl Commands {
     #[inline]
     pub fn birth(&self, handle: Handle) -> Option<Birth> {
         self.world.view().birth(handle)
-    }
-
-    /// Whether the entity is alive. What the systems of the phase spawn isn't yet.
-    ///
-    /// ```
-    /// use forgeni::World;
-    ///
-    /// let mut world = World::new();
-    /// let oak = world.spawn(&[])?;
-    /// let (_open, mut systems) = world.open(2)?;
-    /// systems[0].despawn(oak)?;
-    /// // Until the sync point every system sees the same world.
-    /// assert!(systems[1].contains(oak));
-    /// # Ok::<(), Box<dyn std::error::Error>>(())
-    /// ```
-    ///
-    /// <details><summary>Contract</summary>
-    ///
-    /// In the words of the folder `specs/` of crate `ent_total`:
-    ///
-    /// ```text
-    /// ensures { result ≡ map.contains_key self.now.world.entities handle }
-    /// ```
-    ///
-    /// </details>
-    #[must_use]
-    #[inline]
-    pub fn contains(&self, handle: Handle) -> bool {
-        self.world.view().contains(handle)
     }
 
     /// The handles of all entities, by birth and then by handle. The time is that of a sort.
@@ -457,7 +430,7 @@ impl Commands {
     ///
     /// </details>
     #[inline]
-    pub fn by_birth(&self) -> Result<Vec<Handle>, Memory> {
+    pub fn by_birth(&self) -> Result<Vec<Handle>, OutOfMemory> {
         self.world.view().by_birth()
     }
 
@@ -492,34 +465,10 @@ impl Commands {
     pub fn view(&self) -> View<'_> {
         self.world.view()
     }
+}
 
-    /// Whether it is of this phase.
-    ///
-    /// ```
-    /// use forgeni::World;
-    ///
-    /// let (one, systems) = World::new().open(1)?;
-    /// let (other, _) = World::new().open(1)?;
-    /// assert!(systems[0].is_of(&one) && !systems[0].is_of(&other));
-    /// # Ok::<(), Box<dyn std::error::Error>>(())
-    /// ```
-    ///
-    /// <details><summary>Contract</summary>
-    ///
-    /// In the words of the folder `specs/` of crate `ent_total`:
-    ///
-    /// ```text
-    /// ensures number { IsTrue result ↔ (self.now.number ≡ phase.now.number) }
-    /// ensures world { IsTrue result → self.now.world ≡ phase.now.world }
-    /// ```
-    ///
-    /// </details>
-    #[must_use]
-    #[inline]
-    pub fn is_of(&self, phase: &OpenWorld) -> bool {
-        self.number == phase.number()
-    }
-
+/// # Its phase
+impl Commands {
     /// Which of the systems it is: its position in the list that the phase began with, from 0.
     /// Births and faults count systems by the order of their queues at the close instead.
     ///
@@ -550,6 +499,33 @@ impl Commands {
         self.reserver.number()
     }
 
+    /// Whether it is of this phase.
+    ///
+    /// ```
+    /// use forgeni::World;
+    ///
+    /// let (one, systems) = World::new().open(1)?;
+    /// let (other, _) = World::new().open(1)?;
+    /// assert!(systems[0].is_of(&one) && !systems[0].is_of(&other));
+    /// # Ok::<(), Box<dyn std::error::Error>>(())
+    /// ```
+    ///
+    /// <details><summary>Contract</summary>
+    ///
+    /// In the words of the folder `specs/` of crate `ent_total`:
+    ///
+    /// ```text
+    /// ensures number { IsTrue result ↔ (self.now.number ≡ phase.now.number) }
+    /// ensures world { IsTrue result → self.now.world ≡ phase.now.world }
+    /// ```
+    ///
+    /// </details>
+    #[must_use]
+    #[inline]
+    pub fn is_of(&self, phase: &OpenWorld) -> bool {
+        self.number == phase.number()
+    }
+
     /// Ends the issuing, and returns the queue, which [`OpenWorld::close`] takes. The system can
     /// issue no more:
     ///
@@ -572,5 +548,38 @@ impl Commands {
     #[inline]
     pub fn finish(self) -> CommandQueue {
         CommandQueue::new(self)
+    }
+}
+
+impl Commands {
+    /// A system that has issued nothing.
+    #[inline]
+    pub(super) fn new(
+        world: Arc<crate::worlds::OpenWorld>,
+        mut reserver: SharedReserver,
+        number: u64,
+    ) -> Self
+        // requires stands_for { J.world_of number ≡ arc_value world }
+        // requires own { IsOf (arc_value world).shared reserver }
+        // ensures { result ≡ new_commands number (arc_value world) reserver }
+    {
+        let queue = crate::commands::SystemCommands::new(world.shared(), &mut reserver).finish();
+        Commands {
+            world,
+            reserver,
+            queue,
+            number,
+        }
+    }
+
+    /// The queue, and leaves an empty one, which takes no memory.
+    #[inline]
+    fn take_queue(&mut self) -> crate::commands::IssuedCommands
+        // ensures queue { result ≡ self.old.queue }
+        // ensures rest { self.new ≡ record self.old { queue = [] } }
+    {
+        let shared = self.world.shared();
+        let empty = crate::commands::SystemCommands::new(shared, &mut self.reserver).finish();
+        mem::replace(&mut self.queue, empty)
     }
 }

@@ -2,14 +2,14 @@
 
 //! A world is opened in blocks.
 use alloc::vec::Vec;
-use crate::proved::ent_total::world::World;
-use crate::proved::ent_total::world_in_blocks::WorldInBlocks;
-use crate::proved::ent_blocks::{BlockReserver, DealError};
-use crate::proved::ent_handle::HandedBack;
+use crate::phases::world::World;
+use crate::phases::world_in_blocks::WorldInBlocks;
+use crate::in_blocks::{BlockReserver, DealError};
+use crate::handles::HandedBack;
 
 /// A world whose allocator is dealt in blocks, and that has no number yet.
 pub struct WorldDeal {
-    pub(super) deal: crate::proved::ent_world::WorldDeal,
+    pub(super) deal: crate::worlds::WorldDeal,
     pub(super) of_world: u64,
     pub(super) spawned: u32,
 }

@@ -3,14 +3,14 @@
 //! A phase of a world ends, and gives the world back, with the queues of its systems.
 
 use alloc::vec::Vec;
-use crate::proved::ent_total::close_error::CloseError;
-use crate::proved::ent_total::command_queue::CommandQueue;
-use crate::proved::ent_total::open_world::{OpenWorld, Parts};
-use crate::proved::ent_total::queues::Queues;
-use crate::proved::ent_total::world::World;
-use crate::proved::ent_total::world_returning::are_of;
-use crate::proved::ent_handle::HandedBack;
-use crate::proved::ent_shared::Reserver;
+use crate::phases::close_error::CloseError;
+use crate::phases::command_queue::CommandQueue;
+use crate::phases::open_world::{OpenWorld, Parts};
+use crate::phases::queues::Queues;
+use crate::phases::world::World;
+use crate::phases::world_returning::are_of;
+use crate::handles::HandedBack;
+use crate::reserving::SharedReserver;
 
 impl OpenWorld {
     /// Ends the phase with the queues of all its systems. Their order here is the order in which
@@ -93,7 +93,7 @@ impl OpenWorld {
         }
     }
 
-    /// Ends the phase although some systems are lost: their [`Commands`](crate::proved::ent_total::Commands) or queues
+    /// Ends the phase although some systems are lost: their [`Commands`](crate::phases::Commands) or queues
     /// were dropped, as by a thread that panicked. The queues of the others take effect in their
     /// order here, which also numbers their systems in births and faults. What a lost system issued
     /// is gone.
@@ -254,7 +254,7 @@ fn close_some(parts: Parts) -> (World, Queues)
 }
 
 #[inline]
-fn closed_world(opened: crate::proved::ent_world::OpenWorld, returned: Vec<Reserver>) -> crate::proved::ent_world::World
+fn closed_world(opened: crate::worlds::OpenWorld, returned: Vec<SharedReserver>) -> crate::worlds::World
     // requires all { length returned.items ≡ opened.shared.count }
     // requires own { All (IsOf opened.shared) returned.items }
     // ensures { IsClosed opened returned.items result }
@@ -263,7 +263,7 @@ fn closed_world(opened: crate::proved::ent_world::OpenWorld, returned: Vec<Reser
 }
 
 #[inline]
-fn lost_world(opened: crate::proved::ent_world::OpenWorld, returned: Vec<Reserver>) -> crate::proved::ent_world::World
+fn lost_world(opened: crate::worlds::OpenWorld, returned: Vec<SharedReserver>) -> crate::worlds::World
     // requires { All (IsOf opened.shared) returned.items }
     // ensures { IsClosedLost opened returned.items result }
 {

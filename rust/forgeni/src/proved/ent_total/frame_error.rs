@@ -1,7 +1,7 @@
 // Made of crates/ent_total/src/frame_error.rt by rust/erase. It isn't edited by hand.
 
-use crate::proved::ent_total::queues::Queues;
-use crate::proved::ent_total::stopped::Stopped;
+use crate::phases::queues::Queues;
+use crate::phases::stopped::Stopped;
 use core::error::Error;
 use core::fmt;
 
@@ -39,7 +39,7 @@ pub enum FrameError {
     /// next flush brings them to life, without components.
     Lost,
     /// All systems ran, and there was no memory to begin the sync point. No command took effect.
-    /// [`World::apply`](crate::proved::ent_total::World::apply) makes it.
+    /// [`World::apply`](crate::phases::World::apply) makes it.
     Unapplied(Queues),
     /// All systems ran, and the sync point stopped because memory ran out at a command.
     /// [`Stopped::go_on`] does the rest.

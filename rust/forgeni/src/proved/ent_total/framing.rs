@@ -2,15 +2,15 @@
 
 //! Frames: systems run on workers over a world, and the sync point lets their queues take effect.
 
-use crate::proved::ent_total::frame_error::FrameError;
-use crate::proved::ent_total::queues::Queues;
-use crate::proved::ent_total::stop::Stop;
-use crate::proved::ent_total::stopped::Stopped;
-use crate::proved::ent_total::world::World;
-use crate::proved::ent_runner::{FrameFault, FrameReport, Gate, System};
-use crate::proved::ent_shared::Shared;
-use crate::proved::ent_world::SyncFault;
-use crate::kit::thread::Threads;
+use crate::phases::frame_error::FrameError;
+use crate::phases::queues::Queues;
+use crate::phases::stop::Stop;
+use crate::phases::stopped::Stopped;
+use crate::phases::world::World;
+use crate::running::{FrameFault, FrameReport, Gate, System};
+use crate::reserving::SharedSource;
+use crate::worlds::SyncFault;
+use crate::kit::thread::Join;
 
 /// How many workers may run systems.
 const WORKERS: usize = 64;
@@ -67,8 +67,8 @@ pub fn run_frame<R, S, G>(
     gate: &G,
 ) -> Result<FrameReport, FrameError>
 where
-    R: Threads + Sync,
-    S: System<Shared> + Sync,
+    R: Join + Sync,
+    S: System<SharedSource> + Sync,
     G: Gate + Sync,
 {
     if world.world.needs_flush() {
@@ -80,7 +80,7 @@ where
     if systems.len() > SYSTEMS {
         return Err(FrameError::Systems);
     }
-    match crate::proved::ent_runner::run_frame(rt, &mut world.world, systems, workers, gate) {
+    match crate::running::run_frame(rt, &mut world.world, systems, workers, gate) {
         Ok(report) => {
             world.spawned = 0;
             Ok(report)

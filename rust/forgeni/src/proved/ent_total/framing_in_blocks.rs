@@ -2,17 +2,17 @@
 
 //! Frames in blocks: what a system reserves depends on no other system, and on no thread.
 use alloc::vec::Vec;
-use crate::proved::ent_total::queues::Queues;
-use crate::proved::ent_total::stop::Stop;
-use crate::proved::ent_total::stopped::Stopped;
-use crate::proved::ent_total::unframed::Unframed;
-use crate::proved::ent_total::world::World;
-use crate::proved::ent_total::world_in_blocks::WorldInBlocks;
-use crate::proved::ent_blocks::{BlockReserver, Blocks};
-use crate::proved::ent_handle::HandedBack;
-use crate::proved::ent_runner::{FrameReport, RunError, System};
-use crate::proved::ent_world::SyncFault;
-use crate::kit::thread::Threads;
+use crate::phases::queues::Queues;
+use crate::phases::stop::Stop;
+use crate::phases::stopped::Stopped;
+use crate::phases::unframed::Unframed;
+use crate::phases::world::World;
+use crate::phases::world_in_blocks::WorldInBlocks;
+use crate::in_blocks::{BlockReserver, Blocks};
+use crate::handles::HandedBack;
+use crate::running::{FrameReport, RunError, System};
+use crate::worlds::SyncFault;
+use crate::kit::thread::Join;
 
 /// Runs each system once, on that many workers side by side, 1 to 64, each with the reserver at its
 /// position. The world isn't changed: it is [closed](WorldInBlocks::close) with the reservers, and
@@ -93,10 +93,10 @@ pub fn fill_in_blocks<R, S>(
     workers: usize,
 ) -> Result<(Queues, Vec<BlockReserver>), HandedBack<Vec<BlockReserver>, RunError>>
 where
-    R: Threads + Sync,
+    R: Join + Sync,
     S: System<Blocks> + Sync,
 {
-    let filled = crate::proved::ent_runner::fill_in_blocks(
+    let filled = crate::running::fill_in_blocks(
         rt,
         opened.blocks(),
         reservers,
@@ -184,7 +184,7 @@ pub fn run_frame_in_blocks<R, S>(
     workers: usize,
 ) -> Result<(World, FrameReport), Unframed>
 where
-    R: Threads + Sync,
+    R: Join + Sync,
     S: System<Blocks> + Sync,
 {
     let WorldInBlocks {
@@ -192,7 +192,7 @@ where
         of_world,
         spawned,
     } = opened;
-    let ran = crate::proved::ent_runner::run_frame_in_blocks(rt, opened, reservers, systems, workers);
+    let ran = crate::running::run_frame_in_blocks(rt, opened, reservers, systems, workers);
     match ran {
         Ok((world, report)) => {
             let world = World {
@@ -203,7 +203,7 @@ where
             Ok((world, report))
         }
         Err(
-            crate::proved::ent_runner::Unframed::Unrun {
+            crate::running::Unframed::Unrun {
                 world,
                 reservers,
                 error,
@@ -220,12 +220,12 @@ where
                 error,
             })
         }
-        Err(crate::proved::ent_runner::Unframed::Unended { unended, queues }) => Err(Unframed::Unended {
+        Err(crate::running::Unframed::Unended { unended, queues }) => Err(Unframed::Unended {
             unended: WorldInBlocks::handed_back(unended, of_world, spawned),
             queues: Queues::new(of_world, queues),
         }),
         Err(
-            crate::proved::ent_runner::Unframed::Sync {
+            crate::running::Unframed::Sync {
                 world,
                 fault,
                 queues,

@@ -1,6 +1,6 @@
 // Made of crates/ent_total/src/go_on_error.rt by rust/erase. It isn't edited by hand.
 
-use crate::proved::ent_total::stopped::Stopped;
+use crate::phases::stopped::Stopped;
 use core::error::Error;
 use core::fmt;
 

@@ -3,13 +3,14 @@
 //! Worlds as bytes, and back.
 
 use alloc::vec::Vec;
-use crate::proved::ent_total::world::World;
-use crate::proved::ent_handle::{Memory, read_word, write_word};
-use crate::proved::ent_world::WorldImageFault;
+use crate::phases::world::World;
+use crate::handles::{OutOfMemory, read_word, write_word};
+use crate::worlds::WorldImageFault;
 
 /// How many bytes the count of spawned entities has. They are the last ones.
 const COUNT: usize = 4;
 
+/// # Saves
 impl World {
     /// Appends the image of the world: bytes from which [`read_image`](Self::read_image) makes the
     /// same world anew, with its limits, entities, births, components, waiting slots and requests.
@@ -34,7 +35,7 @@ impl World {
     ///
     /// # Errors
     ///
-    /// [`OutOfMemory`](Memory) if there is no memory for the bytes. The list is unchanged then.
+    /// [`OutOfMemory`] if there is no memory for the bytes. The list is unchanged then.
     ///
     /// <details><summary>Contract</summary>
     ///
@@ -53,7 +54,7 @@ impl World {
     ///
     /// </details>
     #[inline]
-    pub fn write_image(&self, out: &mut Vec<u8>) -> Result<(), Memory> {
+    pub fn write_image(&self, out: &mut Vec<u8>) -> Result<(), OutOfMemory> {
         self.world.write_image(COUNT as u32, out)?;
         write_word(out, self.spawned);
         Ok(())
@@ -183,7 +184,7 @@ fn of_image(bytes: &[u8], number: u64) -> Result<World, WorldImageFault>
         return Err(WorldImageFault::Magic);
     }
     let (part, spawned) = split_count(bytes);
-    let world = crate::proved::ent_world::World::read_image(part)?;
+    let world = crate::worlds::World::read_image(part)?;
     Ok(World {
         world,
         number,

@@ -2,10 +2,10 @@
 
 //! A reserver reserves for logs of any commands.
 
-use crate::proved::ent_total::reserver::Reserver;
-use crate::proved::ent_alloc::Refused;
-use crate::proved::ent_handle::Handle;
-use crate::proved::ent_log::Reserves;
+use crate::phases::reserver::Reserver;
+use crate::allocator::Refused;
+use crate::handles::Handle;
+use crate::logs::Reserves;
 
 /// It [reserves](Reserver::reserve) the handle.
 impl Reserves for Reserver {

@@ -3,7 +3,10 @@
 //! The calls of the libraries below for callers who prove nothing: each tests what the call below
 //! requires, and returns an error that hands everything back.
 
+mod world;
 mod applying;
+mod image;
+mod shared;
 mod cloning;
 mod close_error;
 mod closing;
@@ -15,7 +18,6 @@ mod frame_error;
 mod framing;
 mod framing_in_blocks;
 mod go_on_error;
-mod image;
 mod logging;
 mod open_world;
 mod opening;
@@ -25,12 +27,10 @@ mod reserver;
 mod reserving;
 mod returning;
 mod share_error;
-mod shared;
 mod stop;
 mod stopped;
 mod sync_error;
 mod unframed;
-mod world;
 mod world_in_blocks;
 mod world_opening;
 mod world_returning;

@@ -2,18 +2,18 @@
 
 use alloc::vec::Vec;
 use crate::kit::vec::FallibleVec;
-use crate::proved::ent_total::command_queue::CommandQueue;
-use crate::proved::ent_total::commands::Commands;
-use crate::proved::ent_total::world_returning::bring_back;
-use crate::proved::ent_handle::{Birth, ComponentId, Handle, Memory};
-use crate::proved::ent_shared::Reserver;
-use crate::proved::ent_world::View;
+use crate::phases::command_queue::CommandQueue;
+use crate::phases::commands::Commands;
+use crate::phases::world_returning::bring_back;
+use crate::handles::{Birth, ComponentId, Handle, OutOfMemory};
+use crate::reserving::SharedReserver;
+use crate::worlds::View;
 use crate::kit::sync::Arc;
 
 /// A world in a phase. It can be read, as it was when it was opened. The phase ends by
 /// [`close`](OpenWorld::close).
 ///
-/// It may go to another thread, and so may the [`Commands`](crate::proved::ent_total::Commands) of its systems.
+/// It may go to another thread, and so may the [`Commands`](crate::phases::Commands) of its systems.
 ///
 /// ```
 /// use forgeni::World;
@@ -37,9 +37,9 @@ use crate::kit::sync::Arc;
 pub struct OpenWorld {
     of_world: u64,
     spawned: u32,
-    world: Arc<crate::proved::ent_world::OpenWorld>,
-    returned: Vec<Reserver>,
-    queues: Vec<crate::proved::ent_queue::CommandQueue>,
+    world: Arc<crate::worlds::OpenWorld>,
+    returned: Vec<SharedReserver>,
+    queues: Vec<crate::commands::IssuedCommands>,
     number: u64,
 }
 
@@ -47,9 +47,9 @@ pub struct OpenWorld {
 pub(super) struct Parts {
     pub(super) of_world: u64,
     pub(super) spawned: u32,
-    pub(super) world: crate::proved::ent_world::OpenWorld,
-    pub(super) returned: Vec<Reserver>,
-    pub(super) queues: Vec<crate::proved::ent_queue::CommandQueue>,
+    pub(super) world: crate::worlds::OpenWorld,
+    pub(super) returned: Vec<SharedReserver>,
+    pub(super) queues: Vec<crate::commands::IssuedCommands>,
 }
 
 impl OpenWorld {
@@ -57,9 +57,9 @@ impl OpenWorld {
     pub(super) fn new(
         of_world: u64,
         spawned: u32,
-        world: Arc<crate::proved::ent_world::OpenWorld>,
-        returned: Vec<Reserver>,
-        queues: Vec<crate::proved::ent_queue::CommandQueue>,
+        world: Arc<crate::worlds::OpenWorld>,
+        returned: Vec<SharedReserver>,
+        queues: Vec<crate::commands::IssuedCommands>,
         number: u64,
     ) -> Self
         // requires stands_for { J.world_of number ≡ arc_value world }
@@ -202,7 +202,7 @@ impl OpenWorld {
     ///
     /// </details>
     #[inline]
-    pub fn by_birth(&self) -> Result<Vec<Handle>, Memory> {
+    pub fn by_birth(&self) -> Result<Vec<Handle>, OutOfMemory> {
         self.world.view().by_birth()
     }
 
@@ -307,7 +307,7 @@ impl OpenWorld {
     ///
     /// `Memory` if the owners of the phase can't be counted any more. Then nothing has changed.
     #[inline]
-    fn next_system(&mut self) -> Result<Option<Commands>, Memory>
+    fn next_system(&mut self) -> Result<Option<Commands>, OutOfMemory>
         // requires { self.old.queues ≡ [] }
         // ensures given { IfOk result (λ found. IfSome found (λ c.
         //     (c ≡ new_commands self.old.number self.old.world c.reserver)
@@ -319,7 +319,7 @@ impl OpenWorld {
             return Ok(None);
         }
         let Ok(world) = Arc::try_clone(&self.world) else {
-            return Err(Memory);
+            return Err(OutOfMemory);
         };
         let Some(reserver) = self.returned.pop() else {
             unreachable!()

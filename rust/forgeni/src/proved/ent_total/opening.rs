@@ -3,11 +3,11 @@
 //! An allocator is shared.
 use alloc::vec::Vec;
 use crate::kit::vec::FallibleVec;
-use crate::proved::ent_total::reserver::Reserver;
-use crate::proved::ent_total::share_error::ShareError;
-use crate::proved::ent_total::shared::Shared;
-use crate::proved::ent_alloc::Entities;
-use crate::proved::ent_handle::HandedBack;
+use crate::phases::reserver::Reserver;
+use crate::phases::share_error::ShareError;
+use crate::phases::shared::Shared;
+use crate::allocator::Entities;
+use crate::handles::HandedBack;
 use crate::kit::sync::Arc;
 
 /// How many callers a phase may have.
@@ -15,8 +15,8 @@ pub(super) const CALLERS: usize = 1024;
 
 /// A phase that has no number yet, with all its reservers.
 pub struct Opening {
-    shared: Arc<crate::proved::ent_shared::Shared>,
-    returned: Vec<crate::proved::ent_shared::Reserver>,
+    shared: Arc<crate::reserving::SharedSource>,
+    returned: Vec<crate::reserving::SharedReserver>,
     reservers: Vec<Reserver>,
 }
 
@@ -58,7 +58,7 @@ pub fn share(
     let Ok(reservers) = Vec::with_capacity_fallibly(count) else {
         return Err(HandedBack::new(entities, ShareError::Memory));
     };
-    let (shared, returned) = match crate::proved::ent_shared::share(entities, count) {
+    let (shared, returned) = match crate::reserving::share(entities, count) {
         Ok(made) => made,
         Err((entities, _)) => return Err(HandedBack::new(entities, ShareError::Memory)),
     };

@@ -4,7 +4,7 @@ use alloc::vec::Vec;
 use core::fmt;
 
 /// The queues of a phase or of a frame, in the order of their effect, for one
-/// [`apply`](crate::proved::ent_total::World::apply) of the world whose phase it was.
+/// [`apply`](crate::phases::World::apply) of the world whose phase it was.
 ///
 /// ```
 /// use forgeni::{SyncError, World};
@@ -20,12 +20,12 @@ use core::fmt;
 #[must_use]
 pub struct Queues {
     world: u64,
-    queues: Vec<crate::proved::ent_queue::CommandQueue>,
+    queues: Vec<crate::commands::IssuedCommands>,
 }
 
 impl Queues {
     #[inline]
-    pub(super) fn new(world: u64, queues: Vec<crate::proved::ent_queue::CommandQueue>) -> Self
+    pub(super) fn new(world: u64, queues: Vec<crate::commands::IssuedCommands>) -> Self
         // requires { length queues.items ≤ 2 ^ 16 }
         // ensures { result ≡ record { world = world; queues = queues.items } }
     {
@@ -94,7 +94,7 @@ impl Queues {
 
     /// The queues themselves.
     #[inline]
-    pub(super) fn list(&self) -> &[crate::proved::ent_queue::CommandQueue]
+    pub(super) fn list(&self) -> &[crate::commands::IssuedCommands]
         // ensures list { result.now ≡ self.now.queues }
         // ensures few { length self.now.queues ≤ 2 ^ 16 }
     {

@@ -1,9 +1,9 @@
 // Made of crates/ent_total/src/reserver.rt by rust/erase. It isn't edited by hand.
 
-use crate::proved::ent_total::other_phase::OtherPhase;
-use crate::proved::ent_total::shared::Shared;
-use crate::proved::ent_alloc::Living;
-use crate::proved::ent_handle::Handle;
+use crate::phases::other_phase::OtherPhase;
+use crate::phases::shared::Shared;
+use crate::allocator::Living;
+use crate::handles::Handle;
 use crate::kit::sync::Arc;
 
 /// The right of one caller to reserve from a shared allocator.
@@ -24,64 +24,103 @@ use crate::kit::sync::Arc;
 /// ```
 #[repr(align(128))]
 pub struct Reserver {
-    pub(super) shared: Arc<crate::proved::ent_shared::Shared>,
-    pub(super) reserver: crate::proved::ent_shared::Reserver,
+    pub(super) shared: Arc<crate::reserving::SharedSource>,
+    pub(super) reserver: crate::reserving::SharedReserver,
     pub(super) number: u64,
 }
 
+/// # Looking at entities
 impl Reserver {
-    /// Each later reservation of this one comes after everything that the other one has reserved or
-    /// learned of so far. Without a meeting nothing is promised on the order of two reservers. It
-    /// takes no memory and waits for nobody.
+    /// Whether the entity was alive when the phase was opened, as [`Shared::is_alive`] says it.
     ///
     /// ```
     /// use forgeni::Entities;
     ///
-    /// let (shared, mut reservers) = Entities::new().share(2)?;
-    /// let [one, other] = &mut reservers[..] else { unreachable!() };
-    /// let first = other.reserve()?;
-    /// one.meet(other)?;
-    /// let second = one.reserve()?;
-    /// assert_eq!((first.index(), second.index()), (0, 1));
-    /// let _entities = shared.close(reservers)?;
-    /// # Ok::<(), Box<dyn std::error::Error + Send + Sync>>(())
+    /// let mut entities = Entities::new();
+    /// let old = entities.alloc()?;
+    /// let (_shared, mut reservers) = entities.share(1)?;
+    /// let new = reservers[0].reserve()?;
+    /// assert!(reservers[0].is_alive(old) && !reservers[0].is_alive(new));
+    /// # Ok::<(), Box<dyn std::error::Error>>(())
     /// ```
-    ///
-    /// # Errors
-    ///
-    /// [`OtherPhase`] if they are not of one phase. Nothing has changed then.
     ///
     /// <details><summary>Contract</summary>
     ///
     /// In the words of the folder `specs/` of crate `ent_total`:
     ///
     /// ```text
-    /// ensures same_phase { OnOk result (self.old.number ≡ other.old.number) }
-    /// ensures other_phase { OnErr result (self.old.number ≢ other.old.number) }
-    /// ensures meets { OnOk result (self.new ≡ record self.old {
-    ///   reserver = record self.old.reserver {
-    ///     own = after_meeting self.old.reserver.own other.old.reserver.own;
-    ///   };
-    /// }) }
-    /// ensures met { other.new ≡ other.old }
-    /// ensures unchanged { OnErr result (self.new ≡ self.old) }
-    ///
-    /// // Every reservation that the other one has made or learned of ends above where the next
-    /// // one of this one may begin.
-    /// ensures mark { OnOk result
-    ///     (IsBelow self.new.reserver.own.mark other.old.reserver.own.entries) }
+    /// ensures { result ≡ set.contains self.now.shared.start.live handle }
     /// ```
     ///
     /// </details>
+    #[must_use]
     #[inline]
-    pub fn meet(&mut self, other: &mut Reserver) -> Result<(), OtherPhase> {
-        if self.number != other.number {
-            return Err(OtherPhase);
-        }
-        self.shared.meet(&mut self.reserver, &mut other.reserver);
-        Ok(())
+    pub fn is_alive(&self, handle: Handle) -> bool {
+        self.shared.is_alive(handle)
     }
 
+    /// The entities that were alive when the phase was opened, as [`Shared::iter`] has them.
+    ///
+    /// ```
+    /// use forgeni::Entities;
+    ///
+    /// let mut entities = Entities::new();
+    /// let (cart, horse) = (entities.alloc()?, entities.alloc()?);
+    /// let (_shared, mut reservers) = entities.share(1)?;
+    /// reservers[0].reserve()?;
+    /// assert_eq!(reservers[0].iter().collect::<Vec<_>>(), [cart, horse]);
+    /// # Ok::<(), Box<dyn std::error::Error>>(())
+    /// ```
+    ///
+    /// <details><summary>Contract</summary>
+    ///
+    /// In the words of the folder `specs/` of crate `ent_total`:
+    ///
+    /// ```text
+    /// ensures living { set.from_list result ≡ self.now.shared.start.live }
+    /// ensures rising { AllPairs (λ g h. g.index < h.index) result }
+    /// ensures count { length result ≡ set.len self.now.shared.start.live }
+    /// ```
+    ///
+    /// </details>
+    #[must_use]
+    #[inline]
+    pub fn iter(&self) -> Living<'_> {
+        self.shared.iter()
+    }
+
+    /// The row of the entity when the phase was opened, as [`Shared::row`] says it.
+    ///
+    /// ```
+    /// use forgeni::Entities;
+    ///
+    /// let mut entities = Entities::new();
+    /// let cart = entities.alloc()?;
+    /// entities.try_set_row(cart, 7)?;
+    /// let (_shared, reservers) = entities.share(1)?;
+    /// assert_eq!(reservers[0].row(cart), Some(7));
+    /// # Ok::<(), Box<dyn std::error::Error>>(())
+    /// ```
+    ///
+    /// <details><summary>Contract</summary>
+    ///
+    /// In the words of the folder `specs/` of crate `ent_total`:
+    ///
+    /// ```text
+    /// ensures value { result ≡ map.get self.now.shared.rows handle }
+    /// ensures alive { OnSome result (set.contains self.now.shared.start.live handle ≡ true) }
+    /// ```
+    ///
+    /// </details>
+    #[must_use]
+    #[inline]
+    pub fn row(&self, handle: Handle) -> Option<u32> {
+        self.shared.row(handle)
+    }
+}
+
+/// # Its phase
+impl Reserver {
     /// Which of the reservers it is: its position in the list in which they were given out, from 0.
     ///
     /// ```
@@ -193,90 +232,55 @@ impl Reserver {
         self.number == shared.number()
     }
 
-    /// Whether the entity was alive when the phase was opened, as [`Shared::is_alive`] says it.
+    /// Each later reservation of this one comes after everything that the other one has reserved or
+    /// learned of so far. Without a meeting nothing is promised on the order of two reservers. It
+    /// takes no memory and waits for nobody.
     ///
     /// ```
     /// use forgeni::Entities;
     ///
-    /// let mut entities = Entities::new();
-    /// let old = entities.alloc()?;
-    /// let (_shared, mut reservers) = entities.share(1)?;
-    /// let new = reservers[0].reserve()?;
-    /// assert!(reservers[0].is_alive(old) && !reservers[0].is_alive(new));
-    /// # Ok::<(), Box<dyn std::error::Error>>(())
+    /// let (shared, mut reservers) = Entities::new().share(2)?;
+    /// let [one, other] = &mut reservers[..] else { unreachable!() };
+    /// let first = other.reserve()?;
+    /// one.meet(other)?;
+    /// let second = one.reserve()?;
+    /// assert_eq!((first.index(), second.index()), (0, 1));
+    /// let _entities = shared.close(reservers)?;
+    /// # Ok::<(), Box<dyn std::error::Error + Send + Sync>>(())
     /// ```
+    ///
+    /// # Errors
+    ///
+    /// [`OtherPhase`] if they are not of one phase. Nothing has changed then.
     ///
     /// <details><summary>Contract</summary>
     ///
     /// In the words of the folder `specs/` of crate `ent_total`:
     ///
     /// ```text
-    /// ensures { result ≡ set.contains self.now.shared.start.live handle }
+    /// ensures same_phase { OnOk result (self.old.number ≡ other.old.number) }
+    /// ensures other_phase { OnErr result (self.old.number ≢ other.old.number) }
+    /// ensures meets { OnOk result (self.new ≡ record self.old {
+    ///   reserver = record self.old.reserver {
+    ///     own = after_meeting self.old.reserver.own other.old.reserver.own;
+    ///   };
+    /// }) }
+    /// ensures met { other.new ≡ other.old }
+    /// ensures unchanged { OnErr result (self.new ≡ self.old) }
+    ///
+    /// // Every reservation that the other one has made or learned of ends above where the next
+    /// // one of this one may begin.
+    /// ensures mark { OnOk result
+    ///     (IsBelow self.new.reserver.own.mark other.old.reserver.own.entries) }
     /// ```
     ///
     /// </details>
-    #[must_use]
     #[inline]
-    pub fn is_alive(&self, handle: Handle) -> bool {
-        self.shared.is_alive(handle)
-    }
-
-    /// The row of the entity when the phase was opened, as [`Shared::row`] says it.
-    ///
-    /// ```
-    /// use forgeni::Entities;
-    ///
-    /// let mut entities = Entities::new();
-    /// let cart = entities.alloc()?;
-    /// entities.try_set_row(cart, 7)?;
-    /// let (_shared, reservers) = entities.share(1)?;
-    /// assert_eq!(reservers[0].row(cart), Some(7));
-    /// # Ok::<(), Box<dyn std::error::Error>>(())
-    /// ```
-    ///
-    /// <details><summary>Contract</summary>
-    ///
-    /// In the words of the folder `specs/` of crate `ent_total`:
-    ///
-    /// ```text
-    /// ensures value { result ≡ map.get self.now.shared.rows handle }
-    /// ensures alive { OnSome result (set.contains self.now.shared.start.live handle ≡ true) }
-    /// ```
-    ///
-    /// </details>
-    #[must_use]
-    #[inline]
-    pub fn row(&self, handle: Handle) -> Option<u32> {
-        self.shared.row(handle)
-    }
-
-    /// The entities that were alive when the phase was opened, as [`Shared::iter`] has them.
-    ///
-    /// ```
-    /// use forgeni::Entities;
-    ///
-    /// let mut entities = Entities::new();
-    /// let (cart, horse) = (entities.alloc()?, entities.alloc()?);
-    /// let (_shared, mut reservers) = entities.share(1)?;
-    /// reservers[0].reserve()?;
-    /// assert_eq!(reservers[0].iter().collect::<Vec<_>>(), [cart, horse]);
-    /// # Ok::<(), Box<dyn std::error::Error>>(())
-    /// ```
-    ///
-    /// <details><summary>Contract</summary>
-    ///
-    /// In the words of the folder `specs/` of crate `ent_total`:
-    ///
-    /// ```text
-    /// ensures living { set.from_list result ≡ self.now.shared.start.live }
-    /// ensures rising { AllPairs (λ g h. g.index < h.index) result }
-    /// ensures count { length result ≡ set.len self.now.shared.start.live }
-    /// ```
-    ///
-    /// </details>
-    #[must_use]
-    #[inline]
-    pub fn iter(&self) -> Living<'_> {
-        self.shared.iter()
+    pub fn meet(&mut self, other: &mut Reserver) -> Result<(), OtherPhase> {
+        if self.number != other.number {
+            return Err(OtherPhase);
+        }
+        self.shared.meet(&mut self.reserver, &mut other.reserver);
+        Ok(())
     }
 }

@@ -3,10 +3,11 @@
 //! What a reserver reserves: one handle, or many at once.
 use alloc::vec::Vec;
 use crate::kit::vec::FallibleVec;
-use crate::proved::ent_total::reserver::Reserver;
-use crate::proved::ent_alloc::{Refused, ReserveError, Reserved};
-use crate::proved::ent_handle::Handle;
+use crate::phases::reserver::Reserver;
+use crate::allocator::{Refused, ReserveError, Reserved};
+use crate::handles::Handle;
 
+/// # Reserving
 impl Reserver {
     /// Reserves one handle, by one atomic step. It takes no memory.
     ///
@@ -159,7 +160,9 @@ impl Reserver {
         append(handles, given);
         Ok(())
     }
+}
 
+impl Reserver {
     /// Whether a request for `n` may be served. If not, no memory is taken for it.
     #[inline]
     fn may_be_served(&self, n: u32) -> bool

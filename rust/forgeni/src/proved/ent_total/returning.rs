@@ -3,7 +3,7 @@
 //! Reservers come back: what they reserve with goes back to the phase.
 use alloc::vec::Vec;
 use crate::kit::vec::FallibleVec;
-use crate::proved::ent_total::reserver::Reserver;
+use crate::phases::reserver::Reserver;
 
 /// Whether all reservers are of the phase of this number.
 #[inline]
@@ -21,8 +21,8 @@ pub(super) fn are_of(number: u64, reservers: &[Reserver]) -> bool
 /// Adds the reservers of the reservers to those returned, behind them. There is room for them.
 #[inline]
 pub(super) fn bring_back(
-    returned: &mut Vec<crate::proved::ent_shared::Reserver>,
-    shared: &crate::proved::ent_shared::Shared,
+    returned: &mut Vec<crate::reserving::SharedReserver>,
+    shared: &crate::reserving::SharedSource,
     number: u64,
     reservers: Vec<Reserver>,
 )

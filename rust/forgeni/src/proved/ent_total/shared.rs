@@ -2,10 +2,10 @@
 
 use alloc::vec::Vec;
 use crate::kit::vec::FallibleVec;
-use crate::proved::ent_total::reserver::Reserver;
-use crate::proved::ent_total::returning::bring_back;
-use crate::proved::ent_alloc::Living;
-use crate::proved::ent_handle::{Handle, Memory};
+use crate::phases::reserver::Reserver;
+use crate::phases::returning::bring_back;
+use crate::allocator::Living;
+use crate::handles::{Handle, OutOfMemory};
 use crate::kit::sync::Arc;
 
 /// An allocator while it is shared. [`Entities::share`](crate::Entities::share) makes it, with its
@@ -34,87 +34,13 @@ use crate::kit::sync::Arc;
 /// ```
 #[must_use]
 pub struct Shared {
-    shared: Arc<crate::proved::ent_shared::Shared>,
-    returned: Vec<crate::proved::ent_shared::Reserver>,
+    shared: Arc<crate::reserving::SharedSource>,
+    returned: Vec<crate::reserving::SharedReserver>,
     number: u64,
 }
 
+/// # Looking at entities
 impl Shared {
-    #[inline]
-    pub(super) fn new(
-        shared: Arc<crate::proved::ent_shared::Shared>,
-        returned: Vec<crate::proved::ent_shared::Reserver>,
-        number: u64,
-    ) -> Self
-        // requires stands_for { J.shared_of number ≡ arc_value shared }
-        // requires own { All (IsOf (arc_value shared)) returned.items }
-        // requires room { (arc_value shared).count ≤ vec_capacity returned }
-        // ensures { result
-        //     ≡ record { number = number; shared = arc_value shared; returned = returned.items } }
-    {
-        Shared {
-            shared,
-            returned,
-            number,
-        }
-    }
-
-    /// How many reservers it has, whether they exist, are returned or were lost.
-    ///
-    /// ```
-    /// use forgeni::Entities;
-    ///
-    /// let (shared, mut reservers) = Entities::new().share(4)?;
-    /// drop(reservers.pop());
-    /// // A lost one counts too.
-    /// assert_eq!((shared.count(), reservers.len()), (4, 3));
-    /// # Ok::<(), Box<dyn std::error::Error>>(())
-    /// ```
-    ///
-    /// <details><summary>Contract</summary>
-    ///
-    /// In the words of the folder `specs/` of crate `ent_total`:
-    ///
-    /// ```text
-    /// ensures { result ≡ self.now.shared.count }
-    /// ```
-    ///
-    /// </details>
-    #[must_use]
-    #[inline]
-    pub fn count(&self) -> usize {
-        self.shared.count()
-    }
-
-    /// How many reservers are returned: a close that was refused took them.
-    ///
-    /// ```
-    /// use forgeni::{CloseError, Entities};
-    ///
-    /// let (shared, mut reservers) = Entities::new().share(2)?;
-    /// let late = reservers.pop();
-    /// let refused = shared.close_lost(reservers).err().ok_or("it was closed")?;
-    /// let ((shared, _), error) = refused.into_parts();
-    /// assert_eq!((error, shared.returned()), (CloseError::InUse, 1));
-    /// drop(late);
-    /// # Ok::<(), Box<dyn std::error::Error>>(())
-    /// ```
-    ///
-    /// <details><summary>Contract</summary>
-    ///
-    /// In the words of the folder `specs/` of crate `ent_total`:
-    ///
-    /// ```text
-    /// ensures { result ≡ length self.now.returned }
-    /// ```
-    ///
-    /// </details>
-    #[must_use]
-    #[inline]
-    pub fn returned(&self) -> usize {
-        self.returned.len()
-    }
-
     /// Whether the entity was alive when the phase was opened. It stays so until the close: what is
     /// reserved comes to life after it, and nothing is freed before. Any thread may ask, and it
     /// takes constant time.
@@ -148,19 +74,17 @@ impl Shared {
         self.shared.is_alive(handle)
     }
 
-    /// The row that was set with the entity ([`try_set_row`](crate::Entities::try_set_row)), when the
-    /// phase was opened. `None` if the entity was not alive then, or had no row. Any thread may ask,
-    /// and it takes constant time.
+    /// The entities that were alive when the phase was opened, by rising slot.
     ///
     /// ```
     /// use forgeni::Entities;
     ///
     /// let mut entities = Entities::new();
-    /// let (cart, horse) = (entities.alloc()?, entities.alloc()?);
-    /// entities.try_set_row(cart, 7)?;
-    /// let (shared, _reservers) = entities.share(1)?;
-    /// assert_eq!((shared.row(cart), shared.row(horse)), (Some(7), None));
-    /// # Ok::<(), Box<dyn std::error::Error>>(())
+    /// let old = entities.alloc()?;
+    /// let (shared, mut reservers) = entities.share(1)?;
+    /// let new = reservers[0].reserve()?;
+    /// assert_eq!(shared.iter().collect::<Vec<_>>(), [old]);
+    /// # Ok::<(), Box<dyn std::error::Error + Send + Sync>>(())
     /// ```
     ///
     /// <details><summary>Contract</summary>
@@ -168,15 +92,16 @@ impl Shared {
     /// In the words of the folder `specs/` of crate `ent_total`:
     ///
     /// ```text
-    /// ensures value { result ≡ map.get self.now.shared.rows handle }
-    /// ensures alive { OnSome result (set.contains self.now.shared.start.live handle ≡ true) }
+    /// ensures living { set.from_list result ≡ self.now.shared.start.live }
+    /// ensures rising { AllPairs (λ g h. g.index < h.index) result }
+    /// ensures count { length result ≡ set.len self.now.shared.start.live }
     /// ```
     ///
     /// </details>
     #[must_use]
     #[inline]
-    pub fn row(&self, handle: Handle) -> Option<u32> {
-        self.shared.row(handle)
+    pub fn iter(&self) -> Living<'_> {
+        self.shared.iter()
     }
 
     /// How many entities were alive when the phase was opened.
@@ -234,17 +159,19 @@ impl Shared {
         self.shared.is_empty()
     }
 
-    /// The entities that were alive when the phase was opened, by rising slot.
+    /// The row that was set with the entity ([`try_set_row`](crate::Entities::try_set_row)), when the
+    /// phase was opened. `None` if the entity was not alive then, or had no row. Any thread may ask,
+    /// and it takes constant time.
     ///
     /// ```
     /// use forgeni::Entities;
     ///
     /// let mut entities = Entities::new();
-    /// let old = entities.alloc()?;
-    /// let (shared, mut reservers) = entities.share(1)?;
-    /// let new = reservers[0].reserve()?;
-    /// assert_eq!(shared.iter().collect::<Vec<_>>(), [old]);
-    /// # Ok::<(), Box<dyn std::error::Error + Send + Sync>>(())
+    /// let (cart, horse) = (entities.alloc()?, entities.alloc()?);
+    /// entities.try_set_row(cart, 7)?;
+    /// let (shared, _reservers) = entities.share(1)?;
+    /// assert_eq!((shared.row(cart), shared.row(horse)), (Some(7), None));
+    /// # Ok::<(), Box<dyn std::error::Error>>(())
     /// ```
     ///
     /// <details><summary>Contract</summary>
@@ -252,24 +179,74 @@ impl Shared {
     /// In the words of the folder `specs/` of crate `ent_total`:
     ///
     /// ```text
-    /// ensures living { set.from_list result ≡ self.now.shared.start.live }
-    /// ensures rising { AllPairs (λ g h. g.index < h.index) result }
-    /// ensures count { length result ≡ set.len self.now.shared.start.live }
+    /// ensures value { result ≡ map.get self.now.shared.rows handle }
+    /// ensures alive { OnSome result (set.contains self.now.shared.start.live handle ≡ true) }
     /// ```
     ///
     /// </details>
     #[must_use]
     #[inline]
-    pub fn iter(&self) -> Living<'_> {
-        self.shared.iter()
+    pub fn row(&self, handle: Handle) -> Option<u32> {
+        self.shared.row(handle)
+    }
+}
+
+/// # The phase
+impl Shared {
+    /// How many reservers it has, whether they exist, are returned or were lost.
+    ///
+    /// ```
+    /// use forgeni::Entities;
+    ///
+    /// let (shared, mut reservers) = Entities::new().share(4)?;
+    /// drop(reservers.pop());
+    /// // A lost one counts too.
+    /// assert_eq!((shared.count(), reservers.len()), (4, 3));
+    /// # Ok::<(), Box<dyn std::error::Error>>(())
+    /// ```
+    ///
+    /// <details><summary>Contract</summary>
+    ///
+    /// In the words of the folder `specs/` of crate `ent_total`:
+    ///
+    /// ```text
+    /// ensures { result ≡ self.now.shared.count }
+    /// ```
+    ///
+    /// </details>
+    #[must_use]
+    #[inline]
+    pub fn count(&self) -> usize {
+        self.shared.count()
     }
 
+    /// How many reservers are returned: a close that was refused took them.
+    ///
+    /// ```
+    /// use forgeni::{CloseError, Entities};
+    ///
+    /// let (shared, mut reservers) = Entities::new().share(2)?;
+    /// let late = reservers.pop();
+    /// let refused = shared.close_lost(reservers).err().ok_or("it was closed")?;
+    /// let ((shared, _), error) = refused.into_parts();
+    /// assert_eq!((error, shared.returned()), (CloseError::InUse, 1));
+    /// drop(late);
+    /// # Ok::<(), Box<dyn std::error::Error>>(())
+    /// ```
+    ///
+    /// <details><summary>Contract</summary>
+    ///
+    /// In the words of the folder `specs/` of crate `ent_total`:
+    ///
+    /// ```text
+    /// ensures { result ≡ length self.now.returned }
+    /// ```
+    ///
+    /// </details>
+    #[must_use]
     #[inline]
-    pub(super) fn number(&self) -> u64
-        // ensures number { result ≡ self.now.number }
-        // ensures stands_for { J.shared_of result ≡ self.now.shared }
-    {
-        self.number
+    pub fn returned(&self) -> usize {
+        self.returned.len()
     }
 
     /// The last of the reservers that are returned, or `None` if none is. It takes no memory.
@@ -309,12 +286,12 @@ impl Shared {
     ///
     /// </details>
     #[inline]
-    pub fn reserver(&mut self) -> Result<Option<Reserver>, Memory> {
+    pub fn reserver(&mut self) -> Result<Option<Reserver>, OutOfMemory> {
         if self.returned.is_empty() {
             return Ok(None);
         }
         let Ok(shared) = Arc::try_clone(&self.shared) else {
-            return Err(Memory);
+            return Err(OutOfMemory);
         };
         let Some(reserver) = self.returned.pop() else {
             unreachable!()
@@ -324,6 +301,35 @@ impl Shared {
             reserver,
             number: self.number,
         }))
+    }
+}
+
+impl Shared {
+    #[inline]
+    pub(super) fn new(
+        shared: Arc<crate::reserving::SharedSource>,
+        returned: Vec<crate::reserving::SharedReserver>,
+        number: u64,
+    ) -> Self
+        // requires stands_for { J.shared_of number ≡ arc_value shared }
+        // requires own { All (IsOf (arc_value shared)) returned.items }
+        // requires room { (arc_value shared).count ≤ vec_capacity returned }
+        // ensures { result
+        //     ≡ record { number = number; shared = arc_value shared; returned = returned.items } }
+    {
+        Shared {
+            shared,
+            returned,
+            number,
+        }
+    }
+
+    #[inline]
+    pub(super) fn number(&self) -> u64
+        // ensures number { result ≡ self.now.number }
+        // ensures stands_for { J.shared_of result ≡ self.now.shared }
+    {
+        self.number
     }
 
     /// Gives out those returned, the last one first, to a list that has room for them. One whose
@@ -355,7 +361,7 @@ impl Shared {
 
     /// The allocator with the reservers that are returned, if no other reserver owns it too.
     #[inline]
-    pub(super) fn end(self) -> Result<(crate::proved::ent_shared::Shared, Vec<crate::proved::ent_shared::Reserver>), Self>
+    pub(super) fn end(self) -> Result<(crate::reserving::SharedSource, Vec<crate::reserving::SharedReserver>), Self>
         // ensures ok { IfOk result (λ parts. (parts.0 ≡ self.shared) × (parts.1.items ≡ self.returned)) }
         // ensures own { IfOk result (λ parts. All (IsOf parts.0) parts.1.items) }
         // ensures err { IfErr result (λ shared. shared ≡ self) }

@@ -1,8 +1,8 @@
 // Made of crates/ent_total/src/stopped.rt by rust/erase. It isn't edited by hand.
 
-use crate::proved::ent_total::queues::Queues;
-use crate::proved::ent_total::stop::Stop;
-use crate::proved::ent_world::SyncReport;
+use crate::phases::queues::Queues;
+use crate::phases::stop::Stop;
+use crate::worlds::Report;
 use core::fmt;
 
 /// A sync point that stopped because memory ran out at a command: where, what was done so far, and
@@ -30,12 +30,12 @@ use core::fmt;
 pub struct Stopped {
     queues: Queues,
     stop: Stop,
-    so_far: SyncReport,
+    so_far: Report,
 }
 
 impl Stopped {
     #[inline]
-    pub(super) fn new(queues: Queues, stop: Stop, so_far: SyncReport) -> Self
+    pub(super) fn new(queues: Queues, stop: Stop, so_far: Report) -> Self
         // requires { IsStop stop.system stop.command stop.done queues.queues }
         // ensures { result ≡ record { queues = queues; stop = stop; so_far = so_far } }
     {
@@ -98,7 +98,7 @@ impl Stopped {
     /// </details>
     #[must_use]
     #[inline]
-    pub fn so_far(&self) -> &SyncReport {
+    pub fn so_far(&self) -> &Report {
         &self.so_far
     }
 

@@ -1,7 +1,7 @@
 // Made of crates/ent_total/src/sync_error.rt by rust/erase. It isn't edited by hand.
 
-use crate::proved::ent_total::queues::Queues;
-use crate::proved::ent_total::stopped::Stopped;
+use crate::phases::queues::Queues;
+use crate::phases::stopped::Stopped;
 use core::error::Error;
 use core::fmt;
 

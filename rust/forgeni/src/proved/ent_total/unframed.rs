@@ -1,13 +1,13 @@
 // Made of crates/ent_total/src/unframed.rt by rust/erase. It isn't edited by hand.
 
 use alloc::vec::Vec;
-use crate::proved::ent_total::queues::Queues;
-use crate::proved::ent_total::stopped::Stopped;
-use crate::proved::ent_total::world::World;
-use crate::proved::ent_total::world_in_blocks::WorldInBlocks;
-use crate::proved::ent_blocks::{BlockReserver, EndError};
-use crate::proved::ent_handle::HandedBack;
-use crate::proved::ent_runner::RunError;
+use crate::phases::queues::Queues;
+use crate::phases::stopped::Stopped;
+use crate::phases::world::World;
+use crate::phases::world_in_blocks::WorldInBlocks;
+use crate::in_blocks::{BlockReserver, EndError};
+use crate::handles::HandedBack;
+use crate::running::RunError;
 use core::error::Error;
 use core::fmt;
 

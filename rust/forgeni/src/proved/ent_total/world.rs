@@ -1,10 +1,10 @@
 // Made of crates/ent_total/src/world.rt by rust/erase. It isn't edited by hand.
 
 use alloc::vec::Vec;
-use crate::proved::ent_alloc::{AllocFault, FreeFault, Freed, Limits};
-use crate::proved::ent_handle::{Birth, ComponentId, Handle, Memory};
-use crate::proved::ent_queue::Bundle;
-use crate::proved::ent_storage::Items;
+use crate::allocator::{AllocError, FreeError, Freed, Limits};
+use crate::handles::{Birth, ComponentId, Handle, OutOfMemory};
+use crate::commands::Bundle;
+use crate::components::Items;
 
 /// The system in the birth of an entity that no system spawned.
 const NO_SYSTEM: u32 = 0xffff_ffff;
@@ -12,7 +12,7 @@ const NO_SYSTEM: u32 = 0xffff_ffff;
 /// The living entities and their components.
 ///
 /// A component is a number ([`ComponentId`]) and a value of 64 bits. Systems that run side by side
-/// don't touch the world: `open` gives each its [`Commands`](crate::proved::ent_total::Commands), and
+/// don't touch the world: `open` gives each its [`Commands`](crate::phases::Commands), and
 /// [`apply`](World::apply) lets their queues take effect. Outside of phases entities come and go at
 /// once ([`spawn`](World::spawn), [`despawn`](World::despawn)), and the components of a living one
 /// change by commands alone.
@@ -45,7 +45,7 @@ const NO_SYSTEM: u32 = 0xffff_ffff;
 /// # Ok::<(), Box<dyn std::error::Error>>(())
 /// ```
 pub struct World {
-    pub(super) world: crate::proved::ent_world::World,
+    pub(super) world: crate::worlds::World,
     /// By it queues know their world. It is given from outside: what a queue says of its world is as
     /// good as it.
     pub(super) number: u64,
@@ -68,12 +68,13 @@ pub struct World {
 #[inline]
 pub fn new_world(limits: Limits, number: u64) -> World {
     World {
-        world: crate::proved::ent_world::World::new(limits),
+        world: crate::worlds::World::new(limits),
         number,
         spawned: 0,
     }
 }
 
+/// # Entities
 impl World {
     /// Brings an entity to life at once, with these components, in any order. If a component is listed
     /// twice, its last value counts.
@@ -110,14 +111,14 @@ impl World {
     /// ensures number { self.new.number ≡ self.old.number }
     ///
     /// // When it is refused, and what holds then.
-    /// ensures needs_flush { IsErrOf result AllocFault.NeedsFlush
+    /// ensures needs_flush { IsErrOf result AllocError.NeedsFlush
     ///     ↔ (0 < self.old.world.allocator.asked) }
-    /// ensures space { IsErrOf result AllocFault.Space
+    /// ensures space { IsErrOf result AllocError.Space
     ///     → (self.old.world.allocator.asked ≡ 0) × (self.old.world.allocator.pool ≡ []) }
     /// ensures full { (self.old.world.allocator.asked ≡ 0) × (self.old.world.allocator.pool ≡ [])
-    ///     → IsErrOf result AllocFault.Space
-    ///     ⊎ (IsErrOf result AllocFault.Memory × (4 < length (bundle_of components.now))) }
-    /// ensures memory { IsErrOf result AllocFault.Memory
+    ///     → IsErrOf result AllocError.Space
+    ///     ⊎ (IsErrOf result AllocError.Memory × (4 < length (bundle_of components.now))) }
+    /// ensures memory { IsErrOf result AllocError.Memory
     ///     → (top self.old.world.allocator ≡ 0) ⊎ (0 < length (bundle_of components.now)) }
     /// ensures err { OnErr result (self.new ≡ self.old) }
     /// ```
@@ -127,7 +128,7 @@ impl World {
     pub fn spawn(
         &mut self,
         components: &[(ComponentId, i64)],
-    ) -> Result<Handle, AllocFault> {
+    ) -> Result<Handle, AllocError> {
         let birth = Birth {
             frame: self.world.phase(),
             system: NO_SYSTEM,
@@ -136,6 +137,50 @@ impl World {
         let handle = self.spawn_with_birth(birth, components)?;
         self.spawned = self.spawned.saturating_add(1);
         Ok(handle)
+    }
+
+    /// Takes a living entity out, with all its components.
+    ///
+    /// ```
+    /// use forgeni::{FreeError, World};
+    ///
+    /// let mut world = World::new();
+    /// let cart = world.spawn(&[])?;
+    /// world.despawn(cart)?;
+    /// assert!(!world.contains(cart));
+    /// assert_eq!(world.despawn(cart), Err(FreeError::NotAlive));
+    /// # Ok::<(), Box<dyn std::error::Error>>(())
+    /// ```
+    ///
+    /// # Errors
+    ///
+    /// `NeedsFlush` if handles were requested since the last flush, `NotAlive` if the handle names
+    /// no living entity, `Memory` if memory runs out. Nothing has changed then.
+    ///
+    /// <details><summary>Contract</summary>
+    ///
+    /// In the words of the folder `specs/` of crate `ent_total`:
+    ///
+    /// ```text
+    /// ensures ok { OnOk result
+    ///     (self.new ≡ record self.old { world = after_despawn handle self.old.world }) }
+    /// ensures next { IfOk result (λ freed.
+    ///     freed.next ≡ next self.old.world.allocator.limits handle) }
+    /// ensures lived { OnOk result (lives_in self.old.world handle ≡ true) }
+    /// ensures needs_flush { IsErrOf result FreeError.NeedsFlush
+    ///     ↔ (0 < self.old.world.allocator.asked) }
+    /// ensures not_alive { IsErrOf result FreeError.NotAlive
+    ///     ↔ ((self.old.world.allocator.asked ≡ 0)
+    ///     × (lives_in self.old.world handle ≡ false)) }
+    /// ensures memory { IsErrOf result FreeError.Memory
+    ///     → handle.generation ≢ self.old.world.allocator.limits.generations }
+    /// ensures err { OnErr result (self.new ≡ self.old) }
+    /// ```
+    ///
+    /// </details>
+    #[inline]
+    pub fn despawn(&mut self, handle: Handle) -> Result<Freed, FreeError> {
+        self.world.despawn(handle)
     }
 
     /// As [`spawn`](World::spawn), with this birth. It may be any, even that of another entity.
@@ -169,14 +214,14 @@ impl World {
     /// }) }
     ///
     /// // When it is refused, and what holds then.
-    /// ensures needs_flush { IsErrOf result AllocFault.NeedsFlush
+    /// ensures needs_flush { IsErrOf result AllocError.NeedsFlush
     ///     ↔ (0 < self.old.world.allocator.asked) }
-    /// ensures space { IsErrOf result AllocFault.Space
+    /// ensures space { IsErrOf result AllocError.Space
     ///     → (self.old.world.allocator.asked ≡ 0) × (self.old.world.allocator.pool ≡ []) }
     /// ensures full { (self.old.world.allocator.asked ≡ 0) × (self.old.world.allocator.pool ≡ [])
-    ///     → IsErrOf result AllocFault.Space
-    ///     ⊎ (IsErrOf result AllocFault.Memory × (4 < length (bundle_of components.now))) }
-    /// ensures memory { IsErrOf result AllocFault.Memory
+    ///     → IsErrOf result AllocError.Space
+    ///     ⊎ (IsErrOf result AllocError.Memory × (4 < length (bundle_of components.now))) }
+    /// ensures memory { IsErrOf result AllocError.Memory
     ///     → (top self.old.world.allocator ≡ 0) ⊎ (0 < length (bundle_of components.now)) }
     /// ensures err { OnErr result (self.new ≡ self.old) }
     /// ```
@@ -187,70 +232,61 @@ impl World {
         &mut self,
         birth: Birth,
         components: &[(ComponentId, i64)],
-    ) -> Result<Handle, AllocFault> {
+    ) -> Result<Handle, AllocError> {
         let Ok(bundle) = Bundle::of(components) else {
             return Err(self.no_bundle());
         };
         self.world.spawn(birth, &bundle)
     }
 
-    /// Why nothing was spawned, when there is no memory for the components.
-    #[cold]
-    fn no_bundle(&self) -> AllocFault
-        // ensures needs_flush { result ≡ AllocFault.NeedsFlush ↔ (0 < self.now.world.allocator.asked) }
-        // ensures memory { result ≡ AllocFault.Memory ↔ (self.now.world.allocator.asked ≡ 0) }
-    {
-        if self.world.needs_flush() {
-            AllocFault::NeedsFlush
-        } else {
-            AllocFault::Memory
-        }
-    }
-
-    /// Takes a living entity out, with all its components.
+    /// Brings to life what is reserved, without components: what the systems of a phase had spawned
+    /// whose queues are not to take effect. [`apply`](World::apply) brings entities to life too.
+    ///
+    /// The birth of each entity names the phase that ends, no system, and the entity's number among
+    /// those that are born. So an entity that [`spawn`](World::spawn) made in that phase may have
+    /// the same birth.
     ///
     /// ```
-    /// use forgeni::{FreeError, World};
+    /// use forgeni::World;
     ///
     /// let mut world = World::new();
-    /// let cart = world.spawn(&[])?;
-    /// world.despawn(cart)?;
-    /// assert!(!world.contains(cart));
-    /// assert_eq!(world.despawn(cart), Err(FreeError::NotAlive));
+    /// let (spawned, queues) = world.phase(1, |_open, systems| systems[0].spawn(&[]))?;
+    /// // The commands are dropped, but the handle was given.
+    /// drop(queues);
+    /// world.flush()?;
+    /// assert!(world.contains(spawned?));
     /// # Ok::<(), Box<dyn std::error::Error>>(())
     /// ```
     ///
     /// # Errors
     ///
-    /// `NeedsFlush` if handles were requested since the last flush, `NotAlive` if the handle names
-    /// no living entity, `Memory` if memory runs out. Nothing has changed then.
+    /// `OutOfMemory`, only if something is reserved. Nothing has changed then.
     ///
     /// <details><summary>Contract</summary>
     ///
     /// In the words of the folder `specs/` of crate `ent_total`:
     ///
     /// ```text
-    /// ensures ok { OnOk result
-    ///     (self.new ≡ record self.old { world = after_despawn handle self.old.world }) }
-    /// ensures next { IfOk result (λ freed.
-    ///     freed.next ≡ next self.old.world.allocator.limits handle) }
-    /// ensures lived { OnOk result (lives_in self.old.world handle ≡ true) }
-    /// ensures needs_flush { IsErrOf result FreeFault.NeedsFlush
-    ///     ↔ (0 < self.old.world.allocator.asked) }
-    /// ensures not_alive { IsErrOf result FreeFault.NotAlive
-    ///     ↔ ((self.old.world.allocator.asked ≡ 0)
-    ///     × (lives_in self.old.world handle ≡ false)) }
-    /// ensures memory { IsErrOf result FreeFault.Memory
-    ///     → handle.generation ≢ self.old.world.allocator.limits.generations }
+    /// ensures ok { OnOk result (self.new ≡ record self.old {
+    ///   world = after_births [] self.old.world;
+    ///   spawned = 0;
+    /// }) }
+    /// ensures flushed { OnOk result (self.new.world.allocator.asked ≡ 0) }
     /// ensures err { OnErr result (self.new ≡ self.old) }
+    /// ensures memory { OnErr result (0 < length self.old.world.allocator.taken) }
     /// ```
     ///
     /// </details>
     #[inline]
-    pub fn despawn(&mut self, handle: Handle) -> Result<Freed, FreeFault> {
-        self.world.despawn(handle)
+    pub fn flush(&mut self) -> Result<(), OutOfMemory> {
+        self.world.flush()?;
+        self.spawned = 0;
+        Ok(())
     }
+}
 
+/// # Looking at entities
+impl World {
     /// The value of the entity's component, if the entity is alive and has it.
     ///
     /// ```
@@ -278,34 +314,6 @@ impl World {
     #[inline]
     pub fn get(&self, handle: Handle, id: ComponentId) -> Option<i64> {
         self.world.get(handle, id)
-    }
-
-    /// When and by whom the entity was brought to life, if it is alive.
-    ///
-    /// ```
-    /// use forgeni::World;
-    ///
-    /// let mut world = World::new();
-    /// let (spawned, queues) = world.phase(3, |_open, systems| systems[2].spawn(&[]))?;
-    /// world.apply(queues)?;
-    /// // Frame 0, system 2, its first spawn.
-    /// assert_eq!(world.birth(spawned?).map(|it| it.to_string()), Some("0.2.0".into()));
-    /// # Ok::<(), Box<dyn std::error::Error>>(())
-    /// ```
-    ///
-    /// <details><summary>Contract</summary>
-    ///
-    /// In the words of the folder `specs/` of crate `ent_total`:
-    ///
-    /// ```text
-    /// ensures { result ≡ birth_of self.now.world.entities handle }
-    /// ```
-    ///
-    /// </details>
-    #[must_use]
-    #[inline]
-    pub fn birth(&self, handle: Handle) -> Option<Birth> {
-        self.world.birth(handle)
     }
 
     /// Whether the entity is alive. It takes constant time.
@@ -364,6 +372,34 @@ impl World {
         self.world.items(handle)
     }
 
+    /// When and by whom the entity was brought to life, if it is alive.
+    ///
+    /// ```
+    /// use forgeni::World;
+    ///
+    /// let mut world = World::new();
+    /// let (spawned, queues) = world.phase(3, |_open, systems| systems[2].spawn(&[]))?;
+    /// world.apply(queues)?;
+    /// // Frame 0, system 2, its first spawn.
+    /// assert_eq!(world.birth(spawned?).map(|it| it.to_string()), Some("0.2.0".into()));
+    /// # Ok::<(), Box<dyn std::error::Error>>(())
+    /// ```
+    ///
+    /// <details><summary>Contract</summary>
+    ///
+    /// In the words of the folder `specs/` of crate `ent_total`:
+    ///
+    /// ```text
+    /// ensures { result ≡ birth_of self.now.world.entities handle }
+    /// ```
+    ///
+    /// </details>
+    #[must_use]
+    #[inline]
+    pub fn birth(&self, handle: Handle) -> Option<Birth> {
+        self.world.birth(handle)
+    }
+
     /// The handles of all entities, by birth and then by handle. The time is that of a sort.
     ///
     /// ```
@@ -390,10 +426,13 @@ impl World {
     ///
     /// </details>
     #[inline]
-    pub fn by_birth(&self) -> Result<Vec<Handle>, Memory> {
+    pub fn by_birth(&self) -> Result<Vec<Handle>, OutOfMemory> {
         self.world.by_birth()
     }
+}
 
+/// # Counts
+impl World {
     /// How many entities are alive.
     ///
     /// ```
@@ -479,6 +518,36 @@ impl World {
         self.world.phase()
     }
 
+    /// Whether any handle was requested since the last flush. It is so between
+    /// [`OpenWorld::close`](crate::phases::OpenWorld::close) and [`apply`](World::apply), if a system has
+    /// spawned.
+    ///
+    /// ```
+    /// use forgeni::World;
+    ///
+    /// let mut world = World::new();
+    /// let (spawned, queues) = world.phase(1, |_open, systems| systems[0].spawn(&[]))?;
+    /// assert!(spawned.is_ok() && world.needs_flush());
+    /// world.apply(queues)?;
+    /// assert!(!world.needs_flush());
+    /// # Ok::<(), Box<dyn std::error::Error>>(())
+    /// ```
+    ///
+    /// <details><summary>Contract</summary>
+    ///
+    /// In the words of the folder `specs/` of crate `ent_total`:
+    ///
+    /// ```text
+    /// ensures { IsTrue result ↔ (0 < self.now.world.allocator.asked) }
+    /// ```
+    ///
+    /// </details>
+    #[must_use]
+    #[inline]
+    pub fn needs_flush(&self) -> bool {
+        self.world.needs_flush()
+    }
+
     /// How many slots are retired: they give no handle any more. It takes constant time.
     ///
     /// ```
@@ -508,79 +577,19 @@ impl World {
     pub fn retired(&self) -> u32 {
         self.world.retired()
     }
+}
 
-    /// Whether any handle was requested since the last flush. It is so between
-    /// [`OpenWorld::close`](crate::proved::ent_total::OpenWorld::close) and [`apply`](World::apply), if a system has
-    /// spawned.
-    ///
-    /// ```
-    /// use forgeni::World;
-    ///
-    /// let mut world = World::new();
-    /// let (spawned, queues) = world.phase(1, |_open, systems| systems[0].spawn(&[]))?;
-    /// assert!(spawned.is_ok() && world.needs_flush());
-    /// world.apply(queues)?;
-    /// assert!(!world.needs_flush());
-    /// # Ok::<(), Box<dyn std::error::Error>>(())
-    /// ```
-    ///
-    /// <details><summary>Contract</summary>
-    ///
-    /// In the words of the folder `specs/` of crate `ent_total`:
-    ///
-    /// ```text
-    /// ensures { IsTrue result ↔ (0 < self.now.world.allocator.asked) }
-    /// ```
-    ///
-    /// </details>
-    #[must_use]
-    #[inline]
-    pub fn needs_flush(&self) -> bool {
-        self.world.needs_flush()
-    }
-
-    /// Brings to life what is reserved, without components: what the systems of a phase had spawned
-    /// whose queues are not to take effect. [`apply`](World::apply) brings entities to life too.
-    ///
-    /// The birth of each entity names the phase that ends, no system, and the entity's number among
-    /// those that are born. So an entity that [`spawn`](World::spawn) made in that phase may have
-    /// the same birth.
-    ///
-    /// ```
-    /// use forgeni::World;
-    ///
-    /// let mut world = World::new();
-    /// let (spawned, queues) = world.phase(1, |_open, systems| systems[0].spawn(&[]))?;
-    /// // The commands are dropped, but the handle was given.
-    /// drop(queues);
-    /// world.flush()?;
-    /// assert!(world.contains(spawned?));
-    /// # Ok::<(), Box<dyn std::error::Error>>(())
-    /// ```
-    ///
-    /// # Errors
-    ///
-    /// `OutOfMemory`, only if something is reserved. Nothing has changed then.
-    ///
-    /// <details><summary>Contract</summary>
-    ///
-    /// In the words of the folder `specs/` of crate `ent_total`:
-    ///
-    /// ```text
-    /// ensures ok { OnOk result (self.new ≡ record self.old {
-    ///   world = after_births [] self.old.world;
-    ///   spawned = 0;
-    /// }) }
-    /// ensures flushed { OnOk result (self.new.world.allocator.asked ≡ 0) }
-    /// ensures err { OnErr result (self.new ≡ self.old) }
-    /// ensures memory { OnErr result (0 < length self.old.world.allocator.taken) }
-    /// ```
-    ///
-    /// </details>
-    #[inline]
-    pub fn flush(&mut self) -> Result<(), Memory> {
-        self.world.flush()?;
-        self.spawned = 0;
-        Ok(())
+impl World {
+    /// Why nothing was spawned, when there is no memory for the components.
+    #[cold]
+    fn no_bundle(&self) -> AllocError
+        // ensures needs_flush { result ≡ AllocError.NeedsFlush ↔ (0 < self.now.world.allocator.asked) }
+        // ensures memory { result ≡ AllocError.Memory ↔ (self.now.world.allocator.asked ≡ 0) }
+    {
+        if self.world.needs_flush() {
+            AllocError::NeedsFlush
+        } else {
+            AllocError::Memory
+        }
     }
 }

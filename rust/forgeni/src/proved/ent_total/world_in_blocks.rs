@@ -1,10 +1,10 @@
 // Made of crates/ent_total/src/world_in_blocks.rt by rust/erase. It isn't edited by hand.
 
 use alloc::vec::Vec;
-use crate::proved::ent_total::world::World;
-use crate::proved::ent_blocks::{BlockReserver, Blocks, EndError};
-use crate::proved::ent_handle::HandedBack;
-use crate::proved::ent_world::View;
+use crate::phases::world::World;
+use crate::in_blocks::{BlockReserver, Blocks, EndError};
+use crate::handles::HandedBack;
+use crate::worlds::View;
 use core::fmt;
 
 /// A world that is open in blocks: each of its callers reserves from a block of its own. It can be
@@ -26,7 +26,7 @@ use core::fmt;
 /// ```
 #[must_use]
 pub struct WorldInBlocks {
-    pub(super) world: crate::proved::ent_world::WorldInBlocks,
+    pub(super) world: crate::worlds::WorldInBlocks,
     pub(super) of_world: u64,
     pub(super) spawned: u32,
 }
@@ -234,7 +234,7 @@ impl WorldInBlocks {
     /// spawned in it.
     #[inline]
     pub(super) fn handed_back(
-        back: HandedBack<(crate::proved::ent_world::WorldInBlocks, Vec<BlockReserver>), EndError>,
+        back: HandedBack<(crate::worlds::WorldInBlocks, Vec<BlockReserver>), EndError>,
         of_world: u64,
         spawned: u32,
     ) -> HandedBack<(Self, Vec<BlockReserver>), EndError>

@@ -4,13 +4,13 @@
 
 use alloc::vec::Vec;
 use crate::kit::vec::FallibleVec;
-use crate::proved::ent_total::commands::Commands;
-use crate::proved::ent_total::open_world::OpenWorld;
-use crate::proved::ent_total::opening::CALLERS;
-use crate::proved::ent_total::share_error::ShareError;
-use crate::proved::ent_total::world::World;
-use crate::proved::ent_handle::HandedBack;
-use crate::proved::ent_shared::Reserver;
+use crate::phases::commands::Commands;
+use crate::phases::open_world::OpenWorld;
+use crate::phases::opening::CALLERS;
+use crate::phases::share_error::ShareError;
+use crate::phases::world::World;
+use crate::handles::HandedBack;
+use crate::reserving::SharedReserver;
 use crate::kit::sync::Arc;
 
 /// A world that is open for its systems, and has no number yet. It has all memory that its phase
@@ -18,9 +18,9 @@ use crate::kit::sync::Arc;
 pub struct WorldOpening {
     of_world: u64,
     spawned: u32,
-    world: Arc<crate::proved::ent_world::OpenWorld>,
-    returned: Vec<Reserver>,
-    queues: Vec<crate::proved::ent_queue::CommandQueue>,
+    world: Arc<crate::worlds::OpenWorld>,
+    returned: Vec<SharedReserver>,
+    queues: Vec<crate::commands::IssuedCommands>,
     systems: Vec<Commands>,
 }
 
@@ -85,11 +85,11 @@ impl WorldOpening {
     /// Opens a flushed world. If memory runs out, it comes back.
     #[inline]
     fn new(
-        world: crate::proved::ent_world::World,
+        world: crate::worlds::World,
         count: usize,
         of_world: u64,
         spawned: u32,
-    ) -> Result<Self, crate::proved::ent_world::World>
+    ) -> Result<Self, crate::worlds::World>
         // requires flushed { world.allocator.asked ≡ 0 }
         // requires some { 0 < count }
         // requires few { count ≤ 1024 }

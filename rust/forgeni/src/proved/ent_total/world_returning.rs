@@ -4,9 +4,9 @@
 
 use alloc::vec::Vec;
 use crate::kit::vec::FallibleVec;
-use crate::proved::ent_total::command_queue::CommandQueue;
-use crate::proved::ent_total::commands::Commands;
-use crate::proved::ent_shared::Reserver;
+use crate::phases::command_queue::CommandQueue;
+use crate::phases::commands::Commands;
+use crate::reserving::SharedReserver;
 
 /// Whether all of them are of the phase of this number.
 #[inline]
@@ -24,9 +24,9 @@ pub(super) fn are_of(number: u64, queues: &[CommandQueue]) -> bool
 /// Adds the reservers and the queues to those returned, behind them. There is room for them.
 #[inline]
 pub(super) fn bring_back(
-    returned: &mut Vec<Reserver>,
-    queues_returned: &mut Vec<crate::proved::ent_queue::CommandQueue>,
-    world: &crate::proved::ent_world::OpenWorld,
+    returned: &mut Vec<SharedReserver>,
+    queues_returned: &mut Vec<crate::commands::IssuedCommands>,
+    world: &crate::worlds::OpenWorld,
     number: u64,
     queues: Vec<CommandQueue>,
 )

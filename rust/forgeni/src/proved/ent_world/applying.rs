@@ -5,13 +5,13 @@
 
 use alloc::vec::Vec;
 use crate::kit::vec::FallibleVec;
-use crate::proved::ent_world::fault::{Fault, FaultKind};
-use crate::proved::ent_world::rows::place_of;
-use crate::proved::ent_world::stop::{At, Stop};
-use crate::proved::ent_world::world::World;
-use crate::proved::ent_handle::{ComponentId, Handle, Memory};
-use crate::proved::ent_queue::{BundleRef, CommandQueue, Entry, HandlesRef};
-use crate::proved::ent_shared::Refused;
+use crate::worlds::fault::{Fault, FaultKind};
+use crate::worlds::rows::place_of;
+use crate::worlds::stop::{At, Stop};
+use crate::worlds::world::World;
+use crate::handles::{ComponentId, Handle, OutOfMemory};
+use crate::commands::{BundleRef, IssuedCommands, Entry, HandlesRef};
+use crate::reserving::Refused;
 
 /// What commands are applied with, beside the world.
 pub(super) struct Applying {
@@ -35,7 +35,7 @@ impl Applying {
     /// Reads the components of a bundle, instead of what was read before. A bundle of one component,
     /// the most frequent one, needs no list.
     #[inline(always)]
-    fn read(&mut self, bundle: &BundleRef<'_>) -> Result<(), Memory>
+    fn read(&mut self, bundle: &BundleRef<'_>) -> Result<(), OutOfMemory>
         // ensures faults { self.new.faults.items ≡ self.old.faults.items }
         // ensures ok { OnOk result (IsRead bundle.now self.new.items.items) }
         // ensures memory { OnErr result (1 < length bundle.now) }
@@ -48,7 +48,7 @@ impl Applying {
 
     /// Reads the components of a bundle into the list. After an `Err` it is empty.
     #[inline]
-    fn read_list(&mut self, bundle: &BundleRef<'_>) -> Result<(), Memory>
+    fn read_list(&mut self, bundle: &BundleRef<'_>) -> Result<(), OutOfMemory>
         // ensures faults { self.new.faults.items ≡ self.old.faults.items }
         // ensures ok { OnOk result (self.new.items.items ≡ bundle.now) }
         // ensures memory { OnErr result (0 < length bundle.now) }
@@ -63,7 +63,7 @@ impl Applying {
 
     /// Lists one fault more.
     #[inline]
-    fn add_fault(&mut self, at: At, kind: FaultKind) -> Result<(), Memory>
+    fn add_fault(&mut self, at: At, kind: FaultKind) -> Result<(), OutOfMemory>
         // ensures items { self.new.items.items ≡ self.old.items.items }
         // ensures ok { OnOk result (self.new.faults.items ≡ self.old.faults.items
         //     ++ record { system = at.system; command = at.command; kind = kind } ∷ []) }
@@ -83,7 +83,7 @@ impl World {
     #[inline]
     pub(super) fn apply_all(
         &mut self,
-        queues: &[CommandQueue],
+        queues: &[IssuedCommands],
         applying: &mut Applying,
     ) -> Result<(), Stop>
         // requires { self.old.allocator.asked ≡ 0 }
@@ -106,7 +106,7 @@ impl World {
     pub(super) fn apply_queues(
         &mut self,
         from: Stop,
-        queues: &[CommandQueue],
+        queues: &[IssuedCommands],
         applying: &mut Applying,
     ) -> Result<(), Stop>
         // requires flushed { self.old.allocator.asked ≡ 0 }
@@ -140,7 +140,7 @@ impl World {
     fn apply_queue(
         &mut self,
         from: Stop,
-        queue: &CommandQueue,
+        queue: &IssuedCommands,
         applying: &mut Applying,
     ) -> Result<(), Stop>
         // requires flushed { self.old.allocator.asked ≡ 0 }
@@ -274,7 +274,7 @@ impl World {
         handle: Handle,
         bundle: BundleRef<'_>,
         applying: &mut Applying,
-    ) -> Result<(), Memory>
+    ) -> Result<(), OutOfMemory>
         // requires { self.old.allocator.asked ≡ 0 }
         // ensures flushed { self.new.allocator.asked ≡ 0 }
         // ensures ok { OnOk result (applied self.new applying.new.faults.items
@@ -296,7 +296,7 @@ impl World {
         handle: Handle,
         bundle: &BundleRef<'_>,
         applying: &mut Applying,
-    ) -> Result<(), Memory>
+    ) -> Result<(), OutOfMemory>
         // requires flushed { self.old.allocator.asked ≡ 0 }
         // requires read { IsRead bundle.now applying.old.items.items }
         // ensures flushed { self.new.allocator.asked ≡ 0 }
@@ -325,7 +325,7 @@ impl World {
         handle: Handle,
         item: (ComponentId, i64),
         applying: &mut Applying,
-    ) -> Result<(), Memory>
+    ) -> Result<(), OutOfMemory>
         // requires { self.old.allocator.asked ≡ 0 }
         // ensures flushed { self.new.allocator.asked ≡ 0 }
         // ensures items { applying.new.items.items ≡ applying.old.items.items }
@@ -350,7 +350,7 @@ impl World {
         at: At,
         handle: Handle,
         applying: &mut Applying,
-    ) -> Result<(), Memory>
+    ) -> Result<(), OutOfMemory>
         // requires { self.old.allocator.asked ≡ 0 }
         // ensures flushed { self.new.allocator.asked ≡ 0 }
         // ensures items { applying.new.items.items ≡ applying.old.items.items }
@@ -375,7 +375,7 @@ impl World {
         handle: Handle,
         id: ComponentId,
         applying: &mut Applying,
-    ) -> Result<(), Memory>
+    ) -> Result<(), OutOfMemory>
         // requires { self.old.allocator.asked ≡ 0 }
         // ensures flushed { self.new.allocator.asked ≡ 0 }
         // ensures ok { OnOk result (applied self.new applying.new.faults.items
@@ -398,7 +398,7 @@ impl World {
         at: At,
         handle: Handle,
         applying: &mut Applying,
-    ) -> Result<(), Memory>
+    ) -> Result<(), OutOfMemory>
         // requires { self.old.allocator.asked ≡ 0 }
         // ensures flushed { self.new.allocator.asked ≡ 0 }
         // ensures ok { OnOk result (applied self.new applying.new.faults.items
@@ -412,7 +412,7 @@ impl World {
             return applying.add_fault(at, FaultKind::NotAlive(handle));
         }
         if self.despawn(handle).is_err() {
-            return Err(Memory);
+            return Err(OutOfMemory);
         }
         Ok(())
     }

@@ -10,11 +10,11 @@
 //! numbered at last. So the time grows with the number of births and of new slots alone, in any
 //! order, as long as the storage's index has dropped no pair (`ent_storage`).
 
-use crate::proved::ent_world::rows::place_of;
-use crate::proved::ent_alloc::Entities;
-use crate::proved::ent_handle::{Birth, Handle};
-use crate::proved::ent_queue::{CommandQueue, Entry, Handles};
-use crate::proved::ent_storage::Storage;
+use crate::worlds::rows::place_of;
+use crate::allocator::Entities;
+use crate::handles::{Birth, Handle};
+use crate::commands::{IssuedCommands, Entry, Handles};
+use crate::components::Storage;
 
 /// The number of no system: births of handles that no queue lists have it.
 const NO_SYSTEM: u32 = u32::MAX;
@@ -43,7 +43,7 @@ pub(super) fn name_listed(
     storage: &mut Storage,
     before: usize,
     phase: u64,
-    queues: &[CommandQueue],
+    queues: &[IssuedCommands],
 )
     // requires rows { ArePlaces entities.now.rows storage.old.places }
     // requires few { length queues.now ≤ 2 ^ 16 }
@@ -84,7 +84,7 @@ fn name_queue(
     storage: &mut Storage,
     before: usize,
     first: Birth,
-    queue: &CommandQueue,
+    queue: &IssuedCommands,
 )
     // requires { ArePlaces entities.now.rows storage.old.places }
     // ensures named { storage.new.entities ≡ named_handles

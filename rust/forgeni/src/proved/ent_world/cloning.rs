@@ -2,10 +2,10 @@
 
 //! Clones of a world, as snapshots that a program goes back to.
 
-use crate::proved::ent_world::world::World;
-use crate::proved::ent_alloc::{Entities, Limits, Prepared};
-use crate::proved::ent_handle::Memory;
-use crate::proved::ent_storage::Storage;
+use crate::worlds::world::World;
+use crate::allocator::{Entities, Limits, Prepared};
+use crate::handles::OutOfMemory;
+use crate::components::Storage;
 use core::mem;
 
 impl World {
@@ -29,7 +29,7 @@ impl World {
     ///
     /// </details>
     #[inline]
-    pub fn try_clone(&self) -> Result<World, Memory> {
+    pub fn try_clone(&self) -> Result<World, OutOfMemory> {
         Ok(World {
             entities: self.entities.try_clone()?,
             storage: copied(&self.storage, self.entities.total())?,
@@ -62,7 +62,7 @@ impl World {
     ///
     /// </details>
     #[inline]
-    pub fn try_clone_from(&mut self, source: &World) -> Result<(), Memory> {
+    pub fn try_clone_from(&mut self, source: &World) -> Result<(), OutOfMemory> {
         let empty = Entities::with_exact_limits(Limits::GREATEST);
         let mut prepared = Prepared::of(mem::replace(&mut self.entities, empty));
         match prepare(
@@ -92,7 +92,7 @@ fn prepare(
     storage: &mut Storage,
     entities: &Entities,
     source: &Storage,
-) -> Result<(), Memory>
+) -> Result<(), OutOfMemory>
     // ensures allocator { prepared.new.entities ≡ prepared.old.entities }
     // ensures slots { OnOk result (entities.now.allocator.made ≤ prepared.new.slots) }
     // ensures waiting { OnOk result (top entities.now.allocator ≤ prepared.new.waiting) }
@@ -113,7 +113,7 @@ fn prepare(
 
 /// A storage of the same entities, with as much room. Without slots and entities it has none.
 #[inline]
-fn copied(storage: &Storage, slots: u32) -> Result<Storage, Memory>
+fn copied(storage: &Storage, slots: u32) -> Result<Storage, OutOfMemory>
     // ensures entities { IfOk result (λ copy. copy.entities ≡ storage.now.entities) }
     // ensures places { IfOk result (λ copy. copy.places ≡ storage.now.places) }
     // ensures spare { IfOk result (λ copy. 0 < slots → storage.now.spare ≤ copy.spare) }
@@ -133,7 +133,7 @@ fn copy_into(
     storage: &mut Storage,
     source: &Storage,
     slots: u32,
-) -> Result<(), Memory>
+) -> Result<(), OutOfMemory>
     // ensures entities { OnOk result (storage.new.entities ≡ source.now.entities) }
     // ensures places { OnOk result (storage.new.places ≡ source.now.places) }
     // ensures spare { OnOk result (0 < slots → source.now.spare ≤ storage.new.spare) }

@@ -1,7 +1,7 @@
 // Made of crates/ent_world/src/fault.rt by rust/erase. It isn't edited by hand.
 
 use alloc::vec::Vec;
-use crate::proved::ent_handle::Handle;
+use crate::handles::Handle;
 
 /// Why a command had no effect.
 ///
@@ -73,8 +73,8 @@ pub struct Fault {
 /// assert!(report.faults.is_empty());
 /// # Ok::<(), Box<dyn std::error::Error>>(())
 /// ```
-#[derive(Clone, PartialEq, Eq)]
-pub struct SyncReport {
+#[derive(Debug, Clone, PartialEq, Eq)]
+pub struct Report {
     /// The handles that came to life, in the order of the flush.
     pub born: Vec<Handle>,
     /// The commands without effect, in their order.
@@ -95,7 +95,7 @@ pub enum SyncFault {
         /// How many handles of that command are done. It is 0 except at a spawn of many.
         done: usize,
         /// What was done before.
-        so_far: SyncReport,
+        so_far: Report,
     },
 }
 

@@ -4,12 +4,12 @@
 
 use alloc::vec::Vec;
 use crate::kit::vec::FallibleVec;
-use crate::proved::ent_world::image_fault::WorldImageFault;
-use crate::proved::ent_world::rows::{place_of, set_rows};
-use crate::proved::ent_world::world::World;
-use crate::proved::ent_alloc::{Entities, ImageFault, Living};
-use crate::proved::ent_handle::{Handle, Memory, read_long, read_word, write_long, write_word};
-use crate::proved::ent_storage::{Storage, StorageImageFault};
+use crate::worlds::image_fault::WorldImageFault;
+use crate::worlds::rows::{place_of, set_rows};
+use crate::worlds::world::World;
+use crate::allocator::{Entities, ImageFault, Living};
+use crate::handles::{Handle, OutOfMemory, read_long, read_word, write_long, write_word};
+use crate::components::{Storage, StorageImageFault};
 
 /// The letters `FORGENW` and a zero, the first one lowest.
 const MAGIC: u64 = 0x0057_4e45_4752_4f46;
@@ -226,13 +226,13 @@ impl World {
     ///
     /// </details>
     #[inline]
-    pub fn write_image(&self, extra: u32, out: &mut Vec<u8>) -> Result<(), Memory> {
+    pub fn write_image(&self, extra: u32, out: &mut Vec<u8>) -> Result<(), OutOfMemory> {
         let width = self.storage.width();
         let part = ALLOCATOR as u64 + SLOT as u64 * u64::from(self.entities.total());
         let rest = 4 + u64::from(self.entities.len()) * (16 + 9 * u64::from(width));
         let all = HEADER as u64 + part + rest + u64::from(extra);
         let Ok(all) = usize::try_from(all) else {
-            return Err(Memory);
+            return Err(OutOfMemory);
         };
         out.reserve_fallibly(all)?;
         write_header(self.phase, part, out);

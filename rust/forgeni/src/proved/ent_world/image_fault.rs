@@ -1,8 +1,8 @@
 // Made of crates/ent_world/src/image_fault.rt by rust/erase. It isn't edited by hand.
 
-use crate::proved::ent_alloc::ImageFault;
-use crate::proved::ent_handle::Memory;
-use crate::proved::ent_storage::StorageImageFault;
+use crate::allocator::ImageFault;
+use crate::handles::OutOfMemory;
+use crate::components::StorageImageFault;
 use crate::kit::alloc::AllocError;
 
 /// Why bytes were not read as the image of a world: the first fault that they have, in this order. The
@@ -71,9 +71,9 @@ impl From<AllocError> for WorldImageFault {
     }
 }
 
-impl From<Memory> for WorldImageFault {
+impl From<OutOfMemory> for WorldImageFault {
     #[inline]
-    fn from(_refused: Memory) -> Self {
+    fn from(_refused: OutOfMemory) -> Self {
         WorldImageFault::Memory
     }
 }

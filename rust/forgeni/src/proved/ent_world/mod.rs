@@ -18,7 +18,7 @@ mod view;
 mod world;
 mod world_in_blocks;
 
-pub use fault::{Fault, FaultKind, SyncFault, SyncReport};
+pub use fault::{Fault, FaultKind, SyncFault, Report};
 pub use image_fault::WorldImageFault;
 pub use open_world::OpenWorld;
 pub use view::View;

@@ -1,21 +1,21 @@
 // Made of crates/ent_world/src/open_world.rt by rust/erase. It isn't edited by hand.
 
 use alloc::vec::Vec;
-use crate::proved::ent_world::view::View;
-use crate::proved::ent_world::world::World;
-use crate::proved::ent_shared::{Reserver, Shared};
-use crate::proved::ent_storage::Storage;
+use crate::worlds::view::View;
+use crate::worlds::world::World;
+use crate::reserving::{SharedReserver, SharedSource};
+use crate::components::Storage;
 
 /// A world in a phase: many callers reserve from its allocator at once, and read the rest of it.
 pub struct OpenWorld {
-    shared: Shared,
+    shared: SharedSource,
     storage: Storage,
     phase: u64,
 }
 
 impl OpenWorld {
     #[inline]
-    pub(super) fn new(shared: Shared, storage: Storage, phase: u64) -> Self
+    pub(super) fn new(shared: SharedSource, storage: Storage, phase: u64) -> Self
         // requires world { IsOpenWorld
         //     (record { shared = shared; phase = phase; entities = storage.entities }) }
         // requires rows { AreRows shared.rows storage.places storage.entities }
@@ -30,7 +30,7 @@ impl OpenWorld {
         }
     }
 
-    /// The allocator from which callers reserve, each with a [`Reserver`] of its own.
+    /// The allocator from which callers reserve, each with a [`SharedReserver`] of its own.
     ///
     /// <details><summary>Contract</summary>
     ///
@@ -42,7 +42,7 @@ impl OpenWorld {
     ///
     /// </details>
     #[inline]
-    pub fn shared(&self) -> &Shared {
+    pub fn shared(&self) -> &SharedSource {
         &self.shared
     }
 
@@ -63,10 +63,10 @@ impl OpenWorld {
         View::new(&self.storage, self.phase)
     }
 
-    /// Ends the phase with all its reservers, as [`Shared::close`] does. Nothing of the world but
+    /// Ends the phase with all its reservers, as [`SharedSource::close`] does. Nothing of the world but
     /// its allocator changes. It takes no memory.
     #[inline]
-    pub(crate) fn close(self, reservers: Vec<Reserver>) -> World
+    pub(crate) fn close(self, reservers: Vec<SharedReserver>) -> World
         // requires all { length reservers.items ≡ self.shared.count }
         // requires own { All (IsOf self.shared) reservers.items }
         // ensures phase { result.phase ≡ self.phase }
@@ -108,10 +108,10 @@ impl OpenWorld {
         }
     }
 
-    /// Ends the phase although some reservers may be lost, as [`Shared::close_lost`] does. Nothing
+    /// Ends the phase although some reservers may be lost, as [`SharedSource::close_lost`] does. Nothing
     /// of the world but its allocator changes. It takes no memory.
     #[inline]
-    pub(crate) fn close_lost(self, reservers: Vec<Reserver>) -> World
+    pub(crate) fn close_lost(self, reservers: Vec<SharedReserver>) -> World
         // requires { All (IsOf self.shared) reservers.items }
         // ensures phase { result.phase ≡ self.phase }
         // ensures entities { result.entities ≡ self.entities }

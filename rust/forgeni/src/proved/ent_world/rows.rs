@@ -3,8 +3,8 @@
 //! The rows of a world's entities. The allocator keeps with each living handle the entity's place
 //! in the storage, so that a look-up is one look at the handle's slot.
 
-use crate::proved::ent_alloc::Entities;
-use crate::proved::ent_handle::Handle;
+use crate::allocator::Entities;
+use crate::handles::Handle;
 
 /// The place that is kept with a handle.
 #[inline]

@@ -3,28 +3,28 @@
 //! What one spawn needs: the handle that the allocator gives next, and an entity that is made whole
 //! or not at all.
 
-use crate::proved::ent_alloc::{AllocFault, Entities};
-use crate::proved::ent_handle::{Birth, ComponentId, Handle, Memory};
-use crate::proved::ent_storage::Storage;
+use crate::allocator::{AllocError, Entities};
+use crate::handles::{Birth, ComponentId, Handle, OutOfMemory};
+use crate::components::Storage;
 
 /// The handle that `alloc` gives next.
 #[inline(always)]
-pub(super) fn next_handle(entities: &Entities) -> Result<Handle, AllocFault>
+pub(super) fn next_handle(entities: &Entities) -> Result<Handle, AllocError>
     // ensures front { IfOk result (λ handle. slice_get entities.now.allocator.pool 0 ≡ Some handle) }
     // ensures new { IfOk result (λ handle. set.contains entities.now.allocator.live handle ≡ false) }
     // ensures flushed { OnOk result (entities.now.allocator.asked ≡ 0) }
-    // ensures needs_flush { IsErrOf result AllocFault.NeedsFlush ↔ (0 < entities.now.allocator.asked) }
-    // ensures no_memory { ¬ (IsErrOf result AllocFault.Memory) }
-    // ensures space { IsErrOf result AllocFault.Space
+    // ensures needs_flush { IsErrOf result AllocError.NeedsFlush ↔ (0 < entities.now.allocator.asked) }
+    // ensures no_memory { ¬ (IsErrOf result AllocError.Memory) }
+    // ensures space { IsErrOf result AllocError.Space
     //     ↔ ((entities.now.allocator.asked ≡ 0) × (entities.now.allocator.pool ≡ [])) }
 {
     let top = i64::from(entities.top());
     if entities.cursor() != top {
-        return Err(AllocFault::NeedsFlush);
+        return Err(AllocError::NeedsFlush);
     }
     match entities.reply_one(top) {
         Ok(handle) => Ok(handle),
-        Err(_) => Err(AllocFault::Space),
+        Err(_) => Err(AllocError::Space),
     }
 }
 
@@ -37,7 +37,7 @@ pub(super) fn make(
     handle: Handle,
     birth: Birth,
     items: &[(ComponentId, i64)],
-) -> Result<(), Memory>
+) -> Result<(), OutOfMemory>
     // requires new { map.get storage.old.entities handle ≡ None }
     // requires next { place ≡ length storage.old.places }
     // ensures ok { OnOk result (storage.new.entities
@@ -50,11 +50,11 @@ pub(super) fn make(
     // ensures unplaced { OnErr result (storage.new.places ≡ storage.old.places) }
 {
     if storage.born(handle, birth).is_err() {
-        return Err(Memory);
+        return Err(OutOfMemory);
     }
     if storage.insert_at(place, handle, items).is_err() {
         let _ = storage.despawn_at(place, handle);
-        return Err(Memory);
+        return Err(OutOfMemory);
     }
     Ok(())
 }

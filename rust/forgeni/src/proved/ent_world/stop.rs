@@ -2,7 +2,7 @@
 
 //! Where a sync point stops, and where it goes on.
 
-use crate::proved::ent_world::fault::{SyncFault, SyncReport};
+use crate::worlds::fault::{SyncFault, Report};
 
 /// A command, by its system and its number in the system's queue.
 #[derive(Clone, Copy)]
@@ -33,7 +33,7 @@ impl Stop {
 
     /// The fault of a sync point that stopped there, with what it has done so far.
     #[inline]
-    pub(super) fn fault(self, so_far: SyncReport) -> SyncFault
+    pub(super) fn fault(self, so_far: Report) -> SyncFault
         // ensures { result ≡ SyncFault.Memory self.at.system self.at.command self.done so_far }
     {
         SyncFault::Memory {

@@ -3,16 +3,16 @@
 //! The sync point of a world: what was reserved comes to life, and then the queues take effect.
 
 use alloc::vec::Vec;
-use crate::proved::ent_world::applying::Applying;
-use crate::proved::ent_world::births::{enter_all, name_listed, number_others};
-use crate::proved::ent_world::fault::{SyncFault, SyncReport};
-use crate::proved::ent_world::rows::set_rows;
-use crate::proved::ent_world::stop::{At, Stop};
-use crate::proved::ent_world::world::World;
-use crate::proved::ent_alloc::Entities;
-use crate::proved::ent_handle::{Handle, Memory};
-use crate::proved::ent_queue::CommandQueue;
-use crate::proved::ent_storage::Storage;
+use crate::worlds::applying::Applying;
+use crate::worlds::births::{enter_all, name_listed, number_others};
+use crate::worlds::fault::{SyncFault, Report};
+use crate::worlds::rows::set_rows;
+use crate::worlds::stop::{At, Stop};
+use crate::worlds::world::World;
+use crate::allocator::Entities;
+use crate::handles::{Handle, OutOfMemory};
+use crate::commands::IssuedCommands;
+use crate::components::Storage;
 
 impl World {
     /// The sync point: brings to life what is reserved, each entity with its birth by these queues,
@@ -30,7 +30,7 @@ impl World {
     ///   That command would there give an entity components, free a handle or list a fault: no
     ///   other takes memory. All births stand, and of the commands just those before.
     #[inline]
-    pub(crate) fn apply(&mut self, queues: &[CommandQueue]) -> Result<SyncReport, SyncFault>
+    pub(crate) fn apply(&mut self, queues: &[IssuedCommands]) -> Result<Report, SyncFault>
         // requires { length queues.now ≤ 2 ^ 16 }
         // ensures ok { OnOk result (self.new ≡ (sync queues.now self.old).world) }
         // ensures born { IfOk result (λ report. report.born.items ≡ born self.old.allocator) }
@@ -63,8 +63,8 @@ impl World {
         let applied = self.apply_all(queues, &mut applying);
         let Applying { items: _, faults } = applying;
         match applied {
-            Ok(()) => Ok(SyncReport { born, faults }),
-            Err(stop) => Err(stop.fault(SyncReport { born, faults })),
+            Ok(()) => Ok(Report { born, faults }),
+            Err(stop) => Err(stop.fault(Report { born, faults })),
         }
     }
 
@@ -82,11 +82,11 @@ impl World {
     #[inline]
     pub(crate) fn apply_from(
         &mut self,
-        queues: &[CommandQueue],
+        queues: &[IssuedCommands],
         system: usize,
         command: usize,
         done: usize,
-    ) -> Result<SyncReport, SyncFault>
+    ) -> Result<Report, SyncFault>
         // requires flushed { self.old.allocator.asked ≡ 0 }
         // requires stop { IsStop system command done queues.now }
         // ensures ok { OnOk result (self.new
@@ -136,7 +136,7 @@ impl World {
         let applied = self.apply_queues(from, queues, &mut applying);
         let Applying { items: _, faults } = applying;
         let nobody = Vec::new();
-        let report = SyncReport {
+        let report = Report {
             born: nobody,
             faults,
         };
@@ -149,7 +149,7 @@ impl World {
     /// Brings to life what is reserved, each entity with its birth by these queues, and returns the
     /// handles in the order of the flush.
     #[inline]
-    pub(super) fn bring_to_life(&mut self, queues: &[CommandQueue]) -> Result<Vec<Handle>, Memory>
+    pub(super) fn bring_to_life(&mut self, queues: &[IssuedCommands]) -> Result<Vec<Handle>, OutOfMemory>
         // requires { length queues.now ≤ 2 ^ 16 }
         // ensures ok { OnOk result (self.new ≡ after_births queues.now self.old) }
         // ensures born { IfOk result (λ handles. handles.items ≡ born self.old.allocator) }
@@ -180,7 +180,7 @@ impl World {
 /// Makes room for what is reserved, and in the storage's index for each slot that is made by then. If
 /// nothing is reserved, it takes no memory.
 #[inline(always)]
-fn reserve_births(entities: &Entities, storage: &mut Storage) -> Result<(), Memory>
+fn reserve_births(entities: &Entities, storage: &mut Storage) -> Result<(), OutOfMemory>
     // ensures entities { storage.new.entities ≡ storage.old.entities }
     // ensures places { storage.new.places ≡ storage.old.places }
     // ensures ok { OnOk result (length entities.now.allocator.taken ≤ storage.new.spare) }

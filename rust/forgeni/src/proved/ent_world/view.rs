@@ -1,8 +1,8 @@
 // Made of crates/ent_world/src/view.rt by rust/erase. It isn't edited by hand.
 
 use alloc::vec::Vec;
-use crate::proved::ent_handle::{Birth, ComponentId, Handle, Memory};
-use crate::proved::ent_storage::Storage;
+use crate::handles::{Birth, ComponentId, Handle, OutOfMemory};
+use crate::components::Storage;
 
 /// What a system may read of a world while others reserve: the world as it was opened.
 ///
@@ -157,7 +157,7 @@ impl<'a> View<'a> {
     ///
     /// </details>
     #[inline]
-    pub fn with(&self, id: ComponentId) -> Result<Vec<Handle>, Memory> {
+    pub fn with(&self, id: ComponentId) -> Result<Vec<Handle>, OutOfMemory> {
         self.storage.with(id)
     }
 
@@ -191,7 +191,7 @@ impl<'a> View<'a> {
     ///
     /// </details>
     #[inline]
-    pub fn by_birth(&self) -> Result<Vec<Handle>, Memory> {
+    pub fn by_birth(&self) -> Result<Vec<Handle>, OutOfMemory> {
         self.storage.by_birth()
     }
 

@@ -2,14 +2,14 @@
 
 use alloc::vec::Vec;
 use crate::kit::prove_eq;
-use crate::proved::ent_world::open_world::OpenWorld;
-use crate::proved::ent_world::rows::place_of;
-use crate::proved::ent_world::spawning::{make, next_handle};
-use crate::proved::ent_alloc::{AllocFault, Entities, FreeFault, Freed, Limits, State};
-use crate::proved::ent_handle::{Birth, ComponentId, Handle, Memory};
-use crate::proved::ent_queue::Bundle;
-use crate::proved::ent_shared::{Reserver, share};
-use crate::proved::ent_storage::{Items, Storage};
+use crate::worlds::open_world::OpenWorld;
+use crate::worlds::rows::place_of;
+use crate::worlds::spawning::{make, next_handle};
+use crate::allocator::{AllocError, Entities, FreeError, Freed, Limits, State};
+use crate::handles::{Birth, ComponentId, Handle, OutOfMemory};
+use crate::commands::Bundle;
+use crate::reserving::{SharedReserver, share};
+use crate::components::{Items, Storage};
 
 /// The living entities and their components.
 ///
@@ -184,7 +184,7 @@ impl World {
     ///
     /// </details>
     #[inline]
-    pub fn by_birth(&self) -> Result<Vec<Handle>, Memory> {
+    pub fn by_birth(&self) -> Result<Vec<Handle>, OutOfMemory> {
         self.storage.by_birth()
     }
 
@@ -241,7 +241,7 @@ impl World {
     ///
     /// </details>
     #[inline]
-    pub fn flush(&mut self) -> Result<(), Memory> {
+    pub fn flush(&mut self) -> Result<(), OutOfMemory> {
         let _ = self.bring_to_life(&[])?;
         Ok(())
     }
@@ -269,11 +269,11 @@ impl World {
     ///     slice_get self.old.allocator.pool 0 ≡ Some handle) }
     /// ensures ok { IfOk result (λ handle.
     ///     self.new ≡ after_spawn birth bundle.now handle self.old) }
-    /// ensures needs_flush { IsErrOf result AllocFault.NeedsFlush
+    /// ensures needs_flush { IsErrOf result AllocError.NeedsFlush
     ///     ↔ (0 < self.old.allocator.asked) }
-    /// ensures space { IsErrOf result AllocFault.Space
+    /// ensures space { IsErrOf result AllocError.Space
     ///     ↔ ((self.old.allocator.asked ≡ 0) × (self.old.allocator.pool ≡ [])) }
-    /// ensures memory { IsErrOf result AllocFault.Memory
+    /// ensures memory { IsErrOf result AllocError.Memory
     ///     → (top self.old.allocator ≡ 0) ⊎ (0 < length bundle.now) }
     /// ensures err { OnErr result (self.new ≡ self.old) }
     /// ensures world { IsWorld self.new }
@@ -281,7 +281,7 @@ impl World {
     ///
     /// </details>
     #[inline(always)]
-    pub fn spawn(&mut self, birth: Birth, bundle: &Bundle) -> Result<Handle, AllocFault> {
+    pub fn spawn(&mut self, birth: Birth, bundle: &Bundle) -> Result<Handle, AllocError> {
         let handle = next_handle(&self.entities)?;
         let row = self.entities.len();
         let place = row as usize;
@@ -307,14 +307,14 @@ impl World {
     ///   never waits, so its entity is never refused for that.
     // Not inlined, its result goes through memory, as that of `free`.
     #[inline(always)]
-    pub fn despawn(&mut self, handle: Handle) -> Result<Freed, FreeFault>
+    pub fn despawn(&mut self, handle: Handle) -> Result<Freed, FreeError>
         // ensures ok { OnOk result (self.new ≡ after_despawn handle self.old) }
         // ensures next { IfOk result (λ freed. freed.next ≡ next self.old.allocator.limits handle) }
         // ensures lived { OnOk result (lives_in self.old handle ≡ true) }
-        // ensures needs_flush { IsErrOf result FreeFault.NeedsFlush ↔ (0 < self.old.allocator.asked) }
-        // ensures not_alive { IsErrOf result FreeFault.NotAlive
+        // ensures needs_flush { IsErrOf result FreeError.NeedsFlush ↔ (0 < self.old.allocator.asked) }
+        // ensures not_alive { IsErrOf result FreeError.NotAlive
         //     ↔ ((self.old.allocator.asked ≡ 0) × (lives_in self.old handle ≡ false)) }
-        // ensures memory { IsErrOf result FreeFault.Memory
+        // ensures memory { IsErrOf result FreeError.Memory
         //     → handle.generation ≢ self.old.allocator.limits.generations }
         // ensures err { OnErr result (self.new ≡ self.old) }
         // ensures world { IsWorld self.new }
@@ -333,9 +333,9 @@ impl World {
     ///
     /// # Errors
     ///
-    /// [`Memory`], with the world as it was.
+    /// [`OutOfMemory`], with the world as it was.
     #[inline]
-    pub(crate) fn open(self, n: usize) -> Result<(OpenWorld, Vec<Reserver>), (World, Memory)>
+    pub(crate) fn open(self, n: usize) -> Result<(OpenWorld, Vec<SharedReserver>), (World, OutOfMemory)>
         // requires flushed { self.allocator.asked ≡ 0 }
         // requires some { 0 < n }
         // requires few { n ≤ 1024 }

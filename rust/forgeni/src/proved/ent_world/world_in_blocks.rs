@@ -1,12 +1,12 @@
 // Made of crates/ent_world/src/world_in_blocks.rt by rust/erase. It isn't edited by hand.
 
 use alloc::vec::Vec;
-use crate::proved::ent_world::view::View;
-use crate::proved::ent_world::world::World;
-use crate::proved::ent_alloc::Entities;
-use crate::proved::ent_blocks::{BlockReserver, Blocks, Deal, DealError, EndError, open_in_blocks};
-use crate::proved::ent_handle::HandedBack;
-use crate::proved::ent_storage::Storage;
+use crate::worlds::view::View;
+use crate::worlds::world::World;
+use crate::allocator::Entities;
+use crate::in_blocks::{BlockReserver, Blocks, Deal, DealError, EndError, open_in_blocks};
+use crate::handles::HandedBack;
+use crate::components::Storage;
 
 /// A world of which contracts also see the rows: the numbers that its allocator keeps with its living
 /// handles. A phase in blocks has them too, so they are in what its number stands for.

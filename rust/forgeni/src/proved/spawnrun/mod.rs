@@ -4,7 +4,7 @@
 //! read one on standard input, and write what it gave.
 
 use crate::kit::programs::rt::HostRuntime;
-use crate::proved::spawnrun_lib::start;
+use crate::spawnrun_lib::start;
 use std::io::IsTerminal;
 use std::process::ExitCode;
 

@@ -2,7 +2,7 @@
 
 use alloc::vec::Vec;
 use crate::kit::vec::FallibleVec;
-use crate::proved::ent_handle::{Handle, Memory};
+use crate::handles::{Handle, OutOfMemory};
 
 /// The lists of handles to which the names of a system are bound, by the numbers of the names.
 pub(super) struct Bindings {
@@ -33,7 +33,7 @@ impl Bindings {
 
     /// Makes room for the name. A list that is added is empty.
     #[inline]
-    pub(super) fn reach(&mut self, name: usize) -> Result<(), Memory>
+    pub(super) fn reach(&mut self, name: usize) -> Result<(), OutOfMemory>
         // ensures same { OnOk result (names_of self.new ≡ names_of self.old) }
         // ensures long { OnOk result (name < length self.new) }
     {

@@ -4,12 +4,12 @@
 
 use alloc::vec::Vec;
 use crate::kit::vec::FallibleVec;
-use crate::proved::spawnrun_lib::show::Show;
-use crate::proved::ent_handle::{Handle, Memory};
+use crate::spawnrun_lib::show::Show;
+use crate::handles::{Handle, OutOfMemory};
 use crate::kit::itoa::{Buffer, Integer};
 
 #[inline]
-pub(super) fn append(out: &mut Vec<u8>, text: &[u8]) -> Result<(), Memory>
+pub(super) fn append(out: &mut Vec<u8>, text: &[u8]) -> Result<(), OutOfMemory>
     // ensures ok { OnOk result (out.new.items ≡ out.old.items ++ text.now) }
     // ensures err { OnErr result (out.new.items ≡ out.old.items) }
     // ensures full { OnErr result (vec_capacity out.old < vec_len out.old + length text.now) }
@@ -19,7 +19,7 @@ pub(super) fn append(out: &mut Vec<u8>, text: &[u8]) -> Result<(), Memory>
 }
 
 #[inline]
-pub(super) fn append_number<N: Integer>(out: &mut Vec<u8>, number: N) -> Result<(), Memory>
+pub(super) fn append_number<N: Integer>(out: &mut Vec<u8>, number: N) -> Result<(), OutOfMemory>
     // ensures ok { OnOk result (out.new.items ≡ out.old.items ++ N.text number) }
     // ensures err { OnErr result (out.new.items ≡ out.old.items) }
     // ensures full { OnErr result (vec_capacity out.old < vec_len out.old + length (N.text number)) }
@@ -34,7 +34,7 @@ pub(super) fn append_labelled<N: Integer>(
     out: &mut Vec<u8>,
     label: &[u8],
     number: N,
-) -> Result<(), Memory>
+) -> Result<(), OutOfMemory>
     // ensures ok { OnOk result (out.new.items ≡ out.old.items ++ label.now ++ N.text number) }
     // ensures kept { OnErr result (take (vec_len out.old) out.new.items ≡ out.old.items) }
     // ensures full { OnErr result (vec_capacity out.old
@@ -47,7 +47,7 @@ pub(super) fn append_labelled<N: Integer>(
 
 /// Appends a space and the handle, if handles are shown.
 #[inline]
-pub(super) fn append_shown(out: &mut Vec<u8>, show: Show, handle: Handle) -> Result<(), Memory>
+pub(super) fn append_shown(out: &mut Vec<u8>, show: Show, handle: Handle) -> Result<(), OutOfMemory>
     // ensures ok { OnOk result (out.new.items ≡ out.old.items ++ shown_handle show handle) }
     // ensures kept { OnErr result (take (vec_len out.old) out.new.items ≡ out.old.items) }
     // ensures full { OnErr result (vec_capacity out.old

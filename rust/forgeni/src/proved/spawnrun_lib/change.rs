@@ -1,12 +1,12 @@
 // Made of crates/spawnrun_lib/src/change.rt by rust/erase. It isn't edited by hand.
 
-use crate::proved::spawnrun_lib::bindings::Bindings;
-use crate::proved::spawnrun_lib::roll::Roll;
-use crate::proved::ent_alloc::Source;
-use crate::proved::ent_handle::{ComponentId, Handle, Memory};
-use crate::proved::ent_queue::{CommandQueue, Commands};
-use crate::proved::ent_script::{Bundle, Target};
-use crate::proved::ent_world::View;
+use crate::spawnrun_lib::bindings::Bindings;
+use crate::spawnrun_lib::roll::Roll;
+use crate::allocator::Source;
+use crate::handles::{ComponentId, Handle, OutOfMemory};
+use crate::commands::{IssuedCommands, SystemCommands};
+use crate::scripts::{Bundle, Target};
+use crate::worlds::View;
 
 /// What an operation does to each entity of its target.
 #[derive(Clone, Copy)]
@@ -28,8 +28,8 @@ impl Change<'_> {
         target: Target,
         names: &Bindings,
         roll: &mut Roll,
-        commands: &mut Commands<'_, CommandQueue, S>,
-    ) -> Result<(), Memory>
+        commands: &mut SystemCommands<'_, IssuedCommands, S>,
+    ) -> Result<(), OutOfMemory>
         // requires ready { IsReady S.serves commands.old }
         // requires roll { IsRollOf view.now roll.old }
         // ensures roll { IsRollOf view.now roll.new }
@@ -55,8 +55,8 @@ impl Change<'_> {
     fn on_each<S: Source>(
         self,
         handles: &[Handle],
-        commands: &mut Commands<'_, CommandQueue, S>,
-    ) -> Result<(), Memory>
+        commands: &mut SystemCommands<'_, IssuedCommands, S>,
+    ) -> Result<(), OutOfMemory>
         // requires { IsReady S.serves commands.old }
         // ensures extends { Extends Issues S.serves S.may_reply commands.old commands.new }
         // ensures ok { OnOk result (output_of commands.new
@@ -75,8 +75,8 @@ impl Change<'_> {
     fn on_one<S: Source>(
         self,
         handle: Handle,
-        commands: &mut Commands<'_, CommandQueue, S>,
-    ) -> Result<(), Memory>
+        commands: &mut SystemCommands<'_, IssuedCommands, S>,
+    ) -> Result<(), OutOfMemory>
         // requires { IsReady S.serves commands.old }
         // ensures extends { Extends Issues S.serves S.may_reply commands.old commands.new }
         // ensures ok { OnOk result (output_of commands.new

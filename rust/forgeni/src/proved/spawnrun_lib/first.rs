@@ -3,9 +3,9 @@
 //! The first of several keys, members or names that fails its test.
 
 use crate::kit::programs::string::String;
-use crate::proved::spawnrun_lib::part::Part;
-use crate::proved::ent_script::elements::{elements, is_among, members, name};
-use crate::proved::ent_script::sizes::COMPONENTS;
+use crate::spawnrun_lib::part::Part;
+use crate::scripts::elements::{elements, is_among, members, name};
+use crate::scripts::sizes::COMPONENTS;
 use crate::kit::programs::serde_json::{Map, Value};
 
 /// The first key that is none of a script's.

@@ -2,12 +2,12 @@
 
 //! One frame of a script.
 
-use crate::proved::spawnrun_lib::script_system::runnable;
-use crate::proved::ent_handle::Memory;
-use crate::proved::ent_runner::{NoGate, run_frame};
-use crate::proved::ent_script::System;
-use crate::proved::ent_world::{SyncReport, World};
-use crate::kit::thread::Threads;
+use crate::spawnrun_lib::script_system::runnable;
+use crate::handles::OutOfMemory;
+use crate::running::{NoGate, run_frame};
+use crate::scripts::System;
+use crate::worlds::{Report, World};
+use crate::kit::thread::Join;
 
 /// Runs a frame of these systems on that many workers, and its sync point.
 #[inline]
@@ -16,9 +16,9 @@ pub(super) fn run<R>(
     world: &mut World,
     systems: &[System],
     workers: usize,
-) -> Result<SyncReport, Memory>
+) -> Result<Report, OutOfMemory>
 where
-    R: Threads + Sync,
+    R: Join + Sync,
     // requires flushed { world.old.allocator.asked ≡ 0 }
     // requires systems { length systems.now ≤ most_systems }
     // requires some { 0 < workers }
@@ -31,6 +31,6 @@ where
     let runnable = runnable(systems)?;
     match run_frame(rt, world, &runnable, workers, &NoGate) {
         Ok(report) => Ok(report.sync),
-        Err(_) => Err(Memory),
+        Err(_) => Err(OutOfMemory),
     }
 }

@@ -3,13 +3,13 @@
 //! One frame of a script whose systems get their handles from blocks.
 use alloc::vec::Vec;
 use crate::kit::vec::FallibleVec;
-use crate::proved::spawnrun_lib::script_system::{ScriptSystem, runnable};
-use crate::proved::ent_blocks::DealError;
-use crate::proved::ent_handle::Memory;
-use crate::proved::ent_runner::{RunError, Unframed, run_frame_in_blocks};
-use crate::proved::ent_script::System;
-use crate::proved::ent_world::{PlacedWorld, SyncReport, World, WorldDeal};
-use crate::kit::thread::Threads;
+use crate::spawnrun_lib::script_system::{ScriptSystem, runnable};
+use crate::in_blocks::DealError;
+use crate::handles::OutOfMemory;
+use crate::running::{RunError, Unframed, run_frame_in_blocks};
+use crate::scripts::System;
+use crate::worlds::{PlacedWorld, Report, World, WorldDeal};
+use crate::kit::thread::Join;
 
 /// When memory ran out in a frame in blocks, so that it didn't end.
 #[derive(Clone, Copy, PartialEq, Eq)]
@@ -22,7 +22,7 @@ pub(super) enum Undone {
 
 /// As many handles for each of the systems.
 #[inline]
-fn sizes(size: u32, systems: &[System]) -> Result<Vec<u32>, Memory>
+fn sizes(size: u32, systems: &[System]) -> Result<Vec<u32>, OutOfMemory>
     // ensures { IfOk result (λ sizes. sizes.items ≡ sizes_of size systems.now) }
 {
     let mut sizes = Vec::with_capacity_fallibly(systems.len())?;
@@ -40,9 +40,9 @@ fn run_dealt<R>(
     sizes: &[u32],
     systems: &[ScriptSystem<'_>],
     workers: usize,
-) -> Result<(World, SyncReport), Undone>
+) -> Result<(World, Report), Undone>
 where
-    R: Threads + Sync,
+    R: Join + Sync,
     // requires some { 0 < workers }
     // requires few { workers ≤ 64 }
     // requires systems { length systems.now ≤ most_systems }
@@ -85,9 +85,9 @@ pub(super) fn run<R>(
     size: u32,
     systems: &[System],
     workers: usize,
-) -> Result<(World, SyncReport), Undone>
+) -> Result<(World, Report), Undone>
 where
-    R: Threads + Sync,
+    R: Join + Sync,
     // requires some { 0 < workers }
     // requires few { workers ≤ 64 }
     // requires systems { length systems.now ≤ most_systems }

@@ -1,13 +1,13 @@
 // Made of crates/spawnrun_lib/src/frame_text.rt by rust/erase. It isn't edited by hand.
 
 use alloc::vec::Vec;
-use crate::proved::spawnrun_lib::bytes::{append, append_labelled, append_shown};
-use crate::proved::spawnrun_lib::show::Show;
-use crate::proved::ent_handle::Memory;
-use crate::proved::ent_world::{Fault, FaultKind, SyncReport};
+use crate::spawnrun_lib::bytes::{append, append_labelled, append_shown};
+use crate::spawnrun_lib::show::Show;
+use crate::handles::OutOfMemory;
+use crate::worlds::{Fault, FaultKind, Report};
 
 #[inline]
-fn append_counts(out: &mut Vec<u8>, wanted: u32, left: u32) -> Result<(), Memory>
+fn append_counts(out: &mut Vec<u8>, wanted: u32, left: u32) -> Result<(), OutOfMemory>
     // ensures ok { OnOk result (out.new.items ≡ out.old.items ++ counts_text wanted left) }
     // ensures kept { OnErr result (take (vec_len out.old) out.new.items ≡ out.old.items) }
     // ensures full { OnErr result (vec_capacity out.old
@@ -19,7 +19,7 @@ fn append_counts(out: &mut Vec<u8>, wanted: u32, left: u32) -> Result<(), Memory
 }
 
 #[inline]
-fn append_kind(out: &mut Vec<u8>, show: Show, kind: FaultKind) -> Result<(), Memory>
+fn append_kind(out: &mut Vec<u8>, show: Show, kind: FaultKind) -> Result<(), OutOfMemory>
     // ensures ok { OnOk result (out.new.items ≡ out.old.items ++ kind_text show kind) }
     // ensures kept { OnErr result (take (vec_len out.old) out.new.items ≡ out.old.items) }
     // ensures full { OnErr result (vec_capacity out.old
@@ -40,7 +40,7 @@ fn append_kind(out: &mut Vec<u8>, show: Show, kind: FaultKind) -> Result<(), Mem
 }
 
 #[inline]
-fn append_fault(out: &mut Vec<u8>, show: Show, fault: Fault) -> Result<(), Memory>
+fn append_fault(out: &mut Vec<u8>, show: Show, fault: Fault) -> Result<(), OutOfMemory>
     // ensures ok { OnOk result (out.new.items ≡ out.old.items ++ fault_line show fault) }
     // ensures kept { OnErr result (take (vec_len out.old) out.new.items ≡ out.old.items) }
     // ensures full { OnErr result (vec_capacity out.old
@@ -54,7 +54,7 @@ fn append_fault(out: &mut Vec<u8>, show: Show, fault: Fault) -> Result<(), Memor
 }
 
 #[inline]
-fn append_faults(out: &mut Vec<u8>, show: Show, faults: &[Fault]) -> Result<(), Memory>
+fn append_faults(out: &mut Vec<u8>, show: Show, faults: &[Fault]) -> Result<(), OutOfMemory>
     // ensures ok { OnOk result (out.new.items
     //     ≡ out.old.items ++ flat_map (fault_line show) faults.now) }
     // ensures kept { OnErr result (take (vec_len out.old) out.new.items ≡ out.old.items) }
@@ -74,7 +74,7 @@ fn append_frame_line(
     number: u64,
     born: usize,
     faults: usize,
-) -> Result<(), Memory>
+) -> Result<(), OutOfMemory>
     // ensures ok { OnOk result (out.new.items ≡ out.old.items ++ frame_line number born faults) }
     // ensures kept { OnErr result (take (vec_len out.old) out.new.items ≡ out.old.items) }
     // ensures full { OnErr result (vec_capacity out.old
@@ -91,9 +91,9 @@ fn append_frame_line(
 fn append_frame(
     out: &mut Vec<u8>,
     number: u64,
-    report: &SyncReport,
+    report: &Report,
     show: Show,
-) -> Result<(), Memory>
+) -> Result<(), OutOfMemory>
     // ensures ok { OnOk result (out.new.items
     //     ≡ out.old.items ++ frame_text show number report.now.born.items report.now.faults.items) }
     // ensures kept { OnErr result (take (vec_len out.old) out.new.items ≡ out.old.items) }
@@ -131,10 +131,10 @@ fn append_frame(
 #[inline]
 pub fn write_frame(
     number: u64,
-    report: &SyncReport,
+    report: &Report,
     show: Show,
     out: &mut Vec<u8>,
-) -> Result<(), Memory> {
+) -> Result<(), OutOfMemory> {
     let len = out.len();
     let written = append_frame(out, number, report, show);
     if written.is_err() {

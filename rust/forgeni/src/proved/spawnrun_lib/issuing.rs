@@ -2,15 +2,15 @@
 
 //! What the operations of a system issue.
 
-use crate::proved::spawnrun_lib::bindings::Bindings;
-use crate::proved::spawnrun_lib::change::Change;
-use crate::proved::spawnrun_lib::roll::Roll;
-use crate::proved::spawnrun_lib::spawning::{spawn, spawn_many};
-use crate::proved::ent_alloc::Source;
-use crate::proved::ent_handle::Memory;
-use crate::proved::ent_queue::{CommandQueue, Commands};
-use crate::proved::ent_script::Operation;
-use crate::proved::ent_world::View;
+use crate::spawnrun_lib::bindings::Bindings;
+use crate::spawnrun_lib::change::Change;
+use crate::spawnrun_lib::roll::Roll;
+use crate::spawnrun_lib::spawning::{spawn, spawn_many};
+use crate::allocator::Source;
+use crate::handles::OutOfMemory;
+use crate::commands::{IssuedCommands, SystemCommands};
+use crate::scripts::Operation;
+use crate::worlds::View;
 
 /// Issues the commands of all operations, one after the other.
 ///
@@ -22,8 +22,8 @@ use crate::proved::ent_world::View;
 pub(super) fn issue_all<S: Source>(
     view: &View<'_>,
     operations: &[Operation],
-    commands: &mut Commands<'_, CommandQueue, S>,
-) -> Result<(), Memory>
+    commands: &mut SystemCommands<'_, IssuedCommands, S>,
+) -> Result<(), OutOfMemory>
     // requires { IsReady S.serves commands.old }
     // ensures extends { Extends Issues S.serves S.may_reply commands.old commands.new }
     // ensures may { output_of commands.old ≡ []
@@ -46,8 +46,8 @@ fn issue<S: Source>(
     operation: &Operation,
     names: &mut Bindings,
     roll: &mut Roll,
-    commands: &mut Commands<'_, CommandQueue, S>,
-) -> Result<(), Memory>
+    commands: &mut SystemCommands<'_, IssuedCommands, S>,
+) -> Result<(), OutOfMemory>
     // requires ready { IsReady S.serves commands.old }
     // requires roll { IsRollOf view.now roll.old }
     // ensures roll { IsRollOf view.now roll.new }

@@ -42,7 +42,7 @@ mod wants;
 mod work;
 mod world_text;
 
-pub use crate::proved::cli::{Counted, Failed, LineFault, Sink, Source, refuse_words};
+pub use crate::cli::{Counted, Failed, LineFault, Sink, Source, refuse_words};
 pub use frame_text::write_frame;
 pub use product::INPUT_LIMIT;
 pub use program::execute;

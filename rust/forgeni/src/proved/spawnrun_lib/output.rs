@@ -2,9 +2,9 @@
 
 //! What the work on an input writes, after all of it is made.
 
-use crate::proved::spawnrun_lib::product::Refusal;
-use crate::proved::spawnrun_lib::status::Status;
-use crate::proved::cli::{Failed, Sink};
+use crate::spawnrun_lib::product::Refusal;
+use crate::spawnrun_lib::status::Status;
+use crate::cli::{Failed, Sink};
 
 /// Writes a text, and ends with the status.
 #[inline]

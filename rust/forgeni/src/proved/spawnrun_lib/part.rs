@@ -1,7 +1,7 @@
 // Made of crates/spawnrun_lib/src/part.rt by rust/erase. It isn't edited by hand.
 
 use crate::kit::programs::string::ToStringIn;
-use crate::proved::spawnrun_lib::shown::{Shown, with_char, with_letter, with_text};
+use crate::spawnrun_lib::shown::{Shown, with_char, with_letter, with_text};
 use crate::kit::itoa::Buffer;
 use crate::kit::programs::serde_json::Value;
 use crate::kit::programs::inline_text::InlineText;

@@ -2,7 +2,7 @@
 
 //! What is made of an input: an output, or a refusal. And how long an input may be.
 use alloc::vec::Vec;
-use crate::proved::spawnrun_lib::found::Found;
+use crate::spawnrun_lib::found::Found;
 
 /// The longest input that the program reads, in bytes.
 pub const INPUT_LIMIT: usize = 67_108_864;

@@ -4,13 +4,13 @@
 //! stream.
 
 use crate::kit::programs::format;
-use crate::proved::spawnrun_lib::progress::Progress;
-use crate::proved::spawnrun_lib::status::Status;
-use crate::proved::spawnrun_lib::task::command_line;
-use crate::proved::spawnrun_lib::work::do_task;
-use crate::proved::cli::{LineFault, Sink, Source, finish, refuse_line};
+use crate::spawnrun_lib::progress::Progress;
+use crate::spawnrun_lib::status::Status;
+use crate::spawnrun_lib::task::command_line;
+use crate::spawnrun_lib::work::do_task;
+use crate::cli::{LineFault, Sink, Source, finish, refuse_line};
 use crate::kit::programs::string::AsStr;
-use crate::kit::thread::Threads;
+use crate::kit::thread::Join;
 
 /// Does what the program's arguments ask for, and returns the exit status.
 ///
@@ -83,7 +83,7 @@ pub fn execute<R, S: AsStr, I: Source, O: Sink, E: Sink, P: Progress>(
     progress: &mut P,
 ) -> u8
 where
-    R: Threads + Sync,
+    R: Join + Sync,
 {
     match command_line(words) {
         Ok(task) => {

@@ -2,7 +2,7 @@
 
 //! How far a run is, and its line on a terminal.
 
-use crate::proved::cli::{Failed, Sink};
+use crate::cli::{Failed, Sink};
 use crate::kit::itoa::Buffer;
 use crate::kit::programs::time::{Clock, Duration, Instant};
 

@@ -4,13 +4,13 @@
 
 use alloc::vec::Vec;
 use crate::kit::programs::format;
-use crate::proved::spawnrun_lib::product::{Product, Refusal};
-use crate::proved::spawnrun_lib::progress::Progress;
-use crate::proved::spawnrun_lib::schedule::schedule_found;
-use crate::proved::spawnrun_lib::wants::line_wants;
-use crate::proved::ent_alloc::Limits;
-use crate::proved::ent_handle::Memory;
-use crate::proved::ent_replay::{
+use crate::spawnrun_lib::product::{Product, Refusal};
+use crate::spawnrun_lib::progress::Progress;
+use crate::spawnrun_lib::schedule::schedule_found;
+use crate::spawnrun_lib::wants::line_wants;
+use crate::allocator::Limits;
+use crate::handles::OutOfMemory;
+use crate::traces::{
     Cause, Event, Machine, Outcome, ReadFault, ReplayFault, read_schedule, write_outcome,
 };
 
@@ -22,13 +22,13 @@ const STEP: usize = 65_536;
 ///
 /// # Errors
 ///
-/// [`Memory`], if there is no memory for it.
+/// [`OutOfMemory`], if there is no memory for it.
 #[inline]
 pub(super) fn replay<P: Progress>(
     input: Vec<u8>,
     limits: Limits,
     progress: &mut P,
-) -> Result<Product, Memory>
+) -> Result<Product, OutOfMemory>
     // ensures { IfOk result (IsProductOf (Replays limits) SpellsNone input.items) }
 {
     match read_schedule(&input) {
@@ -42,7 +42,7 @@ pub(super) fn replay<P: Progress>(
             wants: line_wants(cause),
             found: schedule_found(&input, line),
         })),
-        Err(ReadFault::Memory) => Err(Memory),
+        Err(ReadFault::Memory) => Err(OutOfMemory),
     }
 }
 
@@ -52,7 +52,7 @@ fn outcome_text<P: Progress>(
     limits: Limits,
     events: &[Event],
     progress: &mut P,
-) -> Result<Vec<u8>, Memory>
+) -> Result<Vec<u8>, OutOfMemory>
     // ensures { IfOk result (λ text.
     //     text.items ≡ outcome_lines (outcomes_of (starting limits) events.now)) }
 {
@@ -70,20 +70,20 @@ fn outcome_text<P: Progress>(
 
 // Applies one event, if there is memory for it.
 #[inline]
-fn apply(machine: &mut Machine, event: Event) -> Result<Result<Outcome, ReplayFault>, Memory>
+fn apply(machine: &mut Machine, event: Event) -> Result<Result<Outcome, ReplayFault>, OutOfMemory>
     // ensures outcome { IfOk result (λ outcome. outcome ≡ outcome_of machine.old event) }
     // ensures memory { IfOk result (λ outcome. outcome ≢ Err ReplayFault.Memory) }
     // ensures state { OnOk result (machine.new ≡ after_event machine.old event) }
 {
     match machine.step(event) {
-        Err(ReplayFault::Memory) => Err(Memory),
+        Err(ReplayFault::Memory) => Err(OutOfMemory),
         outcome => Ok(outcome),
     }
 }
 
 // The line that refuses a text, whose line of this number names no event.
 #[inline]
-fn refused_line(line: usize, cause: Cause) -> Result<Vec<u8>, Memory>
+fn refused_line(line: usize, cause: Cause) -> Result<Vec<u8>, OutOfMemory>
     // ensures { IfOk result (λ text. text.items ≡ refused_line line cause) }
 {
     let cause = cause.text();

@@ -1,8 +1,8 @@
 // Made of crates/spawnrun_lib/src/roll.rt by rust/erase. It isn't edited by hand.
 
 use alloc::vec::Vec;
-use crate::proved::ent_handle::{Birth, Handle, Memory};
-use crate::proved::ent_world::View;
+use crate::handles::{Birth, Handle, OutOfMemory};
+use crate::worlds::View;
 
 // How many births are looked up by a look at each entity before the entities are listed. The list
 // takes memory, and the time of a sort.
@@ -28,7 +28,7 @@ impl Roll {
 
     /// The handle of the entity with that birth, the least if there are several.
     #[inline]
-    pub(super) fn find(&mut self, view: &View<'_>, birth: Birth) -> Result<Option<Handle>, Memory>
+    pub(super) fn find(&mut self, view: &View<'_>, birth: Birth) -> Result<Option<Handle>, OutOfMemory>
         // requires { IsRollOf view.now self.old }
         // ensures roll { IsRollOf view.now self.new }
         // ensures found { IfOk result (λ found.

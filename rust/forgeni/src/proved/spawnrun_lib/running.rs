@@ -3,16 +3,16 @@
 //! The run of a script: bytes in, bytes out.
 
 use alloc::vec::Vec;
-use crate::proved::spawnrun_lib::product::{Product, Refusal};
-use crate::proved::spawnrun_lib::progress::Progress;
-use crate::proved::spawnrun_lib::script::script_found;
-use crate::proved::spawnrun_lib::script_run::run_script;
-use crate::proved::spawnrun_lib::script_run_in_blocks::run_script_in_blocks;
-use crate::proved::spawnrun_lib::show::Show;
-use crate::proved::spawnrun_lib::wants::script_wants;
-use crate::proved::ent_handle::Memory;
-use crate::proved::ent_script::{ReadFault, read_script, write_refusal};
-use crate::kit::thread::Threads;
+use crate::spawnrun_lib::product::{Product, Refusal};
+use crate::spawnrun_lib::progress::Progress;
+use crate::spawnrun_lib::script::script_found;
+use crate::spawnrun_lib::script_run::run_script;
+use crate::spawnrun_lib::script_run_in_blocks::run_script_in_blocks;
+use crate::spawnrun_lib::show::Show;
+use crate::spawnrun_lib::wants::script_wants;
+use crate::handles::OutOfMemory;
+use crate::scripts::{ReadFault, read_script, write_refusal};
+use crate::kit::thread::Join;
 
 /// Runs the script that the input means over an empty world, each frame on 1 to 64 workers, and
 /// gives its report, or says why the input means no script. No frame runs before the whole input is
@@ -20,7 +20,7 @@ use crate::kit::thread::Threads;
 ///
 /// # Errors
 ///
-/// [`Memory`], if there is no memory for it.
+/// [`OutOfMemory`], if there is no memory for it.
 #[inline]
 pub(super) fn run<R, P: Progress>(
     rt: &R,
@@ -28,9 +28,9 @@ pub(super) fn run<R, P: Progress>(
     workers: usize,
     show: Show,
     progress: &mut P,
-) -> Result<Product, Memory>
+) -> Result<Product, OutOfMemory>
 where
-    R: Threads + Sync,
+    R: Join + Sync,
     // requires some { 0 < workers }
     // requires few { workers ≤ 64 }
     // ensures { IfOk result (IsProductOf (Runs workers show) MeansNone input.items) }
@@ -51,7 +51,7 @@ where
 ///
 /// # Errors
 ///
-/// [`Memory`], if there is no memory for it.
+/// [`OutOfMemory`], if there is no memory for it.
 #[inline]
 pub(super) fn run_in_blocks<R, P: Progress>(
     rt: &R,
@@ -60,9 +60,9 @@ pub(super) fn run_in_blocks<R, P: Progress>(
     workers: usize,
     show: Show,
     progress: &mut P,
-) -> Result<Product, Memory>
+) -> Result<Product, OutOfMemory>
 where
-    R: Threads + Sync,
+    R: Join + Sync,
     // requires some { 0 < workers }
     // requires few { workers ≤ 64 }
     // ensures { IfOk result (IsProductOf (RunsInBlocks size show) MeansNone input.items) }
@@ -81,7 +81,7 @@ where
 // What is said of a text that is no script, for this fault that reading it has found.
 // It is `Memory` also if that is the fault: want of memory is no refusal.
 #[inline]
-fn no_script(input: &[u8], fault: ReadFault) -> Result<Refusal, Memory>
+fn no_script(input: &[u8], fault: ReadFault) -> Result<Refusal, OutOfMemory>
     // requires { ReadsAs (Err fault) (script_of_text input.now) }
     // ensures { IfOk result (λ refusal. MeansNone input.now (refusal_of refusal)) }
 {
@@ -94,12 +94,12 @@ fn no_script(input: &[u8], fault: ReadFault) -> Result<Refusal, Memory>
 
 // The line that refuses a text that is no script. Want of memory is no refusal.
 #[inline]
-fn refusal_line(fault: ReadFault) -> Result<Vec<u8>, Memory>
+fn refusal_line(fault: ReadFault) -> Result<Vec<u8>, OutOfMemory>
     // ensures refused { OnOk result (fault ≢ ReadFault.Memory) }
     // ensures line { IfOk result (λ line. line.items ≡ refusal_line fault) }
 {
     if fault == ReadFault::Memory {
-        return Err(Memory);
+        return Err(OutOfMemory);
     }
     let mut line = Vec::new();
     write_refusal(fault, &mut line)?;

@@ -1,8 +1,8 @@
 // Made of crates/spawnrun_lib/src/schedule.rt by rust/erase. It isn't edited by hand.
 
-use crate::proved::spawnrun_lib::found::{Found, with, with_number};
-use crate::proved::spawnrun_lib::shown::line_shown;
-use crate::proved::ent_handle::split_once;
+use crate::spawnrun_lib::found::{Found, with, with_number};
+use crate::spawnrun_lib::shown::line_shown;
+use crate::handles::split_once;
 
 /// What a schedule has at its line of this number, from 1.
 ///

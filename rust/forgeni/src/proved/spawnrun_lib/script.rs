@@ -1,10 +1,10 @@
 // Made of crates/spawnrun_lib/src/script.rt by rust/erase. It isn't edited by hand.
 
-use crate::proved::spawnrun_lib::first::{bad_component, unknown_key, unlisted_component, unwhole_member};
-use crate::proved::spawnrun_lib::found::{Found, with, with_number};
-use crate::proved::spawnrun_lib::part::Part;
-use crate::proved::spawnrun_lib::shown::{Shown, text_shown};
-use crate::proved::ent_script::{Cause, ReadFault, ScriptCause};
+use crate::spawnrun_lib::first::{bad_component, unknown_key, unlisted_component, unwhole_member};
+use crate::spawnrun_lib::found::{Found, with, with_number};
+use crate::spawnrun_lib::part::Part;
+use crate::spawnrun_lib::shown::{Shown, text_shown};
+use crate::scripts::{Cause, ReadFault, ScriptCause};
 use crate::kit::programs::serde_json::{Error, Value};
 use crate::kit::programs::inline_text::InlineText;
 

@@ -3,15 +3,15 @@
 //! The run of a whole script whose systems get their handles from blocks.
 
 use alloc::vec::Vec;
-use crate::proved::spawnrun_lib::frame_in_blocks;
-use crate::proved::spawnrun_lib::frame_text::write_frame;
-use crate::proved::spawnrun_lib::progress::Progress;
-use crate::proved::spawnrun_lib::show::Show;
-use crate::proved::spawnrun_lib::world_text::write_world;
-use crate::proved::ent_handle::Memory;
-use crate::proved::ent_script::{Frame, Script};
-use crate::proved::ent_world::World;
-use crate::kit::thread::Threads;
+use crate::spawnrun_lib::frame_in_blocks;
+use crate::spawnrun_lib::frame_text::write_frame;
+use crate::spawnrun_lib::progress::Progress;
+use crate::spawnrun_lib::show::Show;
+use crate::spawnrun_lib::world_text::write_world;
+use crate::handles::OutOfMemory;
+use crate::scripts::{Frame, Script};
+use crate::worlds::World;
+use crate::kit::thread::Join;
 
 /// Runs the frames one after the other, and appends the text of each. The memory of a frame is
 /// freed before the next one runs.
@@ -24,9 +24,9 @@ fn run_frames<R, P: Progress>(
     workers: usize,
     show: Show,
     progress: &mut P,
-) -> Result<(World, Vec<u8>), Memory>
+) -> Result<(World, Vec<u8>), OutOfMemory>
 where
-    R: Threads + Sync,
+    R: Join + Sync,
     // requires systems { AreFew frames.items }
     // requires some { 0 < workers }
     // requires few { workers ≤ 64 }
@@ -41,7 +41,7 @@ where
         progress.tell(number, count);
         let went = frame_in_blocks::run(rt, world, size, current.systems(), workers);
         let Ok((after, report)) = went else {
-            return Err(Memory);
+            return Err(OutOfMemory);
         };
         world = after;
         write_frame(number as u64, &report, show, &mut text)?;
@@ -60,9 +60,9 @@ fn report<R, P: Progress>(
     workers: usize,
     show: Show,
     progress: &mut P,
-) -> Result<Vec<u8>, Memory>
+) -> Result<Vec<u8>, OutOfMemory>
 where
-    R: Threads + Sync,
+    R: Join + Sync,
     // requires ranges { IsScript script }
     // requires some { 0 < workers }
     // requires few { workers ≤ 64 }
@@ -98,9 +98,9 @@ pub(crate) fn run_script_in_blocks<R, P: Progress>(
     workers: usize,
     show: Show,
     progress: &mut P,
-) -> Result<Vec<u8>, Memory>
+) -> Result<Vec<u8>, OutOfMemory>
 where
-    R: Threads + Sync,
+    R: Join + Sync,
     // requires ranges { IsScript script }
     // requires some { 0 < workers }
     // requires few { workers ≤ 64 }

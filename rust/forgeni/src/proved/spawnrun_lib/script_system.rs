@@ -2,16 +2,16 @@
 
 use alloc::vec::Vec;
 use crate::kit::vec::FallibleVec;
-use crate::proved::spawnrun_lib::issuing::issue_all;
-use crate::proved::ent_alloc::Source;
-use crate::proved::ent_handle::Memory;
-use crate::proved::ent_queue::{CommandQueue, Commands};
-use crate::proved::ent_runner::System;
-use crate::proved::ent_world::View;
+use crate::spawnrun_lib::issuing::issue_all;
+use crate::allocator::Source;
+use crate::handles::OutOfMemory;
+use crate::commands::{IssuedCommands, SystemCommands};
+use crate::running::System;
+use crate::worlds::View;
 
 /// A system of a script, as a frame runs it. Contracts see the list of its operations.
 pub struct ScriptSystem<'a> {
-    system: &'a crate::proved::ent_script::System,
+    system: &'a crate::scripts::System,
 }
 
 impl<'a> ScriptSystem<'a> {
@@ -27,7 +27,7 @@ impl<'a> ScriptSystem<'a> {
     ///
     /// </details>
     #[inline]
-    pub fn new(system: &'a crate::proved::ent_script::System) -> Self {
+    pub fn new(system: &'a crate::scripts::System) -> Self {
         ScriptSystem { system }
     }
 }
@@ -41,8 +41,8 @@ impl<S: Source> System<S> for ScriptSystem<'_> {
     fn run(
         &self,
         view: &View<'_>,
-        commands: &mut Commands<'_, CommandQueue, S>,
-    ) -> Result<(), Memory> {
+        commands: &mut SystemCommands<'_, IssuedCommands, S>,
+    ) -> Result<(), OutOfMemory> {
         issue_all(view, self.system.operations(), commands)
     }
 }
@@ -50,8 +50,8 @@ impl<S: Source> System<S> for ScriptSystem<'_> {
 /// The systems of a script, as a frame runs them.
 #[inline]
 pub(super) fn runnable<'a>(
-    systems: &'a [crate::proved::ent_script::System],
-) -> Result<Vec<ScriptSystem<'a>>, Memory>
+    systems: &'a [crate::scripts::System],
+) -> Result<Vec<ScriptSystem<'a>>, OutOfMemory>
     // ensures { IfOk result (λ runnable. runnable.items ≡ systems.now) }
 {
     let mut runnable = Vec::with_capacity_fallibly(systems.len())?;

@@ -2,11 +2,11 @@
 
 use alloc::vec::Vec;
 use crate::kit::vec::FallibleVec;
-use crate::proved::spawnrun_lib::bindings::Bindings;
-use crate::proved::ent_alloc::Source;
-use crate::proved::ent_handle::Memory;
-use crate::proved::ent_queue::{CommandQueue, Commands, QueueFault};
-use crate::proved::ent_script::Bundle;
+use crate::spawnrun_lib::bindings::Bindings;
+use crate::allocator::Source;
+use crate::handles::OutOfMemory;
+use crate::commands::{IssuedCommands, SystemCommands, ReserveError};
+use crate::scripts::Bundle;
 
 /// Spawns one entity, and binds the name to the list of its handle. After a refusal, which the
 /// queue keeps, nothing is bound.
@@ -19,8 +19,8 @@ pub(super) fn spawn<S: Source>(
     bundle: &Bundle,
     binds: Option<usize>,
     names: &mut Bindings,
-    commands: &mut Commands<'_, CommandQueue, S>,
-) -> Result<(), Memory>
+    commands: &mut SystemCommands<'_, IssuedCommands, S>,
+) -> Result<(), OutOfMemory>
     // requires { IsReady S.serves commands.old }
     // ensures extends { Extends Issues S.serves S.may_reply commands.old commands.new }
     // ensures issued { OnOk result ((view : View) → HasIssued view (Spawn bundle.now binds)
@@ -30,7 +30,7 @@ pub(super) fn spawn<S: Source>(
     match binds {
         Some(name) => spawn_named(bundle, name, names, commands),
         None => match commands.spawn(bundle) {
-            Err(QueueFault::Memory) => Err(Memory),
+            Err(ReserveError::Memory) => Err(OutOfMemory),
             _ => Ok(()),
         },
     }
@@ -41,8 +41,8 @@ fn spawn_named<S: Source>(
     bundle: &Bundle,
     name: usize,
     names: &mut Bindings,
-    commands: &mut Commands<'_, CommandQueue, S>,
-) -> Result<(), Memory>
+    commands: &mut SystemCommands<'_, IssuedCommands, S>,
+) -> Result<(), OutOfMemory>
     // requires { IsReady S.serves commands.old }
     // ensures extends { Extends Issues S.serves S.may_reply commands.old commands.new }
     // ensures issued { OnOk result ((view : View) → HasIssued view (Spawn bundle.now (Some name))
@@ -57,7 +57,7 @@ fn spawn_named<S: Source>(
             names.bind(name, list);
             Ok(())
         }
-        Err(QueueFault::Memory) => Err(Memory),
+        Err(ReserveError::Memory) => Err(OutOfMemory),
         Err(_) => Ok(()),
     }
 }
@@ -74,8 +74,8 @@ pub(super) fn spawn_many<S: Source>(
     bundle: &Bundle,
     binds: Option<usize>,
     names: &mut Bindings,
-    commands: &mut Commands<'_, CommandQueue, S>,
-) -> Result<(), Memory>
+    commands: &mut SystemCommands<'_, IssuedCommands, S>,
+) -> Result<(), OutOfMemory>
     // requires { IsReady S.serves commands.old }
     // ensures extends { Extends Issues S.serves S.may_reply commands.old commands.new }
     // ensures issued { OnOk result ((view : View) → HasIssued view (SpawnMany count bundle.now binds)
@@ -85,7 +85,7 @@ pub(super) fn spawn_many<S: Source>(
     match binds {
         Some(name) => spawn_many_named(count, bundle, name, names, commands),
         None => match commands.spawn_many(count, bundle) {
-            Err(QueueFault::Memory) => Err(Memory),
+            Err(ReserveError::Memory) => Err(OutOfMemory),
             _ => Ok(()),
         },
     }
@@ -97,8 +97,8 @@ fn spawn_many_named<S: Source>(
     bundle: &Bundle,
     name: usize,
     names: &mut Bindings,
-    commands: &mut Commands<'_, CommandQueue, S>,
-) -> Result<(), Memory>
+    commands: &mut SystemCommands<'_, IssuedCommands, S>,
+) -> Result<(), OutOfMemory>
     // requires { IsReady S.serves commands.old }
     // ensures extends { Extends Issues S.serves S.may_reply commands.old commands.new }
     // ensures issued { OnOk result ((view : View)
@@ -112,7 +112,7 @@ fn spawn_many_named<S: Source>(
             names.bind(name, handles);
             Ok(())
         }
-        Err(QueueFault::Memory) => Err(Memory),
+        Err(ReserveError::Memory) => Err(OutOfMemory),
         Err(_) => Ok(()),
     }
 }

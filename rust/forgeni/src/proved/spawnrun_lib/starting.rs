@@ -3,11 +3,11 @@
 //! The program, run on its arguments.
 
 use crate::kit::programs::rt::AllocGlobal;
-use crate::proved::spawnrun_lib::program::execute;
-use crate::proved::spawnrun_lib::progress::Teller;
-use crate::proved::spawnrun_lib::status::Status;
-use crate::proved::spawnrun_lib::task::is_task;
-use crate::proved::cli::{
+use crate::spawnrun_lib::program::execute;
+use crate::spawnrun_lib::progress::Teller;
+use crate::spawnrun_lib::status::Status;
+use crate::spawnrun_lib::task::is_task;
+use crate::cli::{
     Counted, Muted, Noting, file_name, finish, open_named, refuse_file, refuse_words,
     words_after_name,
 };
@@ -17,7 +17,7 @@ use crate::kit::programs::env;
 use crate::kit::programs::env::Env;
 use std::io::{Read, Write};
 use crate::kit::programs::rt::Files;
-use crate::kit::thread::Threads;
+use crate::kit::thread::Join;
 use crate::kit::programs::time::Clock;
 
 /// Runs the program on its arguments, and returns its exit status: that of `execute`, or of
@@ -49,7 +49,7 @@ pub fn start<R, I: Read, O: Write, E: Write, T: Write>(
     tells: bool,
 ) -> u8
 where
-    R: Threads + Sync + Env + Clock + Files + AllocGlobal,
+    R: Join + Sync + Env + Clock + Files + AllocGlobal,
 {
     let has_left = Cell::new(false);
     let mut output = Counted::new(Noting::new(output, &has_left));

@@ -2,7 +2,7 @@
 
 //! How a run of the program ended.
 
-use crate::proved::ent_handle::Memory;
+use crate::handles::OutOfMemory;
 
 /// How a run of the program ended.
 ///
@@ -19,9 +19,9 @@ pub enum Status {
     Device,
 }
 
-impl From<Memory> for Status {
+impl From<OutOfMemory> for Status {
     #[inline]
-    fn from(_refused: Memory) -> Self {
+    fn from(_refused: OutOfMemory) -> Self {
         Status::Memory
     }
 }

@@ -2,10 +2,10 @@
 
 //! What the program's arguments ask for.
 
-use crate::proved::spawnrun_lib::show::Show;
+use crate::spawnrun_lib::show::Show;
 use crate::kit::programs::clap::{Arg, ArgAction, ArgMatches, Command};
-use crate::proved::cli::{LineFault, generations_option, limits_of, number_option, slots_option};
-use crate::proved::ent_alloc::Limits;
+use crate::cli::{LineFault, generations_option, limits_of, number_option, slots_option};
+use crate::allocator::Limits;
 use crate::kit::alloc::AllocError;
 use crate::kit::programs::string::AsStr;
 

@@ -1,7 +1,7 @@
 // Made of crates/spawnrun_lib/src/wants.rt by rust/erase. It isn't edited by hand.
 
-use crate::proved::ent_replay::Cause as LineCause;
-use crate::proved::ent_script::{Cause, ReadFault, ScriptCause};
+use crate::traces::Cause as LineCause;
+use crate::scripts::{Cause, ReadFault, ScriptCause};
 
 /// What the size of an input has to be.
 #[inline]

@@ -4,18 +4,18 @@
 
 use alloc::vec::Vec;
 use crate::kit::vec::FallibleVec;
-use crate::proved::spawnrun_lib::found::Found;
-use crate::proved::spawnrun_lib::output::{refuse, write};
-use crate::proved::spawnrun_lib::product::{INPUT_LIMIT, Product, Refusal};
-use crate::proved::spawnrun_lib::progress::Progress;
-use crate::proved::spawnrun_lib::replaying::replay;
-use crate::proved::spawnrun_lib::running::{run, run_in_blocks};
-use crate::proved::spawnrun_lib::status::Status;
-use crate::proved::spawnrun_lib::task::Task;
-use crate::proved::spawnrun_lib::wants::size_wants;
-use crate::proved::cli::{InputFault, Sink, Source, read_all};
-use crate::proved::ent_handle::Memory;
-use crate::kit::thread::Threads;
+use crate::spawnrun_lib::found::Found;
+use crate::spawnrun_lib::output::{refuse, write};
+use crate::spawnrun_lib::product::{INPUT_LIMIT, Product, Refusal};
+use crate::spawnrun_lib::progress::Progress;
+use crate::spawnrun_lib::replaying::replay;
+use crate::spawnrun_lib::running::{run, run_in_blocks};
+use crate::spawnrun_lib::status::Status;
+use crate::spawnrun_lib::task::Task;
+use crate::spawnrun_lib::wants::size_wants;
+use crate::cli::{InputFault, Sink, Source, read_all};
+use crate::handles::OutOfMemory;
+use crate::kit::thread::Join;
 
 /// Reads all of the input, does the task with it, and writes the result. A task has 1 to 64
 /// workers.
@@ -39,7 +39,7 @@ pub(crate) fn do_task<R, I: Source, O: Sink, E: Sink, P: Progress>(
     progress: &mut P,
 ) -> Status
 where
-    R: Threads + Sync,
+    R: Join + Sync,
     // requires { CanDo task }
     // ensures done { result ≡ Status.Done → HasDone (Gives task)
     //     (I.remaining input.old) (O.written output.old) (O.written output.new) }
@@ -87,7 +87,7 @@ fn product_of<R, I: Source, P: Progress>(
     progress: &mut P,
 ) -> Result<Product, Status>
 where
-    R: Threads + Sync,
+    R: Join + Sync,
     // requires { CanDo task }
     // ensures gives { IfOk result (λ product. IfSome (I.remaining input.old) (λ all.
     //     IsProductOf (Accepts (Gives task)) (Refuses (Fails task)) all product)) }
@@ -117,9 +117,9 @@ fn make<R, P: Progress>(
     task: Task,
     input: Vec<u8>,
     progress: &mut P,
-) -> Result<Product, Memory>
+) -> Result<Product, OutOfMemory>
 where
-    R: Threads + Sync,
+    R: Join + Sync,
     // requires { CanDo task }
     // ensures { IfOk result (IsProductOf (Gives task) (Fails task) input.items) }
 {
@@ -136,7 +136,7 @@ where
 
 // What is said of an input that is too long.
 #[inline]
-fn too_long() -> Result<Refusal, Memory>
+fn too_long() -> Result<Refusal, OutOfMemory>
     // ensures { IfOk result (λ refusal. refusal_of refusal
     //     ≡ record { line = size_line; wants = size_wants; found = [] }) }
 {

@@ -2,15 +2,15 @@
 
 use alloc::vec::Vec;
 use crate::kit::programs::string::String;
-use crate::proved::spawnrun_lib::bytes::{append, append_labelled, append_number, append_shown};
-use crate::proved::spawnrun_lib::show::Show;
-use crate::proved::ent_handle::{Birth, ComponentId, Handle, Memory};
-use crate::proved::ent_storage::Items;
-use crate::proved::ent_world::World;
+use crate::spawnrun_lib::bytes::{append, append_labelled, append_number, append_shown};
+use crate::spawnrun_lib::show::Show;
+use crate::handles::{Birth, ComponentId, Handle, OutOfMemory};
+use crate::components::Items;
+use crate::worlds::World;
 
 /// Appends a birth's system and ordinal, a dot before each.
 #[inline]
-fn append_within_frame(out: &mut Vec<u8>, birth: Birth) -> Result<(), Memory>
+fn append_within_frame(out: &mut Vec<u8>, birth: Birth) -> Result<(), OutOfMemory>
     // ensures ok { OnOk result (out.new.items ≡ out.old.items ++ within_frame_text birth) }
     // ensures kept { OnErr result (take (vec_len out.old) out.new.items ≡ out.old.items) }
     // ensures full { OnErr result (vec_capacity out.old
@@ -22,7 +22,7 @@ fn append_within_frame(out: &mut Vec<u8>, birth: Birth) -> Result<(), Memory>
 }
 
 #[inline]
-fn append_birth(out: &mut Vec<u8>, birth: Birth) -> Result<(), Memory>
+fn append_birth(out: &mut Vec<u8>, birth: Birth) -> Result<(), OutOfMemory>
     // ensures ok { OnOk result (out.new.items ≡ out.old.items ++ birth_text birth) }
     // ensures kept { OnErr result (take (vec_len out.old) out.new.items ≡ out.old.items) }
     // ensures full { OnErr result (vec_capacity out.old
@@ -35,7 +35,7 @@ fn append_birth(out: &mut Vec<u8>, birth: Birth) -> Result<(), Memory>
 
 /// Appends a space and the name of a component, if it has one.
 #[inline]
-fn append_name(out: &mut Vec<u8>, names: &[String], id: ComponentId) -> Result<(), Memory>
+fn append_name(out: &mut Vec<u8>, names: &[String], id: ComponentId) -> Result<(), OutOfMemory>
     // ensures ok { OnOk result (out.new.items
     //     ≡ out.old.items ++ codes " " ++ component_name (map string_bytes names.now) id) }
     // ensures kept { OnErr result (take (vec_len out.old) out.new.items ≡ out.old.items) }
@@ -51,7 +51,7 @@ fn append_name(out: &mut Vec<u8>, names: &[String], id: ComponentId) -> Result<(
 }
 
 #[inline]
-fn append_item(out: &mut Vec<u8>, names: &[String], item: (ComponentId, i64)) -> Result<(), Memory>
+fn append_item(out: &mut Vec<u8>, names: &[String], item: (ComponentId, i64)) -> Result<(), OutOfMemory>
     // ensures ok { OnOk result (out.new.items
     //     ≡ out.old.items ++ item_text (map string_bytes names.now) item) }
     // ensures kept { OnErr result (take (vec_len out.old) out.new.items ≡ out.old.items) }
@@ -64,7 +64,7 @@ fn append_item(out: &mut Vec<u8>, names: &[String], item: (ComponentId, i64)) ->
 }
 
 #[inline]
-fn append_items(out: &mut Vec<u8>, names: &[String], items: Items<'_>) -> Result<(), Memory>
+fn append_items(out: &mut Vec<u8>, names: &[String], items: Items<'_>) -> Result<(), OutOfMemory>
     // ensures ok { OnOk result (out.new.items
     //     ≡ out.old.items ++ flat_map (item_text (map string_bytes names.now)) items.entry) }
     // ensures kept { OnErr result (take (vec_len out.old) out.new.items ≡ out.old.items) }
@@ -85,7 +85,7 @@ fn append_line(
     show: Show,
     named: (Handle, Birth),
     items: Items<'_>,
-) -> Result<(), Memory>
+) -> Result<(), OutOfMemory>
     // ensures ok { OnOk result (out.new.items
     //     ≡ out.old.items ++ entity_line (map string_bytes names.now) show named.0 named.1
     //     items.entry) }
@@ -109,7 +109,7 @@ fn append_entity(
     show: Show,
     world: &World,
     handle: Handle,
-) -> Result<(), Memory>
+) -> Result<(), OutOfMemory>
     // ensures ok { OnOk result (out.new.items
     //     ≡ out.old.items ++ line_in (map string_bytes names.now) show world.now.entities handle) }
     // ensures kept { OnErr result (take (vec_len out.old) out.new.items ≡ out.old.items) }
@@ -133,7 +133,7 @@ fn append_entities(
     show: Show,
     world: &World,
     handles: &[Handle],
-) -> Result<(), Memory>
+) -> Result<(), OutOfMemory>
     // ensures ok { OnOk result (out.new.items ≡ out.old.items
     //     ++ flat_map (line_in (map string_bytes names.now) show world.now.entities) handles.now) }
     // ensures kept { OnErr result (take (vec_len out.old) out.new.items ≡ out.old.items) }
@@ -148,7 +148,7 @@ fn append_entities(
 }
 
 #[inline]
-fn append_alive(out: &mut Vec<u8>, count: usize) -> Result<(), Memory>
+fn append_alive(out: &mut Vec<u8>, count: usize) -> Result<(), OutOfMemory>
     // ensures ok { OnOk result (out.new.items ≡ out.old.items ++ alive_line count) }
     // ensures kept { OnErr result (take (vec_len out.old) out.new.items ≡ out.old.items) }
     // ensures full { OnErr result (vec_capacity out.old
@@ -165,7 +165,7 @@ fn append_world(
     world: &World,
     names: &[String],
     show: Show,
-) -> Result<(), Memory>
+) -> Result<(), OutOfMemory>
     // ensures ok { OnOk result ((text : List ℕ)
     //     × IsWorldText (map string_bytes names.now) show world.now.entities text
     //     × (out.new.items ≡ out.old.items ++ text)) }
@@ -224,7 +224,7 @@ pub fn write_world(
     names: &[String],
     show: Show,
     out: &mut Vec<u8>,
-) -> Result<(), Memory> {
+) -> Result<(), OutOfMemory> {
     let len = out.len();
     let written = append_world(out, world, names, show);
     if written.is_err() {

@@ -2,9 +2,9 @@
 
 //! Lines of a trace, read and compared one after the other.
 
-use crate::proved::tracecheck::verdict::{Refusal, Verdict};
-use crate::proved::ent_alloc::Entities;
-use crate::proved::ent_replay::trace::{
+use crate::tracecheck::verdict::{Refusal, Verdict};
+use crate::allocator::Entities;
+use crate::traces::trace::{
     AllocReply, Call, CheckError, Comparer, ReadFault, ReserveReply, read_line,
 };
 use crate::kit::alloc::AllocError;

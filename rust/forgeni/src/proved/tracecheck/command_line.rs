@@ -5,8 +5,8 @@
 use crate::kit::programs::clap::error::ErrorKind;
 use crate::kit::programs::clap::parser::ValueSource;
 use crate::kit::programs::clap::{Arg, ArgAction, ArgMatches, Command};
-use crate::proved::cli::{LineFault, generations_option, limits_of, slots_option};
-use crate::proved::ent_alloc::Limits;
+use crate::cli::{LineFault, generations_option, limits_of, slots_option};
+use crate::allocator::Limits;
 use crate::kit::alloc::AllocError;
 use crate::kit::programs::string::AsStr;
 

@@ -5,9 +5,9 @@
 use alloc::vec::Vec;
 use crate::kit::programs::format;
 use crate::kit::programs::string::String;
-use crate::proved::cli::{InputFault, Source, read_all};
-use crate::proved::ent_alloc::{Entities, ImageFault};
-use crate::proved::ent_handle::Memory;
+use crate::cli::{InputFault, Source, read_all};
+use crate::allocator::{Entities, ImageFault};
+use crate::handles::OutOfMemory;
 use crate::kit::alloc::AllocError;
 
 /// Why there is no allocator to begin with.
@@ -92,7 +92,7 @@ pub fn read_entities<M: Source>(image: &mut M) -> Result<Entities, Unread> {
 ///
 /// </details>
 #[inline]
-pub fn refused_image_text(fault: ImageFault) -> Result<Vec<u8>, Memory> {
+pub fn refused_image_text(fault: ImageFault) -> Result<Vec<u8>, OutOfMemory> {
     let fault = fault_text(fault)?;
     let text = format!("refused image {fault}\n")?;
     Ok(text.into_bytes())

@@ -4,8 +4,8 @@
 
 use alloc::vec::Vec;
 use crate::kit::vec::FallibleVec;
-use crate::proved::tracecheck::checking::{Checking, End};
-use crate::proved::ent_handle::split_once;
+use crate::tracecheck::checking::{Checking, End};
+use crate::handles::split_once;
 
 // A line without a carriage return at its end, which is part of the line's end.
 #[inline]

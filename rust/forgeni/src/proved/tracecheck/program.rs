@@ -6,10 +6,10 @@
 use crate::kit::programs::format;
 use crate::kit::programs::rt::AllocGlobal;
 use crate::kit::programs::string::String;
-use crate::proved::tracecheck::command_line::{ask_for_a_check, command_line, image_name};
-use crate::proved::tracecheck::running::check_as;
-use crate::proved::tracecheck::status::Status;
-use crate::proved::cli::{
+use crate::tracecheck::command_line::{ask_for_a_check, command_line, image_name};
+use crate::tracecheck::running::check_as;
+use crate::tracecheck::status::Status;
+use crate::cli::{
     Counted, LineFault, Muted, Noting, Sink, Source, file_name, finish, open_named, refuse_file,
     refuse_line, refuse_words, words_after_name,
 };

@@ -2,7 +2,7 @@
 
 //! What is written to a terminal while a trace is read.
 
-use crate::proved::cli::{Failed, Sink};
+use crate::cli::{Failed, Sink};
 use crate::kit::itoa::Buffer;
 
 // The lines between two reports.

@@ -3,15 +3,15 @@
 //! The check of a trace: bytes in, a verdict out.
 
 use alloc::vec::Vec;
-use crate::proved::tracecheck::checking::{Checking, End};
-use crate::proved::tracecheck::command_line::Beginning;
-use crate::proved::tracecheck::image::{Unread, read_entities, refused_image_text};
-use crate::proved::tracecheck::lines::{feed, finish};
-use crate::proved::tracecheck::progress::tell;
-use crate::proved::tracecheck::status::Status;
-use crate::proved::tracecheck::verdict::Verdict;
-use crate::proved::cli::{Failed, Sink, Source};
-use crate::proved::ent_alloc::{Entities, ImageFault};
+use crate::tracecheck::checking::{Checking, End};
+use crate::tracecheck::command_line::Beginning;
+use crate::tracecheck::image::{Unread, read_entities, refused_image_text};
+use crate::tracecheck::lines::{feed, finish};
+use crate::tracecheck::progress::tell;
+use crate::tracecheck::status::Status;
+use crate::tracecheck::verdict::Verdict;
+use crate::cli::{Failed, Sink, Source};
+use crate::allocator::{Entities, ImageFault};
 
 // How many bytes one call of the source may bring.
 const PIECE: usize = 16_384;

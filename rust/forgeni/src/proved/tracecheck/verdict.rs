@@ -5,8 +5,8 @@
 use alloc::vec::Vec;
 use crate::kit::programs::format;
 use crate::kit::vec::FallibleVec;
-use crate::proved::ent_handle::{Handle, Memory};
-use crate::proved::ent_replay::trace::{Cause, Difference, append_handles, write_difference};
+use crate::handles::{Handle, OutOfMemory};
+use crate::traces::trace::{Cause, Difference, append_handles, write_difference};
 
 // A difference shows at most this many handles of a pool.
 const SHOWN: usize = 8;
@@ -78,7 +78,7 @@ impl Verdict {
     ///
     /// </details>
     #[inline]
-    pub fn text(&self) -> Result<Vec<u8>, Memory> {
+    pub fn text(&self) -> Result<Vec<u8>, OutOfMemory> {
         match self {
             Verdict::Agrees { lines, given } => agrees_text(*lines, *given),
             Verdict::Differs(difference) => difference_lines(difference),
@@ -88,7 +88,7 @@ impl Verdict {
 }
 
 #[inline]
-fn agrees_text(lines: u64, given: u64) -> Result<Vec<u8>, Memory>
+fn agrees_text(lines: u64, given: u64) -> Result<Vec<u8>, OutOfMemory>
     // ensures { IfOk result (λ text. text.items ≡ verdict_text (Verdict.Agrees lines given)) }
 {
     let text = format!("agrees: {lines} lines, {given} handles given\n")?;
@@ -96,7 +96,7 @@ fn agrees_text(lines: u64, given: u64) -> Result<Vec<u8>, Memory>
 }
 
 #[inline]
-fn refused_text(line: u64, refusal: Refusal) -> Result<Vec<u8>, Memory>
+fn refused_text(line: u64, refusal: Refusal) -> Result<Vec<u8>, OutOfMemory>
     // ensures { IfOk result (λ text. text.items ≡ verdict_text (Verdict.Refused line refusal)) }
 {
     let word = refusal.text();
@@ -105,7 +105,7 @@ fn refused_text(line: u64, refusal: Refusal) -> Result<Vec<u8>, Memory>
 }
 
 #[inline]
-fn difference_lines(difference: &Difference) -> Result<Vec<u8>, Memory>
+fn difference_lines(difference: &Difference) -> Result<Vec<u8>, OutOfMemory>
     // ensures { IfOk result (λ text. text.items ≡ difference_lines difference.now) }
 {
     let mut text = Vec::new();
@@ -125,7 +125,7 @@ fn append_state(
     out: &mut Vec<u8>,
     front: &[Handle],
     cursor: i64,
-) -> Result<(), Memory>
+) -> Result<(), OutOfMemory>
     // ensures { OnOk result (out.new.items ≡ out.old.items ++ state_text front.now cursor) }
 {
     append_pool(out, front)?;
@@ -134,7 +134,7 @@ fn append_state(
 }
 
 #[inline]
-fn append_pool(out: &mut Vec<u8>, front: &[Handle]) -> Result<(), Memory>
+fn append_pool(out: &mut Vec<u8>, front: &[Handle]) -> Result<(), OutOfMemory>
     // ensures { OnOk result (out.new.items
     //     ≡ out.old.items ++ codes "pool" ++ spaced (pool_words front.now)) }
 {

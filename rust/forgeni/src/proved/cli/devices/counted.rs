@@ -1,6 +1,6 @@
 // Made of crates/cli/src/devices/counted.rt by rust/erase. It isn't edited by hand.
 
-use crate::proved::cli::devices::device::{Failed, Sink, Source};
+use crate::cli::devices::device::{Failed, Sink, Source};
 use std::io;
 use std::io::{ErrorKind, Read, Write};
 

@@ -4,7 +4,7 @@
 
 use alloc::vec::Vec;
 use crate::kit::vec::FallibleVec;
-use crate::proved::cli::devices::device::{Failed, Source};
+use crate::cli::devices::device::{Failed, Source};
 use crate::kit::alloc::AllocError;
 
 // How many bytes one call of the source may bring.

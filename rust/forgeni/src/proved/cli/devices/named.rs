@@ -2,7 +2,7 @@
 
 //! A file that is read in place of standard input.
 
-use crate::proved::cli::devices::device::{Failed, Sink};
+use crate::cli::devices::device::{Failed, Sink};
 use crate::kit::programs::fs::File;
 use std::io::ErrorKind;
 use crate::kit::programs::rt::Files;

@@ -2,8 +2,8 @@
 
 //! The dealer reserves all blocks, and every other reserver comes after it.
 
-use crate::proved::ent_blocks::part::Part;
-use crate::proved::ent_shared::{Reserver, Shared};
+use crate::in_blocks::part::Part;
+use crate::reserving::{SharedReserver, SharedSource};
 
 /// How many handles the blocks have in all.
 #[inline]
@@ -21,7 +21,7 @@ pub(super) fn dealt(parts: &[Part]) -> u32
 /// Reserves that many handles, as the first reservation of the phase if no other reserver has
 /// begun.
 #[inline]
-pub(super) fn deal(shared: &Shared, dealer: &mut Reserver, count: u32)
+pub(super) fn deal(shared: &SharedSource, dealer: &mut SharedReserver, count: u32)
     // requires { IsFresh shared.now dealer.old }
     // ensures of { IsReserverOf shared.now dealer.new }
     // ensures dealt { IsDealer count dealer.new.own }

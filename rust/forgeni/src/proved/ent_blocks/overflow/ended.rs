@@ -1,9 +1,9 @@
 // Made of crates/ent_blocks/src/overflow/ended.rt by rust/erase. It isn't edited by hand.
 
 use alloc::vec::Vec;
-use crate::proved::ent_blocks::closing::take_used;
-use crate::proved::ent_blocks::part::Part;
-use crate::proved::ent_alloc::Entities;
+use crate::in_blocks::closing::take_used;
+use crate::in_blocks::part::Part;
+use crate::allocator::Entities;
 
 /// A phase that has ended: the allocator, in which what was used is not yet reserved.
 pub struct Ended {
@@ -56,7 +56,7 @@ impl Ended {
     /// The allocator, in which what was used is reserved: a flush brings it to life. What is left of
     /// the blocks can be given again, and comes before all that nobody got.
     ///
-    /// It takes time and memory as [`Blocks::close`](crate::proved::ent_blocks::Blocks::close) does.
+    /// It takes time and memory as [`Blocks::close`](crate::in_blocks::Blocks::close) does.
     ///
     /// # Errors
     ///

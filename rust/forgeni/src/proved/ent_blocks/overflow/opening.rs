@@ -4,14 +4,14 @@
 
 use alloc::vec::Vec;
 use crate::kit::vec::FallibleVec;
-use crate::proved::ent_blocks::opening::parts_of;
-use crate::proved::ent_blocks::overflow::dealing::{deal, dealt};
-use crate::proved::ent_blocks::overflow::phase::Overflow;
-use crate::proved::ent_blocks::overflow::reserver::OverflowReserver;
-use crate::proved::ent_blocks::part::Part;
-use crate::proved::ent_alloc::Entities;
-use crate::proved::ent_handle::Memory;
-use crate::proved::ent_shared::{Reserver, Shared, share};
+use crate::in_blocks::opening::parts_of;
+use crate::in_blocks::overflow::dealing::{deal, dealt};
+use crate::in_blocks::overflow::phase::Overflow;
+use crate::in_blocks::overflow::reserver::OverflowReserver;
+use crate::in_blocks::part::Part;
+use crate::allocator::Entities;
+use crate::handles::OutOfMemory;
+use crate::reserving::{SharedReserver, SharedSource, share};
 
 /// Deals the pool's front in blocks of these sizes, one after the other, and shares the rest of it:
 /// at most 1,023 blocks. A block is smaller where the pool ends.
@@ -21,13 +21,13 @@ use crate::proved::ent_shared::{Reserver, Shared, share};
 ///
 /// # Errors
 ///
-/// [`Memory`], with the allocator as it was, if an allocation fails, and for no other reason. Some
+/// [`OutOfMemory`], with the allocator as it was, if an allocation fails, and for no other reason. Some
 /// memory is for the cursor, so it may run out without blocks too.
 #[inline]
 pub(crate) fn open_with_overflow(
     entities: Entities,
     sizes: &[u32],
-) -> Result<(Overflow, Vec<OverflowReserver>), (Entities, Memory)>
+) -> Result<(Overflow, Vec<OverflowReserver>), (Entities, OutOfMemory)>
     // requires flushed { entities.allocator.asked ≡ 0 }
     // requires few { length sizes.now < 1024 }
     // ensures start { IfOk result (λ made. made.0.shared.start ≡ entities.allocator) }
@@ -43,16 +43,16 @@ pub(crate) fn open_with_overflow(
 {
     let count = sizes.len();
     let Ok(parts) = parts_of(&entities, sizes) else {
-        return Err((entities, Memory));
+        return Err((entities, OutOfMemory));
     };
     let Ok(mut callers) = Vec::with_capacity_fallibly(count) else {
-        return Err((entities, Memory));
+        return Err((entities, OutOfMemory));
     };
     let Ok(ends) = Vec::with_capacity_fallibly(count + 1) else {
-        return Err((entities, Memory));
+        return Err((entities, OutOfMemory));
     };
     let Ok(returned) = Vec::with_capacity_fallibly(count + 1) else {
-        return Err((entities, Memory));
+        return Err((entities, OutOfMemory));
     };
     let (shared, mut reservers) = share(entities, count + 1)?;
     let Some(mut dealer) = reservers.pop() else {
@@ -69,10 +69,10 @@ pub(crate) fn open_with_overflow(
 /// Gives each block one of the reservers, which comes after the dealer from then on.
 #[inline]
 fn hand_out(
-    shared: &Shared,
-    dealer: &mut Reserver,
+    shared: &SharedSource,
+    dealer: &mut SharedReserver,
     parts: &[Part],
-    reservers: &mut Vec<Reserver>,
+    reservers: &mut Vec<SharedReserver>,
     callers: &mut Vec<OverflowReserver>,
 )
     // requires phase { IsPhase shared.now dealer.old parts.now }

@@ -2,39 +2,39 @@
 
 use alloc::vec::Vec;
 use crate::kit::vec::FallibleVec;
-use crate::proved::ent_blocks::accounting::account;
-use crate::proved::ent_blocks::overflow::dealing::dealt;
-use crate::proved::ent_blocks::overflow::ended::Ended;
-use crate::proved::ent_blocks::overflow::reserver::OverflowReserver;
-use crate::proved::ent_blocks::part::Part;
-use crate::proved::ent_blocks::taking::{take_many, take_one};
-use crate::proved::ent_alloc::{Entities, Refused, Reserved, cancel_requests};
-use crate::proved::ent_handle::Handle;
-use crate::proved::ent_shared::{Reserver, Shared};
+use crate::in_blocks::accounting::account;
+use crate::in_blocks::overflow::dealing::dealt;
+use crate::in_blocks::overflow::ended::Ended;
+use crate::in_blocks::overflow::reserver::OverflowReserver;
+use crate::in_blocks::part::Part;
+use crate::in_blocks::taking::{take_many, take_one};
+use crate::allocator::{Entities, Refused, Reserved, cancel_requests};
+use crate::handles::Handle;
+use crate::reserving::{SharedReserver, SharedSource};
 
 /// An allocator whose pool's front is dealt in blocks, one to each [`OverflowReserver`], and whose
-/// rest all of them share. [`open_with_overflow`](crate::proved::ent_blocks::open_with_overflow) makes it.
+/// rest all of them share. [`open_with_overflow`](crate::in_blocks::open_with_overflow) makes it.
 ///
 /// As long as no caller goes past its block, which handles it gets depends on the allocator, on the
 /// sizes, and on what it has reserved before: on no other caller, and on no thread. What it gets
 /// past its block depends on when the others go past theirs.
 pub struct Overflow {
-    shared: Shared,
-    dealer: Reserver,
+    shared: SharedSource,
+    dealer: SharedReserver,
     parts: Vec<Part>,
     // Room for what comes back at the close.
     ends: Vec<Part>,
-    reservers: Vec<Reserver>,
+    reservers: Vec<SharedReserver>,
 }
 
 impl Overflow {
     #[inline]
     pub(super) fn new(
-        shared: Shared,
-        dealer: Reserver,
+        shared: SharedSource,
+        dealer: SharedReserver,
         parts: Vec<Part>,
         ends: Vec<Part>,
-        reservers: Vec<Reserver>,
+        reservers: Vec<SharedReserver>,
     ) -> Self
         // requires phase { IsPhase shared dealer parts.items }
         // requires no_ends { ends.items ≡ [] }
@@ -253,7 +253,7 @@ impl Overflow {
 
 /// Appends what the callers went past their blocks with. There is room for it.
 #[inline]
-fn take_past(callers: Vec<OverflowReserver>, reservers: &mut Vec<Reserver>)
+fn take_past(callers: Vec<OverflowReserver>, reservers: &mut Vec<SharedReserver>)
     // requires { vec_len reservers.old + length callers.items ≤ vec_capacity reservers.old }
     // ensures { reservers.new.items ≡ reservers.old.items ++ past_of callers.items }
 {

@@ -1,14 +1,14 @@
 // Made of crates/ent_blocks/src/overflow/reserver.rt by rust/erase. It isn't edited by hand.
 
-use crate::proved::ent_blocks::held::Held;
-use crate::proved::ent_blocks::part::Part;
-use crate::proved::ent_shared::Reserver;
+use crate::in_blocks::held::Held;
+use crate::in_blocks::part::Part;
+use crate::reserving::SharedReserver;
 
 /// The right of one caller to the handles of its block, and past it to those that all callers
 /// share.
 pub struct OverflowReserver {
     pub(super) part: Part,
-    pub(super) past: Reserver,
+    pub(super) past: SharedReserver,
 }
 
 impl Held for OverflowReserver {

@@ -1,9 +1,9 @@
 // Made of crates/ent_blocks/src/overflow/source.rt by rust/erase. It isn't edited by hand.
 
-use crate::proved::ent_blocks::overflow::phase::Overflow;
-use crate::proved::ent_blocks::overflow::reserver::OverflowReserver;
-use crate::proved::ent_alloc::{Refused, Reserved, Source};
-use crate::proved::ent_handle::Handle;
+use crate::in_blocks::overflow::phase::Overflow;
+use crate::in_blocks::overflow::reserver::OverflowReserver;
+use crate::allocator::{Refused, Reserved, Source};
+use crate::handles::Handle;
 
 /// Each reservation is of the next handles of the reserver's own block, as long as that lasts, and
 /// past it an [atomic step](Overflow::reserve) of the cursor that all share.

@@ -4,12 +4,12 @@
 
 use alloc::vec::Vec;
 use crate::kit::vec::FallibleVec;
-use crate::proved::ent_replay::handle_list::HandleList;
-use crate::proved::ent_replay::trace::read_fault::{Cause, ReadFault};
-use crate::proved::ent_replay::trace::reply::{AllocReply, FlushReply, FreeReply, ReserveReply};
-use crate::proved::ent_replay::trace::words::{Few, few_words, first_word};
-use crate::proved::ent_alloc::State;
-use crate::proved::ent_handle::{Handle, read_decimal, split_once};
+use crate::traces::handle_list::HandleList;
+use crate::traces::trace::read_fault::{Cause, ReadFault};
+use crate::traces::trace::reply::{AllocReply, FlushReply, FreeReply, ReserveReply};
+use crate::traces::trace::words::{Few, few_words, first_word};
+use crate::allocator::State;
+use crate::handles::{Handle, read_decimal, split_once};
 
 #[inline]
 fn read_number(word: &[u8]) -> Result<u32, Cause>

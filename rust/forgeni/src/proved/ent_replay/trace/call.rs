@@ -2,10 +2,10 @@
 
 //! A call of an allocator, and what was answered.
 
-use crate::proved::ent_replay::trace::reply::{AllocReply, FlushReply, FreeReply};
-use crate::proved::ent_replay::trace::reservation::Reservation;
-use crate::proved::ent_alloc::State;
-use crate::proved::ent_handle::{Handle, Memory};
+use crate::traces::trace::reply::{AllocReply, FlushReply, FreeReply};
+use crate::traces::trace::reservation::Reservation;
+use crate::allocator::State;
+use crate::handles::{Handle, OutOfMemory};
 
 /// A call of an allocator, and its answer. An answer that isn't known is `None`: the call is made,
 /// and nothing is compared.
@@ -50,7 +50,7 @@ impl Call {
 
     /// A copy.
     #[inline]
-    pub(super) fn try_copy(&self) -> Result<Self, Memory>
+    pub(super) fn try_copy(&self) -> Result<Self, OutOfMemory>
         // ensures { IfOk result (λ copy. copy ≡ self.now) }
     {
         Ok(match self {

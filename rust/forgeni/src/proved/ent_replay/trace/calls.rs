@@ -3,12 +3,12 @@
 //! The calls that nothing overlaps: each is made, and says what the allocator answered.
 
 use alloc::vec::Vec;
-use crate::proved::ent_replay::handle_list::HandleList;
-use crate::proved::ent_replay::trace::call::Call;
-use crate::proved::ent_replay::trace::fitting::{fits_born, fits_freed};
-use crate::proved::ent_replay::trace::reply::{AllocReply, FlushReply, FreeReply};
-use crate::proved::ent_alloc::{AllocFault, Entities, FreeFault};
-use crate::proved::ent_handle::{Handle, Memory};
+use crate::traces::handle_list::HandleList;
+use crate::traces::trace::call::Call;
+use crate::traces::trace::fitting::{fits_born, fits_freed};
+use crate::traces::trace::reply::{AllocReply, FlushReply, FreeReply};
+use crate::allocator::{AllocError, Entities, FreeError};
+use crate::handles::{Handle, OutOfMemory};
 
 /// Makes the call of a line that is no reservation. If what it says was answered isn't what the
 /// allocator answered, returns the line as it should be.
@@ -16,7 +16,7 @@ use crate::proved::ent_handle::{Handle, Memory};
 pub(super) fn answered(
     entities: &mut Entities,
     line: &Call,
-) -> Result<Option<Call>, Memory>
+) -> Result<Option<Call>, OutOfMemory>
     // requires { IsAlone line.now }
     // ensures fits { IfOk result (λ expected. IfNone expected (Fits entities.old.allocator line.now)) }
     // ensures differs { IfOk result (λ expected. IfSome expected (λ other.
@@ -76,30 +76,30 @@ pub(super) fn answered(
 }
 
 #[inline]
-fn allocated(entities: &mut Entities) -> Result<AllocReply, Memory>
+fn allocated(entities: &mut Entities) -> Result<AllocReply, OutOfMemory>
     // ensures reply { IfOk result (λ reply. reply ≡ alloc_reply entities.old.allocator) }
     // ensures after { OnOk result (entities.new.allocator
     //     ≡ after_line entities.old.allocator (Call.Alloc None)) }
 {
     match entities.alloc() {
         Ok(handle) => Ok(AllocReply::Handle(handle)),
-        Err(AllocFault::NeedsFlush) => Ok(AllocReply::NeedsFlush),
-        Err(AllocFault::Space) => Ok(AllocReply::Space),
-        Err(AllocFault::Memory) => Err(Memory),
+        Err(AllocError::NeedsFlush) => Ok(AllocReply::NeedsFlush),
+        Err(AllocError::Space) => Ok(AllocReply::Space),
+        Err(AllocError::Memory) => Err(OutOfMemory),
     }
 }
 
 #[inline]
-fn freed(entities: &mut Entities, handle: Handle) -> Result<FreeReply, Memory>
+fn freed(entities: &mut Entities, handle: Handle) -> Result<FreeReply, OutOfMemory>
     // ensures reply { IfOk result (λ reply. reply ≡ free_reply entities.old.allocator handle) }
     // ensures after { OnOk result (entities.new.allocator
     //     ≡ after_line entities.old.allocator (Call.Free handle None)) }
 {
     match entities.free(handle) {
         Ok(freed) => Ok(freed_reply(freed.next)),
-        Err(FreeFault::NeedsFlush) => Ok(FreeReply::NeedsFlush),
-        Err(FreeFault::NotAlive) => Ok(FreeReply::NotAlive),
-        Err(FreeFault::Memory) => Err(Memory),
+        Err(FreeError::NeedsFlush) => Ok(FreeReply::NeedsFlush),
+        Err(FreeError::NotAlive) => Ok(FreeReply::NotAlive),
+        Err(FreeError::Memory) => Err(OutOfMemory),
     }
 }
 
@@ -114,7 +114,7 @@ fn freed_reply(next: Option<Handle>) -> FreeReply
 }
 
 #[inline]
-fn flushed(entities: &mut Entities) -> Result<HandleList, Memory>
+fn flushed(entities: &mut Entities) -> Result<HandleList, OutOfMemory>
     // ensures reply { IfOk result (λ handles. handles ≡ born entities.old.allocator) }
     // ensures after { OnOk result (entities.new.allocator ≡ after_flush entities.old.allocator) }
 {

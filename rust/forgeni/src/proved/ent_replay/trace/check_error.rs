@@ -2,11 +2,11 @@
 
 //! Why a checker stops.
 
-use crate::proved::ent_replay::trace::difference::Difference;
-use crate::proved::ent_handle::Memory;
+use crate::traces::trace::difference::Difference;
+use crate::handles::OutOfMemory;
 use crate::kit::alloc::{AllocError, AllocFailed};
 
-/// Why a [`Checker`](crate::proved::ent_replay::trace::Checker) takes no more calls.
+/// Why a [`Checker`](crate::traces::trace::Checker) takes no more calls.
 ///
 /// ```
 /// use forgeni::trace::{CheckError, Checker};
@@ -71,7 +71,7 @@ impl CheckError {
         match self {
             CheckError::Differs(difference) => match difference.try_copy() {
                 Ok(copy) => CheckError::Differs(copy),
-                Err(Memory) => CheckError::Memory,
+                Err(OutOfMemory) => CheckError::Memory,
             },
             CheckError::TooMany => CheckError::TooMany,
             CheckError::Memory => CheckError::Memory,
@@ -79,9 +79,9 @@ impl CheckError {
     }
 }
 
-impl From<Memory> for CheckError {
+impl From<OutOfMemory> for CheckError {
     #[inline]
-    fn from(_refused: Memory) -> Self {
+    fn from(_refused: OutOfMemory) -> Self {
         CheckError::Memory
     }
 }

@@ -3,14 +3,14 @@
 //! A checker that is fed call by call, and keeps what it found.
 
 use alloc::vec::Vec;
-use crate::proved::ent_replay::trace::call::Call;
-use crate::proved::ent_replay::trace::check_error::CheckError;
-use crate::proved::ent_replay::trace::comparer::Comparer;
-use crate::proved::ent_replay::trace::log::Log;
-use crate::proved::ent_replay::trace::reply::{AllocReply, FlushReply, FreeReply, ReserveReply};
-use crate::proved::ent_replay::trace::reservation::Reservation;
-use crate::proved::ent_alloc::{Entities, Limits, State};
-use crate::proved::ent_handle::Handle;
+use crate::traces::trace::call::Call;
+use crate::traces::trace::check_error::CheckError;
+use crate::traces::trace::comparer::Comparer;
+use crate::traces::trace::log::Log;
+use crate::traces::trace::reply::{AllocReply, FlushReply, FreeReply, ReserveReply};
+use crate::traces::trace::reservation::Reservation;
+use crate::allocator::{Entities, Limits, State};
+use crate::handles::Handle;
 use core::mem;
 
 /// Takes the calls of an allocator one after the other, and compares each answer with the proved

@@ -4,17 +4,17 @@
 
 use alloc::vec::Vec;
 use crate::kit::vec::FallibleVec;
-use crate::proved::ent_replay::by_caller::ByCaller;
-use crate::proved::ent_replay::trace::call::Call;
-use crate::proved::ent_replay::trace::calls::answered;
-use crate::proved::ent_replay::trace::check_error::CheckError;
-use crate::proved::ent_replay::trace::difference::Difference;
-use crate::proved::ent_replay::trace::front::front_at;
-use crate::proved::ent_replay::trace::key::own_key;
-use crate::proved::ent_replay::trace::lineup::{Lineup, make_all};
-use crate::proved::ent_replay::trace::placed::Placed;
-use crate::proved::ent_replay::trace::reservation::Reservation;
-use crate::proved::ent_alloc::{Entities, Limits};
+use crate::traces::by_caller::ByCaller;
+use crate::traces::trace::call::Call;
+use crate::traces::trace::calls::answered;
+use crate::traces::trace::check_error::CheckError;
+use crate::traces::trace::difference::Difference;
+use crate::traces::trace::front::front_at;
+use crate::traces::trace::key::own_key;
+use crate::traces::trace::lineup::{Lineup, make_all};
+use crate::traces::trace::placed::Placed;
+use crate::traces::trace::reservation::Reservation;
+use crate::allocator::{Entities, Limits};
 
 /// How many handles may be requested between two flushes.
 const MOST: u64 = 1 << 50;

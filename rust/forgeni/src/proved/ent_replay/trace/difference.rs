@@ -2,9 +2,9 @@
 
 //! Where a trace differs.
 
-use crate::proved::ent_replay::handle_list::HandleList;
-use crate::proved::ent_replay::trace::call::Call;
-use crate::proved::ent_handle::Memory;
+use crate::traces::handle_list::HandleList;
+use crate::traces::trace::call::Call;
+use crate::handles::OutOfMemory;
 
 /// The first call whose answer isn't the allocator's. No trace that begins like this agrees.
 ///
@@ -41,7 +41,7 @@ pub struct Difference {
 impl Difference {
     /// A copy.
     #[inline]
-    pub(super) fn try_copy(&self) -> Result<Self, Memory>
+    pub(super) fn try_copy(&self) -> Result<Self, OutOfMemory>
         // ensures { IfOk result (λ copy. copy ≡ self.now) }
     {
         Ok(Difference {

@@ -2,10 +2,10 @@
 
 //! Whether what a line says was answered is what the allocator answers.
 
-use crate::proved::ent_replay::handle_list::HandleList;
-use crate::proved::ent_replay::trace::reply::{FlushReply, FreeReply, ReserveReply};
-use crate::proved::ent_alloc::Space;
-use crate::proved::ent_handle::Handle;
+use crate::traces::handle_list::HandleList;
+use crate::traces::trace::reply::{FlushReply, FreeReply, ReserveReply};
+use crate::allocator::Space;
+use crate::handles::Handle;
 
 /// Whether the lists are the same.
 #[inline]

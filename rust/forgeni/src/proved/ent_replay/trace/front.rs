@@ -4,9 +4,9 @@
 
 use alloc::vec::Vec;
 use crate::kit::vec::FallibleVec;
-use crate::proved::ent_replay::handle_list::HandleList;
-use crate::proved::ent_alloc::Entities;
-use crate::proved::ent_handle::{Handle, Memory};
+use crate::traces::handle_list::HandleList;
+use crate::allocator::Entities;
+use crate::handles::{Handle, OutOfMemory};
 
 /// How many handles are shown.
 const SHOWN: usize = 8;
@@ -30,7 +30,7 @@ fn handle_at(entities: &Entities, position: i64) -> Option<Handle>
 pub(super) fn front_at(
     entities: &Entities,
     position: i64,
-) -> Result<HandleList, Memory>
+) -> Result<HandleList, OutOfMemory>
     // requires least { pos (top entities.now.allocator) ≤ℤ (position +ℤ pos (2 ^ 50)) }
     // requires passed { position ≤ℤ pos (top entities.now.allocator) }
     // ensures { IfOk result (λ front.

@@ -2,9 +2,9 @@
 
 //! The place of a reservation in its run, by its answer.
 
-use crate::proved::ent_replay::trace::reply::ReserveReply;
-use crate::proved::ent_alloc::Entities;
-use crate::proved::ent_handle::Handle;
+use crate::traces::trace::reply::ReserveReply;
+use crate::allocator::Entities;
+use crate::handles::Handle;
 
 /// The keys of refusals. A reservation that was served has a lower key: the place of a handle.
 const FIRST_REFUSED: u64 = 1 << 32;

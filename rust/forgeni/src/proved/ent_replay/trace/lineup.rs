@@ -5,18 +5,18 @@
 
 use alloc::vec::Vec;
 use crate::kit::vec::FallibleVec;
-use crate::proved::ent_replay::by_caller::ByCaller;
-use crate::proved::ent_replay::handle_list::HandleList;
-use crate::proved::ent_replay::trace::call::Call;
-use crate::proved::ent_replay::trace::difference::Difference;
-use crate::proved::ent_replay::trace::fitting::fits_reserved;
-use crate::proved::ent_replay::trace::front::front_at;
-use crate::proved::ent_replay::trace::placed::Placed;
-use crate::proved::ent_replay::trace::reply::ReserveReply;
-use crate::proved::ent_replay::trace::reservation::Reservation;
-use crate::proved::ent_replay::trace::suspect::suspect;
-use crate::proved::ent_alloc::{Entities, Reserved, Space, Span};
-use crate::proved::ent_handle::Memory;
+use crate::traces::by_caller::ByCaller;
+use crate::traces::handle_list::HandleList;
+use crate::traces::trace::call::Call;
+use crate::traces::trace::difference::Difference;
+use crate::traces::trace::fitting::fits_reserved;
+use crate::traces::trace::front::front_at;
+use crate::traces::trace::placed::Placed;
+use crate::traces::trace::reply::ReserveReply;
+use crate::traces::trace::reservation::Reservation;
+use crate::traces::trace::suspect::suspect;
+use crate::allocator::{Entities, Reserved, Space, Span};
+use crate::handles::OutOfMemory;
 
 /// The reservations of a run in an order in which they may have come.
 pub(super) struct Lineup {
@@ -46,7 +46,7 @@ impl Lineup {
 
     /// Places all that can be, until no caller's next reservation fits.
     #[inline]
-    pub(super) fn settle(self, entities: &Entities) -> Result<Self, Memory>
+    pub(super) fn settle(self, entities: &Entities) -> Result<Self, OutOfMemory>
         // requires { IsLineup entities.now.allocator self }
         // ensures lined { IfOk result (λ next. IsLineup entities.now.allocator next) }
         // ensures keeps { IfOk result (λ next. KeepsCallers (all_of self) (all_of next)) }
@@ -67,7 +67,7 @@ impl Lineup {
     /// Goes over those that are not placed, in their order, and places each one that fits and is the next
     /// one of its caller.
     #[inline]
-    fn pass(self, entities: &Entities) -> Result<Self, Memory>
+    fn pass(self, entities: &Entities) -> Result<Self, OutOfMemory>
         // requires { IsLineup entities.now.allocator self }
         // ensures lined { IfOk result (λ next. IsLineup entities.now.allocator next) }
         // ensures keeps { IfOk result (λ next. KeepsCallers (all_of self) (all_of next)) }
@@ -106,7 +106,7 @@ impl Lineup {
 
     /// The difference of a run that has reservations which can't be placed.
     #[inline]
-    pub(super) fn difference(self, entities: &Entities) -> Result<Difference, Memory>
+    pub(super) fn difference(self, entities: &Entities) -> Result<Difference, OutOfMemory>
         // requires lined { IsLineup entities.now.allocator self }
         // requires stuck { NoneFits (reached entities.now.allocator self) self.rest.items }
         // requires some { self.rest.items ≢ [] }
@@ -170,7 +170,7 @@ pub(super) fn make_all(entities: &mut Entities, run: &[Placed])
 
 /// Lists the handles of a reply.
 #[inline]
-fn listed(reserved: Reserved<'_>) -> Result<HandleList, Memory>
+fn listed(reserved: Reserved<'_>) -> Result<HandleList, OutOfMemory>
     // ensures { IfOk result (λ handles. handles ≡ reserved.entry) }
 {
     let mut handles = Vec::with_capacity_fallibly(reserved.len())?;
@@ -186,7 +186,7 @@ pub(super) fn reply_at(
     entities: &Entities,
     at: i64,
     n: u32,
-) -> Result<Result<HandleList, Space>, Memory>
+) -> Result<Result<HandleList, Space>, OutOfMemory>
     // requires least { pos (top entities.now.allocator) ≤ℤ (at +ℤ pos (2 ^ 50)) }
     // requires passed { at ≤ℤ pos (top entities.now.allocator) }
     // ensures { IfOk result (λ given. let here = entities.now.allocator in
@@ -208,7 +208,7 @@ pub(super) fn fits_at(
     entities: &Entities,
     at: i64,
     reservation: &Reservation,
-) -> Result<bool, Memory>
+) -> Result<bool, OutOfMemory>
     // requires least { pos (top entities.now.allocator) ≤ℤ (at +ℤ pos (2 ^ 50)) }
     // requires passed { at ≤ℤ pos (top entities.now.allocator) }
     // ensures { IfOk result (λ fits. let here = entities.now.allocator in

@@ -4,10 +4,10 @@
 
 use alloc::vec::Vec;
 use crate::kit::vec::FallibleVec;
-use crate::proved::ent_replay::trace::checker::Checker;
-use crate::proved::ent_replay::trace::reply::ReserveReply;
-use crate::proved::ent_replay::trace::reservation::Reservation;
-use crate::proved::ent_handle::Memory;
+use crate::traces::trace::checker::Checker;
+use crate::traces::trace::reply::ReserveReply;
+use crate::traces::trace::reservation::Reservation;
+use crate::handles::OutOfMemory;
 
 /// The reservations of one caller, in its order.
 ///
@@ -143,7 +143,7 @@ impl Log {
     ///
     /// </details>
     #[inline]
-    pub fn push<R: Into<ReserveReply>>(&mut self, requested: u32, reply: R) -> Result<(), Memory> {
+    pub fn push<R: Into<ReserveReply>>(&mut self, requested: u32, reply: R) -> Result<(), OutOfMemory> {
         self.reservations
             .push_fallibly(Reservation::new(self.caller, requested, reply))?;
         Ok(())

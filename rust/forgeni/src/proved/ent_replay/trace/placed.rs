@@ -1,6 +1,6 @@
 // Made of crates/ent_replay/src/trace/placed.rt by rust/erase. It isn't edited by hand.
 
-use crate::proved::ent_replay::trace::reservation::Reservation;
+use crate::traces::trace::reservation::Reservation;
 
 /// A reservation of the run, and the key that says where in the run it comes.
 pub(super) struct Placed {

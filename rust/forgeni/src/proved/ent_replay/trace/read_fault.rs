@@ -2,7 +2,7 @@
 
 //! Why a line of a trace isn't read.
 
-use crate::proved::ent_handle::Memory;
+use crate::handles::OutOfMemory;
 use crate::kit::alloc::AllocFailed;
 
 /// What is wrong with a line. The tests are made in the order of this list, and the first one that
@@ -72,9 +72,9 @@ impl From<Cause> for ReadFault {
     }
 }
 
-impl From<Memory> for ReadFault {
+impl From<OutOfMemory> for ReadFault {
     #[inline]
-    fn from(_refused: Memory) -> Self {
+    fn from(_refused: OutOfMemory) -> Self {
         ReadFault::Memory
     }
 }

@@ -2,14 +2,14 @@
 
 //! A line of a trace, read from its text.
 
-use crate::proved::ent_replay::trace::answers::{
+use crate::traces::trace::answers::{
     read_alloc, read_flush, read_free, read_len, read_reserved, read_state,
 };
-use crate::proved::ent_replay::trace::call::Call;
-use crate::proved::ent_replay::trace::read_fault::{Cause, ReadFault};
-use crate::proved::ent_replay::trace::reservation::Reservation;
-use crate::proved::ent_replay::trace::words::{before_comment, first_word, no_argument, one_argument, two_arguments};
-use crate::proved::ent_handle::{Handle, read_decimal};
+use crate::traces::trace::call::Call;
+use crate::traces::trace::read_fault::{Cause, ReadFault};
+use crate::traces::trace::reservation::Reservation;
+use crate::traces::trace::words::{before_comment, first_word, no_argument, one_argument, two_arguments};
+use crate::handles::{Handle, read_decimal};
 
 #[inline]
 fn read_number(word: &[u8]) -> Result<u32, Cause>

@@ -4,13 +4,13 @@
 
 use alloc::vec::Vec;
 use crate::kit::vec::FallibleVec;
-use crate::proved::ent_replay::trace::call::Call;
-use crate::proved::ent_replay::trace::check_error::CheckError;
-use crate::proved::ent_replay::trace::checker::Checker;
-use crate::proved::ent_replay::trace::log::Log;
-use crate::proved::ent_replay::trace::reply::{AllocReply, FlushReply, FreeReply};
-use crate::proved::ent_alloc::{Limits, State};
-use crate::proved::ent_handle::{Handle, Memory};
+use crate::traces::trace::call::Call;
+use crate::traces::trace::check_error::CheckError;
+use crate::traces::trace::checker::Checker;
+use crate::traces::trace::log::Log;
+use crate::traces::trace::reply::{AllocReply, FlushReply, FreeReply};
+use crate::allocator::{Limits, State};
+use crate::handles::{Handle, OutOfMemory};
 
 /// Records the calls of an allocator that threads share, and checks them as they come.
 ///
@@ -79,7 +79,7 @@ impl Recorder {
     ///
     /// </details>
     #[inline]
-    pub fn new(limits: Limits, callers: u32) -> Result<Self, Memory> {
+    pub fn new(limits: Limits, callers: u32) -> Result<Self, OutOfMemory> {
         let mut logs = Vec::with_capacity_fallibly(callers as usize)?;
         for caller in 0..callers {
             logs.push_fallibly(Log::new(caller))?;

@@ -3,8 +3,8 @@
 //! What an allocator answered.
 
 use alloc::vec::Vec;
-use crate::proved::ent_replay::handle_list::HandleList;
-use crate::proved::ent_handle::{Handle, Memory};
+use crate::traces::handle_list::HandleList;
+use crate::handles::{Handle, OutOfMemory};
 
 /// The answer to a call for a handle that is alive at once.
 ///
@@ -92,7 +92,7 @@ pub enum FlushReply {
 impl FlushReply {
     /// A copy.
     #[inline]
-    pub(super) fn try_copy(&self) -> Result<Self, Memory>
+    pub(super) fn try_copy(&self) -> Result<Self, OutOfMemory>
         // ensures { IfOk result (λ copy. copy ≡ self.now) }
     {
         Ok(match self {
@@ -133,7 +133,7 @@ pub enum ReserveReply {
 impl ReserveReply {
     /// A copy.
     #[inline]
-    pub(super) fn try_copy(&self) -> Result<Self, Memory>
+    pub(super) fn try_copy(&self) -> Result<Self, OutOfMemory>
         // ensures { IfOk result (λ copy. copy ≡ self.now) }
     {
         Ok(match self {

@@ -2,8 +2,8 @@
 
 //! A reservation of handles.
 
-use crate::proved::ent_replay::trace::reply::ReserveReply;
-use crate::proved::ent_handle::Memory;
+use crate::traces::trace::reply::ReserveReply;
+use crate::handles::OutOfMemory;
 
 /// One reservation of one caller.
 ///
@@ -19,7 +19,7 @@ use crate::proved::ent_handle::Memory;
 /// ```
 #[derive(Debug, Clone, PartialEq, Eq, Hash)]
 pub struct Reservation {
-    /// The number of its call, from 1. A [`Checker`](crate::proved::ent_replay::trace::Checker) numbers what it takes.
+    /// The number of its call, from 1. A [`Checker`](crate::traces::trace::Checker) numbers what it takes.
     pub number: u64,
     /// The caller. Reservations of one caller are in its order.
     pub caller: u32,
@@ -82,7 +82,7 @@ impl Reservation {
 
     /// A copy.
     #[inline]
-    pub(super) fn try_copy(&self) -> Result<Self, Memory>
+    pub(super) fn try_copy(&self) -> Result<Self, OutOfMemory>
         // ensures { IfOk result (λ copy. copy ≡ self.now) }
     {
         Ok(Reservation {

@@ -4,13 +4,13 @@
 
 use alloc::vec::Vec;
 use crate::kit::vec::FallibleVec;
-use crate::proved::ent_replay::by_caller::ByCaller;
-use crate::proved::ent_replay::trace::key::own_key;
-use crate::proved::ent_replay::trace::lineup::fits_at;
-use crate::proved::ent_replay::trace::placed::Placed;
-use crate::proved::ent_replay::trace::reply::ReserveReply;
-use crate::proved::ent_alloc::Entities;
-use crate::proved::ent_handle::Memory;
+use crate::traces::by_caller::ByCaller;
+use crate::traces::trace::key::own_key;
+use crate::traces::trace::lineup::fits_at;
+use crate::traces::trace::placed::Placed;
+use crate::traces::trace::reply::ReserveReply;
+use crate::allocator::Entities;
+use crate::handles::OutOfMemory;
 
 /// How many reservations are tried.
 const TRIES: u32 = 64;
@@ -32,7 +32,7 @@ pub(super) fn suspect(
     entities: &Entities,
     at: i64,
     rest: &[Placed],
-) -> Result<usize, Memory>
+) -> Result<usize, OutOfMemory>
     // requires { rest.now ≢ [] }
     // ensures { IfOk result (λ index. IsFirstAt rest.now index) }
 {
@@ -59,7 +59,7 @@ pub(super) fn suspect(
 
 /// The reservations in the order of the handles that they were given.
 #[inline]
-fn turns(entities: &Entities, rest: &[Placed]) -> Result<Vec<Turn>, Memory> {
+fn turns(entities: &Entities, rest: &[Placed]) -> Result<Vec<Turn>, OutOfMemory> {
     let mut order = Vec::with_capacity_fallibly(rest.len())?;
     for (index, one) in rest.iter().enumerate() {
         let reservation = &one.reservation;
@@ -79,7 +79,7 @@ fn others_fit(
     rest: &[Placed],
     order: &[Turn],
     named: usize,
-) -> Result<bool, Memory> {
+) -> Result<bool, OutOfMemory> {
     let mut last = ByCaller::new();
     let mut next = at;
     for turn in order {
@@ -103,7 +103,7 @@ fn others_fit(
 
 /// Whether the reservation fits at a position that an allocator counts.
 #[inline]
-fn fits_within(entities: &Entities, at: i64, one: &Placed) -> Result<bool, Memory> {
+fn fits_within(entities: &Entities, at: i64, one: &Placed) -> Result<bool, OutOfMemory> {
     let cursor = entities.cursor();
     let room = MOST - entities.asked() as i64;
     match at.checked_add(room) {

@@ -2,8 +2,8 @@
 
 //! The words of a line.
 
-use crate::proved::ent_replay::trace::read_fault::Cause;
-use crate::proved::ent_handle::split_once;
+use crate::traces::trace::read_fault::Cause;
+use crate::handles::split_once;
 
 /// What stands before a comment.
 #[inline]

@@ -4,16 +4,16 @@
 
 use alloc::vec::Vec;
 use crate::kit::vec::FallibleVec;
-use crate::proved::ent_replay::trace::call::Call;
-use crate::proved::ent_replay::trace::difference::Difference;
-use crate::proved::ent_replay::trace::reply::{AllocReply, FlushReply, FreeReply, ReserveReply};
-use crate::proved::ent_replay::trace::reservation::Reservation;
-use crate::proved::ent_alloc::State;
-use crate::proved::ent_handle::{Handle, Memory};
+use crate::traces::trace::call::Call;
+use crate::traces::trace::difference::Difference;
+use crate::traces::trace::reply::{AllocReply, FlushReply, FreeReply, ReserveReply};
+use crate::traces::trace::reservation::Reservation;
+use crate::allocator::State;
+use crate::handles::{Handle, OutOfMemory};
 use crate::kit::itoa::Buffer;
 
 #[inline]
-fn append(out: &mut Vec<u8>, text: &[u8]) -> Result<(), Memory>
+fn append(out: &mut Vec<u8>, text: &[u8]) -> Result<(), OutOfMemory>
     // ensures ok { OnOk result (out.new.items ≡ out.old.items ++ text.now) }
     // ensures err { OnErr result (out.new.items ≡ out.old.items) }
 {
@@ -21,7 +21,7 @@ fn append(out: &mut Vec<u8>, text: &[u8]) -> Result<(), Memory>
 }
 
 #[inline]
-fn append_word(out: &mut Vec<u8>, word: &[u8]) -> Result<(), Memory>
+fn append_word(out: &mut Vec<u8>, word: &[u8]) -> Result<(), OutOfMemory>
     // ensures { OnOk result (out.new.items ≡ out.old.items ++ spaced (word.now ∷ [])) }
 {
     append(out, b" ")?;
@@ -29,14 +29,14 @@ fn append_word(out: &mut Vec<u8>, word: &[u8]) -> Result<(), Memory>
 }
 
 #[inline]
-fn append_number(out: &mut Vec<u8>, number: u32) -> Result<(), Memory>
+fn append_number(out: &mut Vec<u8>, number: u32) -> Result<(), OutOfMemory>
     // ensures { OnOk result (out.new.items ≡ out.old.items ++ spaced (decimal number ∷ [])) }
 {
     append_word(out, Buffer::new().format(number).as_bytes())
 }
 
 #[inline]
-fn append_handle(out: &mut Vec<u8>, handle: Handle) -> Result<(), Memory>
+fn append_handle(out: &mut Vec<u8>, handle: Handle) -> Result<(), OutOfMemory>
     // ensures { OnOk result (out.new.items ≡ out.old.items ++ spaced (handle_text handle ∷ [])) }
 {
     append(out, b" ")?;
@@ -61,14 +61,14 @@ fn append_handle(out: &mut Vec<u8>, handle: Handle) -> Result<(), Memory>
 ///
 /// </details>
 #[inline]
-pub fn append_handles(out: &mut Vec<u8>, handles: &[Handle]) -> Result<(), Memory> {
+pub fn append_handles(out: &mut Vec<u8>, handles: &[Handle]) -> Result<(), OutOfMemory> {
     let mut text = Vec::new();
     put_handles(&mut text, handles)?;
     append(out, &text)
 }
 
 #[inline]
-fn put_handles(out: &mut Vec<u8>, handles: &[Handle]) -> Result<(), Memory>
+fn put_handles(out: &mut Vec<u8>, handles: &[Handle]) -> Result<(), OutOfMemory>
     // ensures ok { OnOk result (out.new.items
     //     ≡ out.old.items ++ spaced (map handle_text handles.now)) }
 {
@@ -79,7 +79,7 @@ fn put_handles(out: &mut Vec<u8>, handles: &[Handle]) -> Result<(), Memory>
 }
 
 #[inline]
-fn write_alloc(out: &mut Vec<u8>, reply: AllocReply) -> Result<(), Memory>
+fn write_alloc(out: &mut Vec<u8>, reply: AllocReply) -> Result<(), OutOfMemory>
     // ensures { OnOk result (out.new.items ≡ out.old.items ++ spaced (alloc_words reply)) }
 {
     match reply {
@@ -90,7 +90,7 @@ fn write_alloc(out: &mut Vec<u8>, reply: AllocReply) -> Result<(), Memory>
 }
 
 #[inline]
-fn write_free(out: &mut Vec<u8>, reply: FreeReply) -> Result<(), Memory>
+fn write_free(out: &mut Vec<u8>, reply: FreeReply) -> Result<(), OutOfMemory>
     // ensures { OnOk result (out.new.items ≡ out.old.items ++ spaced (free_words reply)) }
 {
     match reply {
@@ -106,7 +106,7 @@ fn write_free(out: &mut Vec<u8>, reply: FreeReply) -> Result<(), Memory>
 }
 
 #[inline]
-fn write_flush(out: &mut Vec<u8>, reply: &FlushReply) -> Result<(), Memory>
+fn write_flush(out: &mut Vec<u8>, reply: &FlushReply) -> Result<(), OutOfMemory>
     // ensures { OnOk result (out.new.items ≡ out.old.items ++ spaced (flush_words reply.now)) }
 {
     append(out, b" born")?;
@@ -121,7 +121,7 @@ fn write_flush(out: &mut Vec<u8>, reply: &FlushReply) -> Result<(), Memory>
 }
 
 #[inline]
-fn write_reserved(out: &mut Vec<u8>, reply: &ReserveReply) -> Result<(), Memory>
+fn write_reserved(out: &mut Vec<u8>, reply: &ReserveReply) -> Result<(), OutOfMemory>
     // ensures { OnOk result (out.new.items ≡ out.old.items ++ spaced (reserve_words reply.now)) }
 {
     match reply {
@@ -135,7 +135,7 @@ fn write_reserved(out: &mut Vec<u8>, reply: &ReserveReply) -> Result<(), Memory>
 }
 
 #[inline]
-fn write_state(out: &mut Vec<u8>, state: State) -> Result<(), Memory>
+fn write_state(out: &mut Vec<u8>, state: State) -> Result<(), OutOfMemory>
     // ensures { OnOk result (out.new.items ≡ out.old.items ++ spaced (state_words state)) }
 {
     match state {
@@ -146,7 +146,7 @@ fn write_state(out: &mut Vec<u8>, state: State) -> Result<(), Memory>
 }
 
 #[inline]
-fn write_reserve(out: &mut Vec<u8>, reservation: &Reservation) -> Result<(), Memory>
+fn write_reserve(out: &mut Vec<u8>, reservation: &Reservation) -> Result<(), OutOfMemory>
     // ensures { OnOk result (out.new.items
     //     ≡ out.old.items ++ line_text (Call.Reserve reservation.now)) }
 {
@@ -175,14 +175,14 @@ fn write_reserve(out: &mut Vec<u8>, reservation: &Reservation) -> Result<(), Mem
 ///
 /// </details>
 #[inline]
-pub fn append_answer(out: &mut Vec<u8>, line: &Call) -> Result<(), Memory> {
+pub fn append_answer(out: &mut Vec<u8>, line: &Call) -> Result<(), OutOfMemory> {
     let mut text = Vec::new();
     put_answer(&mut text, line)?;
     append(out, &text)
 }
 
 #[inline]
-fn put_answer(out: &mut Vec<u8>, line: &Call) -> Result<(), Memory>
+fn put_answer(out: &mut Vec<u8>, line: &Call) -> Result<(), OutOfMemory>
     // ensures ok { OnOk result (out.new.items ≡ out.old.items ++ spaced (answer_words line.now)) }
 {
     match line {
@@ -214,14 +214,14 @@ fn put_answer(out: &mut Vec<u8>, line: &Call) -> Result<(), Memory>
 ///
 /// </details>
 #[inline]
-pub fn write_line(out: &mut Vec<u8>, line: &Call) -> Result<(), Memory> {
+pub fn write_line(out: &mut Vec<u8>, line: &Call) -> Result<(), OutOfMemory> {
     let mut text = Vec::new();
     put_line(&mut text, line)?;
     append(out, &text)
 }
 
 #[inline]
-fn put_line(out: &mut Vec<u8>, line: &Call) -> Result<(), Memory>
+fn put_line(out: &mut Vec<u8>, line: &Call) -> Result<(), OutOfMemory>
     // ensures ok { OnOk result (out.new.items ≡ out.old.items ++ line_text line.now) }
 {
     match line {
@@ -302,14 +302,14 @@ fn put_line(out: &mut Vec<u8>, line: &Call) -> Result<(), Memory>
 pub fn write_difference(
     out: &mut Vec<u8>,
     difference: &Difference,
-) -> Result<(), Memory> {
+) -> Result<(), OutOfMemory> {
     let mut text = Vec::new();
     put_difference(&mut text, difference)?;
     append(out, &text)
 }
 
 #[inline]
-fn put_difference(out: &mut Vec<u8>, difference: &Difference) -> Result<(), Memory>
+fn put_difference(out: &mut Vec<u8>, difference: &Difference) -> Result<(), OutOfMemory>
     // ensures ok { OnOk result (out.new.items ≡ out.old.items ++ difference_text difference.now) }
 {
     append(out, b"differs line ")?;

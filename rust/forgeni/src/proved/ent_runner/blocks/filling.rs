@@ -1,18 +1,18 @@
 // Made of crates/ent_runner/src/blocks/filling.rt by rust/erase. It isn't edited by hand.
 
 use alloc::vec::Vec;
-use crate::proved::ent_runner::blocks::room::{Room, WORKERS, check, prepare};
-use crate::proved::ent_runner::blocks::run_error::RunError;
-use crate::proved::ent_runner::blocks::splitting::split;
-use crate::proved::ent_runner::frame::gate::NoGate;
-use crate::proved::ent_runner::frame::system::System;
-use crate::proved::ent_runner::stage::BlockStage;
-use crate::proved::ent_runner::systems::Issuers;
-use crate::proved::ent_blocks::{BlockReserver, Blocks};
-use crate::proved::ent_handle::HandedBack;
-use crate::proved::ent_queue::CommandQueue;
-use crate::proved::ent_world::View;
-use crate::kit::thread::Threads;
+use crate::running::blocks::room::{Room, WORKERS, check, prepare};
+use crate::running::blocks::run_error::RunError;
+use crate::running::blocks::splitting::split;
+use crate::running::frame::gate::NoGate;
+use crate::running::frame::system::System;
+use crate::running::stage::BlockStage;
+use crate::running::systems::Issuers;
+use crate::in_blocks::{BlockReserver, Blocks};
+use crate::handles::HandedBack;
+use crate::commands::IssuedCommands;
+use crate::worlds::View;
+use crate::kit::thread::Join;
 
 /// Runs each system once, on that many workers side by side, each with the reserver at its position
 /// and a queue of its own. The queues and the reservers are in the order of the systems.
@@ -74,9 +74,9 @@ pub fn fill_in_blocks<R, S>(
     view: View<'_>,
     systems: &[S],
     workers: usize,
-) -> Result<(Vec<CommandQueue>, Vec<BlockReserver>), HandedBack<Vec<BlockReserver>, RunError>>
+) -> Result<(Vec<IssuedCommands>, Vec<BlockReserver>), HandedBack<Vec<BlockReserver>, RunError>>
 where
-    R: Threads + Sync,
+    R: Join + Sync,
     S: System<Blocks> + Sync,
 {
     if let Err(error) = check(blocks, &reservers, systems.len(), workers) {

@@ -1,15 +1,15 @@
 // Made of crates/ent_runner/src/blocks/frame.rt by rust/erase. It isn't edited by hand.
 
 use alloc::vec::Vec;
-use crate::proved::ent_runner::blocks::filling::fill_in_blocks;
-use crate::proved::ent_runner::blocks::run_error::RunError;
-use crate::proved::ent_runner::frame::report::FrameReport;
-use crate::proved::ent_runner::frame::system::System;
-use crate::proved::ent_blocks::{BlockReserver, Blocks, EndError};
-use crate::proved::ent_handle::HandedBack;
-use crate::proved::ent_queue::CommandQueue;
-use crate::proved::ent_world::{SyncFault, World, WorldInBlocks};
-use crate::kit::thread::Threads;
+use crate::running::blocks::filling::fill_in_blocks;
+use crate::running::blocks::run_error::RunError;
+use crate::running::frame::report::FrameReport;
+use crate::running::frame::system::System;
+use crate::in_blocks::{BlockReserver, Blocks, EndError};
+use crate::handles::HandedBack;
+use crate::commands::IssuedCommands;
+use crate::worlds::{SyncFault, World, WorldInBlocks};
+use crate::kit::thread::Join;
 
 /// A frame in blocks that didn't end.
 pub enum Unframed {
@@ -29,7 +29,7 @@ pub enum Unframed {
         /// The world as it was opened, the reservers, and why it wasn't closed.
         unended: HandedBack<(WorldInBlocks, Vec<BlockReserver>), EndError>,
         /// The queue of each system, in the order of the systems.
-        queues: Vec<CommandQueue>,
+        queues: Vec<IssuedCommands>,
     },
     /// All systems ran, and the sync point stopped.
     Sync {
@@ -38,7 +38,7 @@ pub enum Unframed {
         /// What came of the sync point.
         fault: SyncFault,
         /// The queue of each system, in the order of the systems.
-        queues: Vec<CommandQueue>,
+        queues: Vec<IssuedCommands>,
     },
 }
 
@@ -130,7 +130,7 @@ pub fn run_frame_in_blocks<R, S>(
     workers: usize,
 ) -> Result<(World, FrameReport), Unframed>
 where
-    R: Threads + Sync,
+    R: Join + Sync,
     S: System<Blocks> + Sync,
 {
     let view = opened.view();

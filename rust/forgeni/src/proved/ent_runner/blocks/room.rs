@@ -3,10 +3,10 @@
 //! What systems in blocks need before they run: a reserver each, a crew, and room for what they hand back.
 use alloc::vec::Vec;
 use crate::kit::vec::FallibleVec;
-use crate::proved::ent_runner::blocks::run_error::RunError;
-use crate::proved::ent_runner::crew::Crew;
-use crate::proved::ent_blocks::{BlockReserver, Blocks};
-use crate::proved::ent_handle::Memory;
+use crate::running::blocks::run_error::RunError;
+use crate::running::crew::Crew;
+use crate::in_blocks::{BlockReserver, Blocks};
+use crate::handles::OutOfMemory;
 
 /// How many workers there may be.
 pub(super) const WORKERS: usize = 64;
@@ -74,7 +74,7 @@ pub(super) fn check(
 pub(super) fn prepare<O>(
     systems: usize,
     workers: usize,
-) -> Result<Room<O>, Memory>
+) -> Result<Room<O>, OutOfMemory>
     // requires some { 0 < workers }
     // requires few { workers ≤ 64 }
     // requires within { systems ≤ 2 ^ 16 }

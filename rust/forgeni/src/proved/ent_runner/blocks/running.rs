@@ -1,16 +1,16 @@
 // Made of crates/ent_runner/src/blocks/running.rt by rust/erase. It isn't edited by hand.
 
 use alloc::vec::Vec;
-use crate::proved::ent_runner::blocks::room::{Room, WORKERS, check, prepare};
-use crate::proved::ent_runner::blocks::run_error::RunError;
-use crate::proved::ent_runner::blocks::splitting::split;
-use crate::proved::ent_runner::logs::system::LogSystem;
-use crate::proved::ent_runner::stage::BlockStage;
-use crate::proved::ent_runner::systems::Loggers;
-use crate::proved::ent_blocks::{BlockReserver, Blocks};
-use crate::proved::ent_handle::HandedBack;
-use crate::proved::ent_log::Log;
-use crate::kit::thread::Threads;
+use crate::running::blocks::room::{Room, WORKERS, check, prepare};
+use crate::running::blocks::run_error::RunError;
+use crate::running::blocks::splitting::split;
+use crate::running::logs::system::LogSystem;
+use crate::running::stage::BlockStage;
+use crate::running::systems::Loggers;
+use crate::in_blocks::{BlockReserver, Blocks};
+use crate::handles::HandedBack;
+use crate::logs::Log;
+use crate::kit::thread::Join;
 
 /// Runs each system once, on that many workers side by side, each with the reserver at its position
 /// and a log of its own. The logs and the reservers are in the order of the systems.
@@ -96,7 +96,7 @@ pub fn run_in_blocks<R, C, S>(
     workers: usize,
 ) -> Result<(Vec<Log<C>>, Vec<BlockReserver>), HandedBack<Vec<BlockReserver>, RunError>>
 where
-    R: Threads + Sync,
+    R: Join + Sync,
     C: Send,
     S: LogSystem<C, Blocks> + Sync,
 {

@@ -1,11 +1,11 @@
 // Made of crates/ent_runner/src/crew/claimer.rt by rust/erase. It isn't edited by hand.
 
-use crate::proved::ent_runner::crew::record::ClaimRecord;
-use crate::proved::ent_shared::holders::RecordsToken;
+use crate::running::crew::record::ClaimRecord;
+use crate::reserving::holders::RecordsToken;
 
 /// The right of one worker to claim numbers.
 ///
-/// [`Claims::open`](crate::proved::ent_runner::Claims::open) makes them, and [`Claims::close`](crate::proved::ent_runner::Claims::close)
+/// [`Claims::open`](crate::running::Claims::open) makes them, and [`Claims::close`](crate::running::Claims::close)
 /// takes them back. A worker that claims in a thread of its own takes one along.
 pub struct Claimer {
     pub(super) token: RecordsToken<ClaimRecord>,

@@ -2,12 +2,12 @@
 
 use alloc::vec::Vec;
 use crate::kit::vec::FallibleVec;
-use crate::proved::ent_runner::crew::claimer::Claimer;
-use crate::proved::ent_runner::crew::rule::Opening;
-use crate::proved::ent_runner::crew::word;
-use crate::proved::ent_runner::crew::word::Word;
-use crate::proved::ent_handle::Memory;
-use crate::proved::ent_shared::holders::{merge, new_holder, split_first};
+use crate::running::crew::claimer::Claimer;
+use crate::running::crew::rule::Opening;
+use crate::running::crew::word;
+use crate::running::crew::word::Word;
+use crate::handles::OutOfMemory;
+use crate::reserving::holders::{merge, new_holder, split_first};
 
 /// The numbers below a count, which workers claim side by side, each with a [`Claimer`] of its own.
 pub struct Claims {
@@ -22,12 +22,12 @@ impl Claims {
     ///
     /// # Errors
     ///
-    /// [`Memory`] if there is no memory for them. Nothing is left of them then.
+    /// [`OutOfMemory`] if there is no memory for them. Nothing is left of them then.
     #[inline]
     pub(crate) fn open(
         numbers: usize,
         workers: usize,
-    ) -> Result<(Claims, Vec<Claimer>), Memory>
+    ) -> Result<(Claims, Vec<Claimer>), OutOfMemory>
         // requires numbers { numbers ≤ 2 ^ 16 }
         // requires some { 0 < workers }
         // requires few { workers ≤ 64 }

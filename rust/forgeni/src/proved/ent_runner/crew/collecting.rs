@@ -4,7 +4,7 @@
 
 use alloc::vec::Vec;
 use crate::kit::vec::FallibleVec;
-use crate::proved::ent_runner::crew::worker::Done;
+use crate::running::crew::worker::Done;
 
 /// Puts each output at the number of its job.
 #[inline]

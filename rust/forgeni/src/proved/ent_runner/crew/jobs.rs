@@ -1,8 +1,8 @@
 // Made of crates/ent_runner/src/crew/jobs.rt by rust/erase. It isn't edited by hand.
 
-use crate::proved::ent_handle::Memory;
+use crate::handles::OutOfMemory;
 
-/// Jobs with numbers from 0, which the workers of a [`Crew`](crate::proved::ent_runner::Crew) do. A worker lends each of
+/// Jobs with numbers from 0, which the workers of a [`Crew`](crate::running::Crew) do. A worker lends each of
 /// its jobs what it has itself, an `L`, such as a reserver. A job has one output.
 ///
 /// One value has all jobs, and each of them may run on any worker.
@@ -27,5 +27,5 @@ pub trait Jobs<O, L> {
     /// ```
     ///
     /// </details>
-    fn run(&self, number: usize, lent: &mut L) -> (O, Result<(), Memory>);
+    fn run(&self, number: usize, lent: &mut L) -> (O, Result<(), OutOfMemory>);
 }

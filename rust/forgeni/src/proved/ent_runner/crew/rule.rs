@@ -2,9 +2,9 @@
 
 //! The rule over the claim word and the records of all claimers, and what its steps tell.
 
-use crate::proved::ent_runner::crew::record::ClaimRecord;
+use crate::running::crew::record::ClaimRecord;
 use crate::kit::atomic_table::{Play, TableRule};
-use crate::proved::ent_shared::holders::HeldRecords;
+use crate::reserving::holders::HeldRecords;
 
 /// How many numbers there are to claim, and how many claimers.
 pub(super) struct Opening {

@@ -2,10 +2,10 @@
 
 //! The claim word: what each kind of step does to the word and to the records.
 
-use crate::proved::ent_runner::crew::record::ClaimRecord;
-use crate::proved::ent_runner::crew::rule::{Claim, Numbers, Opening};
+use crate::running::crew::record::ClaimRecord;
+use crate::running::crew::rule::{Claim, Numbers, Opening};
 use crate::kit::atomic_table::{Badge, Table};
-use crate::proved::ent_shared::holders::{RecordsHolder, RecordsToken, RecordsWord};
+use crate::reserving::holders::{RecordsHolder, RecordsToken, RecordsWord};
 use crate::kit::alloc::AllocError;
 use core::mem;
 

@@ -4,11 +4,11 @@
 
 use alloc::vec::Vec;
 use crate::kit::vec::FallibleVec;
-use crate::proved::ent_runner::crew::claimer::Claimer;
-use crate::proved::ent_runner::crew::claims::Claims;
-use crate::proved::ent_runner::crew::jobs::Jobs;
-use crate::proved::ent_handle::Memory;
-use crate::kit::thread::{Threads, join_mut};
+use crate::running::crew::claimer::Claimer;
+use crate::running::crew::claims::Claims;
+use crate::running::crew::jobs::Jobs;
+use crate::handles::OutOfMemory;
+use crate::kit::thread::{Join, join_mut};
 
 /// What the workers of a crew have in common.
 pub(super) struct Site<'a, J> {
@@ -36,7 +36,7 @@ impl<O> Worker<O> {
     /// Does the jobs that it claims, until none is left. It claims one only if there is room for
     /// its output, as there is for the first one. If not, other workers do what is left.
     #[inline]
-    fn work<L, J: Jobs<O, L>>(&mut self, site: &Site<'_, J>, lent: &mut L) -> Result<(), Memory>
+    fn work<L, J: Jobs<O, L>>(&mut self, site: &Site<'_, J>, lent: &mut L) -> Result<(), OutOfMemory>
         // requires jobs { site.now.claims.now.numbers ≡ J.count site.now.jobs.now }
         // requires lent { J.may_have site.now.jobs.now lent.old }
         // requires claimer { IsClaimerOf site.now.claims.now self.old.claimer }
@@ -103,7 +103,7 @@ pub(super) fn run_all<R, O, L, J>(
     threads: usize,
 )
 where
-    R: Threads + Sync,
+    R: Join + Sync,
     O: Send,
     L: Send,
     J: Jobs<O, L> + Sync,
@@ -139,7 +139,7 @@ fn run_both<R, O, L, J>(
     threads: usize,
 )
 where
-    R: Threads + Sync,
+    R: Join + Sync,
     O: Send,
     L: Send,
     J: Jobs<O, L> + Sync,

@@ -1,8 +1,8 @@
 // Made of crates/ent_runner/src/frame/report.rt by rust/erase. It isn't edited by hand.
 
 use alloc::vec::Vec;
-use crate::proved::ent_queue::CommandQueue;
-use crate::proved::ent_world::{SyncFault, SyncReport};
+use crate::commands::IssuedCommands;
+use crate::worlds::{SyncFault, Report};
 
 /// What a frame has done.
 ///
@@ -24,9 +24,9 @@ use crate::proved::ent_world::{SyncFault, SyncReport};
 #[derive(Debug)]
 pub struct FrameReport {
     /// The queue of each system, in the order of the systems.
-    pub queues: Vec<CommandQueue>,
+    pub queues: Vec<IssuedCommands>,
     /// What the sync point has done.
-    pub sync: SyncReport,
+    pub sync: Report,
 }
 
 /// Why a frame stopped.
@@ -43,7 +43,7 @@ pub enum FrameFault {
         /// What came of the sync point.
         fault: SyncFault,
         /// The queue of each system, in the order of the systems.
-        queues: Vec<CommandQueue>,
+        queues: Vec<IssuedCommands>,
     },
 }
 

@@ -2,12 +2,12 @@
 
 //! Systems of several types in one list.
 
-use crate::proved::ent_runner::frame::system::System;
+use crate::running::frame::system::System;
 use crate::kit::either::{Either, Left, Right};
-use crate::proved::ent_alloc::Source;
-use crate::proved::ent_handle::Memory;
-use crate::proved::ent_queue::{CommandQueue, Commands};
-use crate::proved::ent_world::View;
+use crate::allocator::Source;
+use crate::handles::OutOfMemory;
+use crate::commands::{IssuedCommands, SystemCommands};
+use crate::worlds::View;
 
 /// A system of one of two types, so that one list holds systems of both. For three types there is
 /// `Either<A, Either<B, C>>`, and so on.
@@ -16,8 +16,8 @@ impl<S: Source, A: System<S>, B: System<S>> System<S> for Either<A, B> {
     fn run(
         &self,
         view: &View<'_>,
-        commands: &mut Commands<'_, CommandQueue, S>,
-    ) -> Result<(), Memory> {
+        commands: &mut SystemCommands<'_, IssuedCommands, S>,
+    ) -> Result<(), OutOfMemory> {
         match self {
             Left(system) => system.run(view, commands),
             Right(system) => system.run(view, commands),

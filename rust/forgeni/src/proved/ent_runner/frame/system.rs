@@ -1,9 +1,9 @@
 // Made of crates/ent_runner/src/frame/system.rt by rust/erase. It isn't edited by hand.
 
-use crate::proved::ent_alloc::Source;
-use crate::proved::ent_handle::Memory;
-use crate::proved::ent_queue::{CommandQueue, Commands};
-use crate::proved::ent_world::View;
+use crate::allocator::Source;
+use crate::handles::OutOfMemory;
+use crate::commands::{IssuedCommands, SystemCommands};
+use crate::worlds::View;
 
 /// A system: it reads the world as the frame began, and issues commands that take effect at the
 /// frame's sync point. `S` is the source of its handles: a shared allocator, or blocks.
@@ -29,7 +29,7 @@ use crate::proved::ent_world::View;
 /// assert!(world.is_empty());
 /// # Ok::<(), Box<dyn std::error::Error>>(())
 /// ```
-pub trait System<S: Source = crate::proved::ent_shared::Shared> {
+pub trait System<S: Source = crate::reserving::SharedSource> {
     /// Runs it once.
     ///
     /// ```
@@ -74,6 +74,6 @@ pub trait System<S: Source = crate::proved::ent_shared::Shared> {
     fn run(
         &self,
         view: &View<'_>,
-        commands: &mut Commands<'_, CommandQueue, S>,
-    ) -> Result<(), Memory>;
+        commands: &mut SystemCommands<'_, IssuedCommands, S>,
+    ) -> Result<(), OutOfMemory>;
 }

@@ -3,14 +3,14 @@
 //! Systems fill logs, and the sync point of these logs begins.
 
 use alloc::vec::Vec;
-use crate::proved::ent_runner::logs::log_error::LogError;
-use crate::proved::ent_runner::logs::run_logs;
-use crate::proved::ent_runner::logs::system::LogSystem;
-use crate::proved::ent_alloc::Entities;
-use crate::proved::ent_handle::{HandedBack, Handle, Memory};
-use crate::proved::ent_log::{Log, SyncPoint};
-use crate::proved::ent_shared::Shared;
-use crate::kit::thread::Threads;
+use crate::running::logs::log_error::LogError;
+use crate::running::logs::run_logs;
+use crate::running::logs::system::LogSystem;
+use crate::allocator::Entities;
+use crate::handles::{HandedBack, Handle, OutOfMemory};
+use crate::logs::{Log, SyncPoint};
+use crate::reserving::SharedSource;
+use crate::kit::thread::Join;
 
 /// [`run_logs`], and then the beginning of the sync point of these logs. It brings to life what the
 /// systems reserved, and appends it to `out`, as [`Entities::flush`] does. The sync point has the
@@ -76,9 +76,9 @@ pub fn run_to_sync_point<R, C, S>(
     out: &mut Vec<Handle>,
 ) -> Result<SyncPoint<C>, HandedBack<Vec<Log<C>>, LogError>>
 where
-    R: Threads + Sync,
+    R: Join + Sync,
     C: Send,
-    S: LogSystem<C, Shared> + Sync,
+    S: LogSystem<C, SharedSource> + Sync,
 {
     let mut logs = match run_logs(rt, entities, systems, workers) {
         Ok(logs) => logs,
@@ -86,6 +86,6 @@ where
     };
     match SyncPoint::begin_reserved(entities, &mut logs, out) {
         Ok(point) => Ok(point),
-        Err(Memory) => Err(HandedBack::new(logs, LogError::Unborn)),
+        Err(OutOfMemory) => Err(HandedBack::new(logs, LogError::Unborn)),
     }
 }

@@ -1,9 +1,9 @@
 // Made of crates/ent_runner/src/logs/system.rt by rust/erase. It isn't edited by hand.
 
-use crate::proved::ent_alloc::Source;
-use crate::proved::ent_handle::Memory;
-use crate::proved::ent_log::Log;
-use crate::proved::ent_queue::Commands;
+use crate::allocator::Source;
+use crate::handles::OutOfMemory;
+use crate::logs::Log;
+use crate::commands::SystemCommands;
 
 /// A system that fills a log. `C` is the caller's type of commands, and `S` the source of the handles: a
 /// shared allocator, or blocks.
@@ -25,7 +25,7 @@ use crate::proved::ent_queue::Commands;
 /// assert_eq!(logs[1].entries(), [Entry::Command("two")]);
 /// # Ok::<(), Box<dyn std::error::Error>>(())
 /// ```
-pub trait LogSystem<C, S: Source = crate::proved::ent_shared::Shared> {
+pub trait LogSystem<C, S: Source = crate::reserving::SharedSource> {
     /// Runs it once.
     ///
     /// ```
@@ -62,5 +62,5 @@ pub trait LogSystem<C, S: Source = crate::proved::ent_shared::Shared> {
     /// ```
     ///
     /// </details>
-    fn run(&self, commands: &mut Commands<'_, Log<C>, S>) -> Result<(), Memory>;
+    fn run(&self, commands: &mut SystemCommands<'_, Log<C>, S>) -> Result<(), OutOfMemory>;
 }

@@ -2,8 +2,8 @@
 
 use alloc::vec::Vec;
 use crate::kit::vec::FallibleVec;
-use crate::proved::ent_storage::handle_map::slot::Slot;
-use crate::proved::ent_handle::Handle;
+use crate::components::handle_map::slot::Slot;
+use crate::handles::Handle;
 
 /// Moves all values to the end of a list that has room for them, by rising slot. There are so many.
 #[inline]

@@ -1,7 +1,7 @@
 // Made of crates/ent_storage/src/handle_map/entry.rt by rust/erase. It isn't edited by hand.
 
-use crate::proved::ent_storage::handle_map::{HandleMap, InsertError};
-use crate::proved::ent_handle::{HandedBack, Handle};
+use crate::components::handle_map::{HandleMap, InsertError};
+use crate::handles::{HandedBack, Handle};
 use core::mem;
 
 /// What a map has for one handle: a value, or none.

@@ -1,6 +1,6 @@
 // Made of crates/ent_storage/src/handle_map/generation.rt by rust/erase. It isn't edited by hand.
 
-use crate::proved::ent_handle::Handle;
+use crate::handles::Handle;
 use core::num::NonZeroU32;
 
 /// A generation that a handle may have. It is not 0, so a slot needs no room to say that it is

@@ -1,7 +1,7 @@
 // Made of crates/ent_storage/src/handle_map/iter.rt by rust/erase. It isn't edited by hand.
 
-use crate::proved::ent_storage::handle_map::slot::Slot;
-use crate::proved::ent_handle::Handle;
+use crate::components::handle_map::slot::Slot;
+use crate::handles::Handle;
 use core::slice;
 
 /// The handles and values of a map, by rising slot.

@@ -1,7 +1,7 @@
 // Made of crates/ent_storage/src/handle_map/keys.rt by rust/erase. It isn't edited by hand.
 
-use crate::proved::ent_storage::handle_map::iter::Iter;
-use crate::proved::ent_handle::Handle;
+use crate::components::handle_map::iter::Iter;
+use crate::handles::Handle;
 
 /// The handles of a map that have a value, by rising slot.
 ///

@@ -1,8 +1,8 @@
 // Made of crates/ent_storage/src/handle_map/retaining.rt by rust/erase. It isn't edited by hand.
 
 use alloc::vec::Vec;
-use crate::proved::ent_storage::handle_map::slot::Slot;
-use crate::proved::ent_handle::Handle;
+use crate::components::handle_map::slot::Slot;
+use crate::handles::Handle;
 
 /// Calls `keep` at each value, by rising slot. Where it returns `false`, the slot is vacant then.
 /// `len` is always how many values there are.

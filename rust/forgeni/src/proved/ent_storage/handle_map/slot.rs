@@ -2,8 +2,8 @@
 
 use alloc::vec::Vec;
 use crate::kit::vec::FallibleVec;
-use crate::proved::ent_storage::handle_map::generation::Generation;
-use crate::proved::ent_handle::Handle;
+use crate::components::handle_map::generation::Generation;
+use crate::handles::Handle;
 use crate::kit::alloc::AllocError;
 
 /// What stands in a slot.

@@ -1,6 +1,6 @@
 // Made of crates/ent_storage/src/handle_map/values.rt by rust/erase. It isn't edited by hand.
 
-use crate::proved::ent_storage::handle_map::iter::Iter;
+use crate::components::handle_map::iter::Iter;
 
 /// The values of a map, by rising slot.
 ///

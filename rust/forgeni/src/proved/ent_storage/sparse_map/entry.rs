@@ -1,8 +1,8 @@
 // Made of crates/ent_storage/src/sparse_map/entry.rt by rust/erase. It isn't edited by hand.
 
-use crate::proved::ent_storage::handle_map::InsertError;
-use crate::proved::ent_storage::sparse_map::SparseMap;
-use crate::proved::ent_handle::{HandedBack, Handle};
+use crate::components::handle_map::InsertError;
+use crate::components::sparse_map::SparseMap;
+use crate::handles::{HandedBack, Handle};
 use core::mem;
 
 /// What a sparse map has for one handle: a value, or none.

@@ -1,6 +1,6 @@
 // Made of crates/ent_storage/src/sparse_map/iter.rt by rust/erase. It isn't edited by hand.
 
-use crate::proved::ent_handle::Handle;
+use crate::handles::Handle;
 
 /// The handles and values of a sparse map, in no particular order.
 ///

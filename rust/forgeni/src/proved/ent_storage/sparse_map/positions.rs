@@ -2,7 +2,7 @@
 
 use alloc::vec::Vec;
 use crate::kit::vec::FallibleVec;
-use crate::proved::ent_handle::Handle;
+use crate::handles::Handle;
 use crate::kit::alloc::AllocError;
 
 /// The position of the entry that a slot has.

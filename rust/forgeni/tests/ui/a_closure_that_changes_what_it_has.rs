@@ -1,0 +1,12 @@
+//! A system may run on any thread, so it changes nothing that it borrows.
+
+use forgeni::{run_frame, system, World};
+
+fn main() {
+    let mut runs = 0;
+    let count = system(|_view, _commands| {
+        runs += 1;
+        Ok(())
+    });
+    let _ = run_frame(&mut World::new(), &[count], 1);
+}
