@@ -110,10 +110,10 @@ pub trait AnyMap:
     /// a `SparseMap`.
     fn iter(&self) -> impl DoubleEndedIterator<Item = (Handle, &Self::Value)> + Clone;
 
-    /// The handles and their values, by rising slot. Those of a `SparseMap` are listed first: `None`
-    /// if there is no memory for that.
+    /// The handles, by rising slot. Those of a `SparseMap` are listed first: `None` if there is no
+    /// memory for that.
     #[doc(hidden)]
-    fn by_slot(&self) -> Option<impl BySlot<&Self::Value>>;
+    fn by_slot(&self) -> Option<impl BySlot>;
 
     /// The handles and their values in the same order, to be changed.
     ///
@@ -210,7 +210,7 @@ macro_rules! traits_of_a_map {
             }
 
             #[inline]
-            fn by_slot(&self) -> Option<impl BySlot<&T>> {
+            fn by_slot(&self) -> Option<impl BySlot> {
                 self.sorted()
             }
 

@@ -1,9 +1,8 @@
 //! Walks over several maps at once. By hand: it uses the calls of each map, and changes none.
 
 use crate::handle::Handle;
-use crate::several::BySlot;
+use crate::several::{BySlot, SlotsMut};
 use crate::{AnyMap, HandleMap, SparseMap};
-use core::iter;
 
 /// Two to six maps in a tuple, for a walk over the handles that have a value in each of them.
 ///
@@ -62,11 +61,8 @@ pub trait Leads {
     /// than half as many.
     fn count(&self) -> usize;
 
-    /// All values.
-    fn all(self) -> impl Iterator<Item = (Handle, Self::Lent)>;
-
-    /// The values of the handles of another map, beside those.
-    fn of<V>(self, others: impl BySlot<V>) -> impl Iterator<Item = (Handle, Self::Lent, V)>;
+    /// The values of these handles. If there are none, all values.
+    fn walk(self, handles: Option<impl BySlot>) -> impl Iterator<Item = (Handle, Self::Lent)>;
 }
 
 impl<'a, M: AnyMap> Leads for &'a M {
@@ -77,14 +73,14 @@ impl<'a, M: AnyMap> Leads for &'a M {
     }
 
     #[inline]
-    fn all(self) -> impl Iterator<Item = (Handle, Self::Lent)> {
-        self.iter()
-    }
-
-    #[inline]
-    fn of<V>(self, others: impl BySlot<V>) -> impl Iterator<Item = (Handle, Self::Lent, V)> {
-        let others = others.entries();
-        others.filter_map(|(one, other)| Some((one, self.get(one)?, other)))
+    fn walk(self, handles: Option<impl BySlot>) -> impl Iterator<Item = (Handle, Self::Lent)> {
+        match handles {
+            None => Walk::First(self.iter()),
+            Some(handles) => {
+                let handles = handles.handles();
+                Walk::Other(handles.filter_map(|one| Some((one, self.get(one)?))))
+            }
+        }
     }
 }
 
@@ -96,13 +92,11 @@ impl<'a, T> Leads for &'a mut HandleMap<T> {
     }
 
     #[inline]
-    fn all(self) -> impl Iterator<Item = (Handle, Self::Lent)> {
-        self.iter_mut()
-    }
-
-    #[inline]
-    fn of<V>(self, others: impl BySlot<V>) -> impl Iterator<Item = (Handle, Self::Lent, V)> {
-        others.beside(self.all_slots())
+    fn walk(self, handles: Option<impl BySlot>) -> impl Iterator<Item = (Handle, Self::Lent)> {
+        match handles {
+            None => Walk::First(self.iter_mut()),
+            Some(handles) => Walk::Other(handles.beside(self.all_slots())),
+        }
     }
 }
 
@@ -115,13 +109,8 @@ impl<'a, T> Leads for &'a mut SparseMap<T> {
     }
 
     #[inline]
-    fn all(self) -> impl Iterator<Item = (Handle, Self::Lent)> {
+    fn walk(self, _none: Option<impl BySlot>) -> impl Iterator<Item = (Handle, Self::Lent)> {
         self.into_iter()
-    }
-
-    #[inline]
-    fn of<V>(self, _others: impl BySlot<V>) -> impl Iterator<Item = (Handle, Self::Lent, V)> {
-        iter::empty()
     }
 }
 
@@ -151,29 +140,34 @@ impl<T, F: Iterator<Item = T>, O: Iterator<Item = T>> Iterator for Walk<F, O> {
     }
 }
 
-/// The value of a map that the walk goes over, in place of the map: it isn't looked up.
-struct Known<'a, V>(&'a V);
-
-impl<'a, V> Known<'a, V> {
+impl<F: BySlot, O: BySlot> BySlot for Walk<F, O> {
     #[inline]
-    fn get(&self, _one: Handle) -> Option<&'a V> {
-        Some(self.0)
+    fn handles(self) -> impl Iterator<Item = Handle> {
+        match self {
+            Walk::First(map) => Walk::First(map.handles()),
+            Walk::Other(map) => Walk::Other(map.handles()),
+        }
+    }
+
+    #[inline]
+    fn beside<T>(self, slots: SlotsMut<'_, T>) -> impl Iterator<Item = (Handle, &mut T)> {
+        match self {
+            Walk::First(map) => Walk::First(map.beside(slots)),
+            Walk::Other(map) => Walk::Other(map.beside(slots)),
+        }
     }
 }
 
-/// A walk by the first of these maps that has so many values, or over the first map of all.
-macro_rules! walk {
-    ($first:ident, $fewest:ident, ($($all:ident)*)) => {{
-        let walk = $first.all();
-        walk.filter_map(move |(one, it)| Some((one, it, $($all.get(one)?),*)))
-    }};
-    ($first:ident, $fewest:ident, ($($all:ident)*) $map:ident $($rest:ident)*) => {
-        match $fewest.filter(|it| *it == $map.len()).and_then(|_| $map.by_slot()) {
-            Some(entries) => Walk::First($first.of(entries).filter_map(move |(one, it, value)| {
-                let $map = Known(value);
-                Some((one, it, $($all.get(one)?),*))
-            })),
-            None => Walk::Other(walk!($first, $fewest, ($($all)*) $($rest)*)),
+/// The handles of the map that has so many values.
+macro_rules! handles_of {
+    ($count:ident: $last:ident) => {
+        $last.by_slot()
+    };
+    ($count:ident: $map:ident $($rest:ident)+) => {
+        if $map.len() == $count {
+            $map.by_slot().map(Walk::First)
+        } else {
+            handles_of!($count: $($rest)+).map(Walk::Other)
         }
     };
 }
@@ -186,9 +180,11 @@ macro_rules! tuples_are_joined {
             #[inline]
             fn join(self) -> impl Iterator<Item = Self::Item> {
                 let (first, $($map),*) = self;
-                let fewest = [$($map.len()),*].into_iter().min();
-                let fewest = fewest.filter(|it| *it < first.count().div_ceil(2));
-                walk!(first, fewest, ($($map)*) $($map)*)
+                let fewest = [$($map.len()),*].into_iter().min().unwrap_or_default();
+                let is_less = fewest < first.count().div_ceil(2);
+                let handles = is_less.then(|| handles_of!(fewest: $($map)*));
+                let walk = first.walk(handles.flatten());
+                walk.filter_map(move |(one, it)| Some((one, it, $($map.get(one)?),*)))
             }
         }
     };

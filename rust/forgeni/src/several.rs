@@ -346,46 +346,46 @@ impl<T> HandleMap<T> {
     }
 }
 
-/// The handles of a map and their values, by rising slot, for a walk over several maps.
-pub trait BySlot<V> {
+/// The handles of a map, by rising slot, for a walk over several maps.
+pub trait BySlot {
     /// All of them.
-    fn entries(self) -> impl Iterator<Item = (Handle, V)>;
+    fn handles(self) -> impl Iterator<Item = Handle>;
 
-    /// Those that have a value in these slots too, beside it. They are all slots of a map.
-    fn beside<T>(self, slots: SlotsMut<'_, T>) -> impl Iterator<Item = (Handle, &mut T, V)>;
+    /// Those that have a value in these slots too, which are all slots of a map.
+    fn beside<T>(self, slots: SlotsMut<'_, T>) -> impl Iterator<Item = (Handle, &mut T)>;
 }
 
 /// It goes over the slots of both maps, one beside the other.
-impl<'a, V> BySlot<&'a V> for &'a HandleMap<V> {
+impl<V> BySlot for &HandleMap<V> {
     #[inline]
-    fn entries(self) -> impl Iterator<Item = (Handle, &'a V)> {
-        self.iter()
+    fn handles(self) -> impl Iterator<Item = Handle> {
+        self.keys()
     }
 
     #[inline]
-    fn beside<T>(self, slots: SlotsMut<'_, T>) -> impl Iterator<Item = (Handle, &mut T, &'a V)> {
+    fn beside<T>(self, slots: SlotsMut<'_, T>) -> impl Iterator<Item = (Handle, &mut T)> {
         let both = self.slots.iter().zip(slots.0).enumerate();
         both.filter_map(|(at, (slot, other))| {
-            let (one, value) = seen(0, (at, slot))?;
-            (other.generation() == one.generation()).then(|| (one, other.value_mut(), value))
+            let one = slot.handle(at as u32)?;
+            (other.generation() == one.generation()).then(|| (one, other.value_mut()))
         })
     }
 }
 
 /// A list, of few of the slots.
-impl<'a, V> BySlot<&'a V> for vec::IntoIter<(Handle, &'a V)> {
+impl BySlot for vec::IntoIter<Handle> {
     #[inline]
-    fn entries(self) -> impl Iterator<Item = (Handle, &'a V)> {
+    fn handles(self) -> impl Iterator<Item = Handle> {
         self
     }
 
     #[inline]
-    fn beside<T>(self, slots: SlotsMut<'_, T>) -> impl Iterator<Item = (Handle, &mut T, &'a V)> {
+    fn beside<T>(self, slots: SlotsMut<'_, T>) -> impl Iterator<Item = (Handle, &mut T)> {
         let (end, mut slots) = (slots.slots().end, slots.0.iter_mut());
-        self.filter_map(move |(one, value)| {
+        self.filter_map(move |one| {
             let first = end - slots.len() as u32;
             let other = slots.nth(one.index().wrapping_sub(first) as usize)?;
-            (other.generation() == one.generation()).then(|| (one, other.value_mut(), value))
+            (other.generation() == one.generation()).then(|| (one, other.value_mut()))
         })
     }
 }

@@ -37,13 +37,13 @@ impl<T> SparseMap<T> {
         self.entries().iter().map(|(_, it)| it)
     }
 
-    /// The handles and their values, by rising slot, if there is memory for a list of them.
-    pub(crate) fn sorted(&self) -> Option<vec::IntoIter<(Handle, &T)>> {
-        let mut all = Vec::new();
-        all.try_reserve_exact(self.len()).ok()?;
-        all.extend(self);
-        all.sort_unstable_by_key(|(one, _)| *one);
-        Some(all.into_iter())
+    /// The handles that have a value, by rising slot, if there is memory for a list of them.
+    pub(crate) fn sorted(&self) -> Option<vec::IntoIter<Handle>> {
+        let mut handles = Vec::new();
+        handles.try_reserve_exact(self.len()).ok()?;
+        handles.extend(self.keys());
+        handles.sort_unstable();
+        Some(handles.into_iter())
     }
 
     /// Calls `keep` on each value once, from the last entry to the first, and drops the values for

@@ -115,9 +115,10 @@ fn mirrors_of_random_births_and_deaths() {
                 let told = history.since(since).map(|it| it.collect::<Vec<_>>());
                 assert_eq!(told, model.since(since), "{place}, since {since}");
             }
-            let kept = history.len();
-            assert!(kept <= limit.min(model.all.len()), "{place}");
-            assert_eq!(history.is_empty(), kept == 0, "{place}");
+            let kept = model.all.iter().filter(|(at, _)| *at >= model.from);
+            let kept = kept.count().min(limit);
+            let told = (history.len(), history.is_empty());
+            assert_eq!(told, (kept, kept == 0), "{place}");
             for mirror in &mut mirrors {
                 if numbers.below(3) == 0 {
                     mirror.update(&history, &entities, &place);
