@@ -295,7 +295,8 @@ impl Names {
                 let unwritten = || (Some("as the trait says".to_owned()), fault(at));
                 methods.entry(name.clone()).or_insert_with(unwritten);
             }
-            let is_type = |name: &str| self.types.contains_key(name) && !header.parameters.contains(name);
+            let is_type =
+                |name: &str| self.types.contains_key(name) && !header.parameters.contains(name);
             let arguments = header.arguments.iter();
             let arguments: Vec<_> = arguments
                 .map(|name| is_type(name).then(|| (*name).to_owned()))

@@ -23,7 +23,7 @@ const TOPS: &[&str] = &[
 ];
 
 /// The programs, with their crates. The package has them behind its feature of this name.
-const PROGRAM_CRATES: &[&str] = &[
+pub(crate) const PROGRAM_CRATES: &[&str] = &[
     "cli",
     "devices",
     "ent_script",

@@ -37,11 +37,9 @@ impl CommandQueue {
     ///
     /// <details><summary>Contract</summary>
     ///
-    /// In the words of the folder `specs/` of crate `ent_queue`:
-    ///
-    /// ```text
-    /// ensures { result ≡ length self.now }
-    /// ```
+    /// <code style="display: block; tab-size: 4; white-space: pre-wrap">// In the words of [contracts](crate::contracts):
+    /// ensures { result ≡ [length](crate::contracts::logic#length) self.now }
+    /// </code>
     ///
     /// </details>
     #[inline]
@@ -53,11 +51,9 @@ impl CommandQueue {
     ///
     /// <details><summary>Contract</summary>
     ///
-    /// In the words of the folder `specs/` of crate `ent_queue`:
-    ///
-    /// ```text
-    /// ensures { IsTrue result ↔ (self.now ≡ []) }
-    /// ```
+    /// <code style="display: block; tab-size: 4; white-space: pre-wrap">// In the words of [contracts](crate::contracts):
+    /// ensures { [IsTrue](crate::contracts::logic#IsTrue) result ↔ (self.now ≡ \[\]) }
+    /// </code>
     ///
     /// </details>
     #[inline]
@@ -69,15 +65,13 @@ impl CommandQueue {
     ///
     /// <details><summary>Contract</summary>
     ///
-    /// In the words of the folder `specs/` of crate `ent_queue`:
-    ///
-    /// ```text
+    /// <code style="display: block; tab-size: 4; white-space: pre-wrap">// In the words of [contracts](crate::contracts):
     /// ensures entries { result ≡ self.now }
-    ///
+    /// &#32;
     /// // Each command is in its ranges. A refusal for lack of slots says twice how many handles
     /// // were wanted, and the two numbers are equal.
-    /// ensures each { All IsCommand self.now }
-    /// ```
+    /// ensures each { [All](crate::contracts::logic#All) [IsCommand](crate::contracts::ent_queue::command#IsCommand) self.now }
+    /// </code>
     ///
     /// </details>
     #[inline]
@@ -102,11 +96,9 @@ impl CommandQueue {
     ///
     /// <details><summary>Contract</summary>
     ///
-    /// In the words of the folder `specs/` of crate `ent_queue`:
-    ///
-    /// ```text
-    /// ensures { result.now ≡ queue_bytes self.now }
-    /// ```
+    /// <code style="display: block; tab-size: 4; white-space: pre-wrap">// In the words of [contracts](crate::contracts):
+    /// ensures { result.now ≡ [queue_bytes](crate::contracts::ent_queue::packing#queue_bytes) self.now }
+    /// </code>
     ///
     /// </details>
     #[inline]

@@ -33,11 +33,9 @@ impl Reserver {
     ///
     /// <details><summary>Contract</summary>
     ///
-    /// In the words of the folder `specs/` of crate `ent_shared`:
-    ///
-    /// ```text
+    /// <code style="display: block; tab-size: 4; white-space: pre-wrap">// In the words of [contracts](crate::contracts):
     /// ensures { result ≡ self.now.own.number }
-    /// ```
+    /// </code>
     ///
     /// </details>
     #[inline]
@@ -50,12 +48,10 @@ impl Reserver {
     ///
     /// <details><summary>Contract</summary>
     ///
-    /// In the words of the folder `specs/` of crate `ent_shared`:
-    ///
-    /// ```text
+    /// <code style="display: block; tab-size: 4; white-space: pre-wrap">// In the words of [contracts](crate::contracts):
     /// ensures left { result ≡ self.now.own.left }
     /// ensures quota { result + requested_by self.now.own ≡ quota }
-    /// ```
+    /// </code>
     ///
     /// </details>
     #[inline]
