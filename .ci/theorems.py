@@ -52,7 +52,8 @@ def specs_of(file):
     for blank, numbers in itertools.groupby(range(len(lines)), lambda it: not lines[it].strip()):
         at, *others = numbers
         last = others[-1] if others else at
-        first = next((it for it in lines[at : last + 1] if not it.lstrip().startswith(("--", "infix", "module "))), "use ")
+        block = re.sub(r"^module (?:.*\n)*?.*\bwhere$", "", "\n".join(lines[at : last + 1]), flags=re.M).split("\n")
+        first = next((it for it in block if it and not it.lstrip().startswith(("--", "infix", "module "))), "use ")
         head = HEAD.match(first)
         if head:
             spans.append([head[head.lastindex], at, last])

@@ -39,15 +39,16 @@ use std::marker::Model;
 /// use std::sync::RwLock;
 ///
 /// static ENTITIES: RwLock<Entities> = RwLock::new(Entities::new());
-/// let first = ENTITIES.write().unwrap().alloc()?;
-/// assert!(ENTITIES.read().unwrap().is_alive(first));
-/// # Ok::<(), forgeni::AllocError>(())
+/// let first = ENTITIES.write()?.alloc()?;
+/// assert!(ENTITIES.read()?.is_alive(first));
+/// # Ok::<(), Box<dyn std::error::Error>>(())
 /// ```
 ///
-/// Contracts see it as a state of the sequential allocator (`specs/Sequential`): the living
-/// handles, the pool of those that can be given, those that are reserved, and those that a refused
-/// request passed over. Beside it they see the rows that a program keeps with living handles
-/// (`specs/Entities`).
+/// Contracts see it as a state of the
+/// [sequential allocator](forgeni::contracts::ent_alloc::sequential#Allocator): the living handles,
+/// the pool of those that can be given, those that are reserved, and those that a refused request
+/// passed over. Beside it they see the [rows](forgeni::contracts::ent_alloc::entities#Entities) that
+/// a program keeps with living handles.
 #[derive(Drop)]
 pub struct Entities {
     pub(crate) slots: Slots,

@@ -484,8 +484,20 @@ impl<J: Numbering> Commands<J> {
         self.reserver.number()
     }
 
-    /// Ends the issuing, and returns the queue, which [`OpenWorld::close`] takes. The system can
-    /// issue no more:
+    /// Ends the issuing, and returns the queue, which [`OpenWorld::close`] takes.
+    ///
+    /// ```
+    /// use forgeni::World;
+    ///
+    /// let (open, systems) = World::new().open(3)?;
+    /// // A queue is a value, so it may be kept, or go to another thread.
+    /// let queues: Vec<_> = systems.into_iter().map(|commands| commands.finish()).collect();
+    /// let (mut world, queues) = open.close(queues)?;
+    /// assert!(world.apply(queues)?.born.is_empty());
+    /// # Ok::<(), Box<dyn std::error::Error>>(())
+    /// ```
+    ///
+    /// The system can issue no more:
     ///
     /// ```compile_fail
     /// let (open, mut systems) = forgeni::World::new().open(1).unwrap();

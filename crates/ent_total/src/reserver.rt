@@ -20,6 +20,19 @@ use std::sync::Arc;
 /// handle is what the allocator would have given to one caller at that moment, so no two callers
 /// are given the same one. It comes to life after the phase, by the next flush.
 ///
+/// ```
+/// use forgeni::Entities;
+///
+/// let (shared, mut reservers) = Entities::new().share(4)?;
+/// std::thread::scope(|scope| {
+///     for mine in &mut reservers {
+///         scope.spawn(|| mine.reserve_many(10));
+///     }
+/// });
+/// assert_eq!(shared.close(reservers)?.reserved(), 40);
+/// # Ok::<(), Box<dyn std::error::Error>>(())
+/// ```
+///
 /// Two threads can't reserve by one reserver at once:
 ///
 /// ```compile_fail

@@ -45,7 +45,11 @@ impl SyncError {
     ///         Err(stopped) => stopped.go_on(world).ok(),
     ///     }
     /// }
-    /// # assert!(apply(&mut World::new(), World::new().phase(1, |_, _| ()).unwrap().1).is_none());
+    ///
+    /// let mut world = World::new();
+    /// let ((), queues) = world.phase(1, |_open, _systems| ())?;
+    /// assert!(apply(&mut world, queues).is_some());
+    /// # Ok::<(), Box<dyn std::error::Error>>(())
     /// ```
     pub fn into_parts(self) -> Result<Queues, Stopped>
         ensures { result ≡ parts_of self }

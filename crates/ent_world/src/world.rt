@@ -27,8 +27,9 @@ use std::marker::Model;
 
 /// The living entities and their components.
 ///
-/// Contracts see it as the state of its allocator, the number of its phase, and a finite map from
-/// the handles of the living entities to their births and components (`specs/World`).
+/// Contracts see it as [a record](forgeni::contracts::ent_world::world#World): the state of its
+/// allocator, the number of its phase, and a finite map from the handles of the living entities to
+/// their births and components.
 #[derive(Drop)]
 pub struct World {
     pub(crate) entities: Entities,

@@ -25,7 +25,7 @@ const TOPS: &[&str] = &[
 ];
 
 /// The programs, with their crates. The package has them behind its feature of this name.
-const PROGRAM_CRATES: &[&str] = &[
+pub(crate) const PROGRAM_CRATES: &[&str] = &[
     "cli",
     "ent_script",
     "spawnrun",

@@ -1,5 +1,6 @@
 //! A walk through the code of one source, which collects what has to change.
 
+use crate::contracts::Words;
 use crate::edit::{Change, Edit};
 use crate::forms;
 use crate::ghost_types::GhostTypes;
@@ -38,6 +39,8 @@ pub struct Walk<'a> {
     pub(crate) rights: Rights<'a>,
     /// The names that it binds or imports.
     pub(crate) bound: BTreeSet<&'a str>,
+    /// What the names of its contracts lead to.
+    pub(crate) words: Words<'a>,
     /// Whether the place is in a signature or a header, where `Drop` is a bound.
     pub(crate) is_signature: bool,
     /// Whether the place is in a module within the file.
@@ -74,6 +77,7 @@ impl<'a> Walk<'a> {
             types: GhostTypes::of(source, names),
             rights: Rights::default(),
             bound: bound(source),
+            words: Words::of(source, krate),
             is_signature: false,
             is_module: false,
             is_public_trait: false,

@@ -254,6 +254,22 @@ fn docs_may_not_show_another_contract() {
 }
 
 #[test]
+fn links_of_a_contract_may_not_change_its_words() {
+    let source = "ghost use Rattle.ent_here.specs.Here.{P};\n\n/// Of a.\npub fn a()\n    ensures { P \"`<\" }\n{\n}\n";
+    let result = erased(source).expect("known forms");
+    for (shown, other) in [
+        ("[P](", "[Q]("),
+        ("[P](", "P [P]("),
+        ("\\`", ""),
+        ("\\<", ""),
+    ] {
+        assert!(result.contains(shown), "{result}");
+        let other = result.replace(shown, other);
+        assert!(audited(source, &other).is_err(), "{other}");
+    }
+}
+
+#[test]
 fn only_the_package_may_call_a_function_with_a_condition() {
     let (source, narrow) = ("pub fn a()\n    requires { b }\n{}\n", "pub(crate) fn a()");
     let result = erased(source).expect("known forms");

@@ -128,21 +128,49 @@ fn shown(margin: &str, clauses: &[&str]) -> String {
         "",
         "<details><summary>Contract</summary>",
         "",
-        "In the words of the folder `specs/` of crate `ent_here`:",
-        "",
-        "```text",
+        "<code style=\"display: block; tab-size: 4; white-space: pre-wrap\">// In the words of [contracts](crate::contracts):",
     ];
-    let lines = head.iter().chain(clauses).chain(&["```", "", "</details>"]);
+    let lines = head
+        .iter()
+        .chain(clauses)
+        .chain(&["</code>", "", "</details>"]);
     let lines = lines.map(|line| format!("/// {line}"));
     let lines = lines.map(|line| format!("{margin}{}\n", line.trim_end()));
     lines.collect()
 }
 
 #[test]
+fn names_of_definitions_are_links_in_the_docs() {
+    let contract = shown(
+        "",
+        &[
+            "ensures p { [Q](crate::contracts::ent_here::first_fault#P) (λ r. r \\* p) b.p }",
+            "ensures { [set.len](crate::contracts::logic#FinSet.len) b \\< [All](crate::contracts::logic#All) (Some b) }",
+        ],
+    );
+    gives(
+        "ghost use Rattle.ent_here.specs.First.Fault.{P as Q, r, p};\nghost use Rattle.std.specs.FinSet as set;\n\
+         ghost use Rattle.std.specs.Prelude.{◌*◌, All};\n\
+         ghost use Rattle.std.specs.declared.option.Option.TheVariants.{Some};\n\n\
+         /// Of a.\npub fn a(b: u8)\n    ensures p { Q (λ r. r * p) b.p }\n    ensures { set.len b < All (Some b) }\n{\n}\n",
+        &format!("/// Of a.\n{contract}#[inline]\npub fn a(b: u8) {{\n}}\n").replace(
+            " p) b.p",
+            " [p](crate::contracts::ent_here::first_fault#p)) b.p",
+        ),
+    );
+}
+
+#[test]
 fn clauses_of_what_the_package_shows_go_to_its_docs() {
     let contract = shown(
         "    ",
-        &["// Why.", "ensures b { c", "    ≡ d }", "", "ensures { e }"],
+        &[
+            "// Why.",
+            "ensures b { c",
+            "&#9;≡ d }",
+            "&#32;",
+            "ensures { e }",
+        ],
     );
     gives(
         "impl A {\n    /// Of a.\n    #[must_use]\n    pub fn a(&self) -> u8\n        // Why.\n        \

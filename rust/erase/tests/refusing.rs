@@ -139,11 +139,6 @@ const REFUSED: &[(&str, usize, &str)] = &[
         1,
         "several functions `a`, of which some have a condition",
     ),
-    (
-        "/// Of a.\npub fn a()\n    ensures { \"```\" }\n{\n}\n",
-        3,
-        "a clause that ends its block of docs",
-    ),
     // Blocks and signs.
     (
         "fn a() {\n    b();\n    proof { c }\n}\n",

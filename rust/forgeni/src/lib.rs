@@ -14,6 +14,10 @@ extern crate std;
 mod blocks;
 mod cloning;
 mod component;
+// Definitions, for those who read the docs. There is nothing to compile in it.
+#[cfg(doc)]
+#[rustfmt::skip]
+pub mod contracts;
 #[cfg(feature = "programs")]
 #[path = "../drawing/mod.rs"]
 mod drawing;

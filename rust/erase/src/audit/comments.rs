@@ -17,18 +17,18 @@ impl Audit<'_> {
             let text = match line {
                 Line::Comment(text) => text,
                 Line::Clause(text) => {
-                    clauses.push_str(text);
+                    clauses.push_str(&text);
                     clauses.push('\n');
                     continue;
                 }
             };
-            let is_same = |old: &Comment<'_>| self.led(old.text) == *text;
+            let is_same = |old: &Comment<'_>| self.led(old.text) == text;
             match wanted[next..].iter().position(is_same) {
                 Some(passed) => {
                     self.only_ghost(&wanted[next..next + passed])?;
                     next += passed + 1;
                 }
-                None if is_docs(text) => {
+                None if is_docs(&text) => {
                     let what = format!("docs that the source doesn't have: `{text}`");
                     return Err(self.source.fault(0, what));
                 }

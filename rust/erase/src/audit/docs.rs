@@ -2,42 +2,41 @@
 
 use super::comments::Comment;
 use super::Audit;
-use crate::contracts::{begin, END};
+use crate::contracts::{without_links, BEGIN, END};
 use crate::source::Fault;
 
 /// A line of the result that isn't code.
-pub(super) enum Line<'a> {
+pub(super) enum Line {
     /// A comment of the source.
-    Comment(&'a str),
+    Comment(String),
     /// Of a clause.
-    Clause(&'a str),
+    Clause(String),
 }
 
 impl Audit<'_> {
     /// What stands in the comments of the result. Of docs with a contract it is what the lines of the
     /// contract have: they begin and end as they have to, and are those of the next function.
-    pub(super) fn lines<'b>(&self, comments: &'b [Comment<'b>]) -> Result<Vec<Line<'b>>, Fault> {
-        let (begin, end) = (begin(self.krate), END.map(str::to_owned));
+    pub(super) fn lines(&self, comments: &[Comment<'_>]) -> Result<Vec<Line>, Fault> {
         let mut lines = Vec::new();
         let mut at = 0;
         while at < comments.len() {
-            if !begins_with(&comments[at..], &begin) {
-                lines.push(Line::Comment(comments[at].text));
+            if !begins_with(&comments[at..], &BEGIN) {
+                lines.push(Line::Comment(comments[at].text.to_owned()));
                 at += 1;
                 continue;
             }
             let place = comments[at].next;
-            at += begin.len();
+            at += BEGIN.len();
             let mut clauses = String::new();
-            while at < comments.len() && !begins_with(&comments[at..], &end) {
-                let text = comments[at].text;
-                match text.strip_prefix("///").map(str::trim_start) {
+            while at < comments.len() && !begins_with(&comments[at..], &END) {
+                let clause = comments[at].text.strip_prefix("///").map(without_links);
+                match clause.as_deref().map(str::trim) {
                     Some(clause) if !clause.starts_with("//") => {
-                        lines.push(Line::Clause(clause));
+                        lines.push(Line::Clause(clause.to_owned()));
                         clauses.push_str(clause);
                         clauses.push('\n');
                     }
-                    own => lines.push(Line::Comment(own.unwrap_or(text))),
+                    own => lines.push(Line::Comment(own.unwrap_or(comments[at].text).to_owned())),
                 }
                 at += 1;
             }
@@ -72,8 +71,9 @@ impl Audit<'_> {
 }
 
 /// Whether docs begin with these lines.
-fn begins_with(comments: &[Comment<'_>], lines: &[String]) -> bool {
+fn begins_with(comments: &[Comment<'_>], lines: &[&str]) -> bool {
     let mut pairs = comments.iter().zip(lines);
+    let led = |line: &str| format!("/// {line}").replace("](forgeni::", "](crate::");
     comments.len() >= lines.len()
-        && pairs.all(|(comment, line)| comment.text == format!("/// {line}").trim_end())
+        && pairs.all(|(comment, line)| comment.text == led(line).trim_end())
 }

@@ -32,6 +32,16 @@
 pub trait Join {
     /// Calls both, side by side if it can, and returns when both have returned. It is best to call the second
     /// one in this thread at once: if there are more than two workers, that one calls `join` again.
+    ///
+    /// ```
+    /// # #[cfg(feature = "std")] {
+    /// use forgeni::{Join, StdThreads};
+    ///
+    /// let (mut low, mut high) = (0_u32, 0_u32);
+    /// StdThreads.join(&mut || low = (1..=50).sum(), &mut || high = (51..=100).sum());
+    /// assert_eq!(low + high, 5_050);
+    /// # }
+    /// ```
     fn join(&self, first: &mut (dyn FnMut() + Send), second: &mut (dyn FnMut() + Send));
 }
 

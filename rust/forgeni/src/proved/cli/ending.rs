@@ -22,14 +22,12 @@ const DEVICE: u8 = 4;
 ///
 /// <details><summary>Contract</summary>
 ///
-/// In the words of the folder `specs/` of crate `cli`:
-///
-/// ```text
+/// <code style="display: block; tab-size: 4; white-space: pre-wrap">// In the words of [contracts](crate::contracts):
 /// ensures status { result ≡ status }
 /// ensures quiet { result ≤ 2 → errors.new ≡ errors.old }
 /// ensures said { E.failures errors.new ≡ E.failures errors.old
-///     → Appends (E.written errors.old) (E.written errors.new) (said status) }
-/// ```
+/// &#9;→ Appends (E.written errors.old) (E.written errors.new) (said status) }
+/// </code>
 ///
 /// </details>
 #[inline]
@@ -48,16 +46,14 @@ pub fn finish<E: Sink>(errors: &mut E, status: u8) -> u8 {
 ///
 /// <details><summary>Contract</summary>
 ///
-/// In the words of the folder `specs/` of crate `cli`:
-///
-/// ```text
+/// <code style="display: block; tab-size: 4; white-space: pre-wrap">// In the words of [contracts](crate::contracts):
 /// ensures status { OnOk text (result ≡ 2) }
 /// ensures text_said { IfOk text (λ text. E.failures errors.new ≡ E.failures errors.old
-///     → Appends (E.written errors.old) (E.written errors.new) (string_bytes text)) }
+/// &#9;→ Appends (E.written errors.old) (E.written errors.new) (string_bytes text)) }
 /// ensures memory { OnErr text (result ≡ 3) }
 /// ensures memory_said { OnErr text (E.failures errors.new ≡ E.failures errors.old
-///     → Appends (E.written errors.old) (E.written errors.new) (codes "memory\n")) }
-/// ```
+/// &#9;→ Appends (E.written errors.old) (E.written errors.new) (codes \"memory\\n\")) }
+/// </code>
 ///
 /// </details>
 #[inline]
@@ -77,18 +73,16 @@ pub fn refuse_line<E: Sink>(text: Result<String, AllocError>, errors: &mut E) ->
 ///
 /// <details><summary>Contract</summary>
 ///
-/// In the words of the folder `specs/` of crate `cli`:
-///
-/// ```text
+/// <code style="display: block; tab-size: 4; white-space: pre-wrap">// In the words of [contracts](crate::contracts):
 /// ensures status { result ≡ words_status (error_kind error.now) }
 /// ensures memory_said { result ≡ 3 → E.failures errors.new ≡ E.failures errors.old
-///     → Appends (E.written errors.old) (E.written errors.new) (codes "memory\n") }
+/// &#9;→ Appends (E.written errors.old) (E.written errors.new) (codes \"memory\\n\") }
 /// ensures text_said { result ≡ 2 → E.failures errors.new ≡ E.failures errors.old
-///     → Appends (E.written errors.old) (E.written errors.new)
-///     (codes "error: invalid UTF-8 was detected in one or more arguments\n") }
+/// &#9;→ Appends (E.written errors.old) (E.written errors.new)
+/// &#9;(codes \"error: invalid UTF-8 was detected in one or more arguments\\n\") }
 /// ensures device_said { result ≡ 4 → E.failures errors.new ≡ E.failures errors.old
-///     → Appends (E.written errors.old) (E.written errors.new) (codes "device\n") }
-/// ```
+/// &#9;→ Appends (E.written errors.old) (E.written errors.new) (codes \"device\\n\") }
+/// </code>
 ///
 /// </details>
 #[inline]
@@ -108,16 +102,14 @@ pub fn refuse_words<E: Sink>(error: &io::Error, errors: &mut E) -> u8 {
 ///
 /// <details><summary>Contract</summary>
 ///
-/// In the words of the folder `specs/` of crate `cli`:
-///
-/// ```text
+/// <code style="display: block; tab-size: 4; white-space: pre-wrap">// In the words of [contracts](crate::contracts):
 /// ensures status { result ≡ name_status fault }
 /// ensures memory_said { result ≡ 3 → E.failures errors.new ≡ E.failures errors.old
-///     → Appends (E.written errors.old) (E.written errors.new) (codes "memory\n") }
+/// &#9;→ Appends (E.written errors.old) (E.written errors.new) (codes \"memory\\n\") }
 /// ensures text_said { result ≢ 3 → E.failures errors.new ≡ E.failures errors.old
-///     → Appends (E.written errors.old) (E.written errors.new)
-///     (refusal program.now name.now fault) }
-/// ```
+/// &#9;→ Appends (E.written errors.old) (E.written errors.new)
+/// &#9;(refusal program.now name.now fault) }
+/// </code>
 ///
 /// </details>
 #[inline]

@@ -15,17 +15,15 @@ use crate::kit::alloc::AllocError;
 ///
 /// <details><summary>Contract</summary>
 ///
-/// In the words of the folder `specs/` of crate `cli`:
-///
-/// ```text
+/// <code style="display: block; tab-size: 4; white-space: pre-wrap">// In the words of [contracts](crate::contracts):
 /// requires { F.IsAlwaysCallable is_line }
 /// ensures named { IfOk result (λ name. IfSome name (λ name.
-///     NamesFile (FnReturnsAt F.Fn is_line) string_bytes words.now name.now)) }
+/// &#9;NamesFile (FnReturnsAt F.Fn is_line) string_bytes words.now name.now)) }
 /// ensures none { result ≡ Ok None
-///     → NamesNone (FnReturnsAt F.Fn is_line) string_bytes words.now }
+/// &#9;→ NamesNone (FnReturnsAt F.Fn is_line) string_bytes words.now }
 /// ensures memory { IfErr result (λ error.
-///     IsUnknown (FnReturnsAt F.Fn is_line) words.now error) }
-/// ```
+/// &#9;IsUnknown (FnReturnsAt F.Fn is_line) words.now error) }
+/// </code>
 ///
 /// </details>
 #[inline]

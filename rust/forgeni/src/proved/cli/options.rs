@@ -8,12 +8,10 @@ use crate::kit::programs::clap::{Arg, ArgAction};
 ///
 /// <details><summary>Contract</summary>
 ///
-/// In the words of the folder `specs/` of crate `cli`:
-///
-/// ```text
+/// <code style="display: block; tab-size: 4; white-space: pre-wrap">// In the words of [contracts](crate::contracts):
 /// ensures rule { rule_of result ≡ number_option name.entry.now most default.entry.now }
 /// ensures own { result.global ≡ false }
-/// ```
+/// </code>
 ///
 /// </details>
 #[inline]
@@ -37,12 +35,10 @@ pub fn number_option<'a>(
 ///
 /// <details><summary>Contract</summary>
 ///
-/// In the words of the folder `specs/` of crate `cli`:
-///
-/// ```text
+/// <code style="display: block; tab-size: 4; white-space: pre-wrap">// In the words of [contracts](crate::contracts):
 /// ensures rule { rule_of result ≡ slots_option }
 /// ensures own { result.global ≡ false }
-/// ```
+/// </code>
 ///
 /// </details>
 #[inline]
@@ -59,12 +55,10 @@ pub fn slots_option<'a>() -> Arg<'a> {
 ///
 /// <details><summary>Contract</summary>
 ///
-/// In the words of the folder `specs/` of crate `cli`:
-///
-/// ```text
+/// <code style="display: block; tab-size: 4; white-space: pre-wrap">// In the words of [contracts](crate::contracts):
 /// ensures rule { rule_of result ≡ generations_option }
 /// ensures own { result.global ≡ false }
-/// ```
+/// </code>
 ///
 /// </details>
 #[inline]

@@ -16,11 +16,9 @@ use crate::kit::programs::env::Args;
 ///
 /// <details><summary>Contract</summary>
 ///
-/// In the words of the folder `specs/` of crate `cli`:
-///
-/// ```text
+/// <code style="display: block; tab-size: 4; white-space: pre-wrap">// In the words of [contracts](crate::contracts):
 /// ensures { IfOk result (λ others. others.items ≡ after_name (into_iter_items words)) }
-/// ```
+/// </code>
 ///
 /// </details>
 #[inline]

@@ -90,31 +90,29 @@ impl Entities {
     ///
     /// <details><summary>Contract</summary>
     ///
-    /// In the words of the folder `specs/` of crate `ent_alloc`:
-    ///
-    /// ```text
-    /// ensures listed { IfOk result (λ handles.
-    ///     handles.items ≡ listed self.old.allocator.made (take n self.old.allocator.pool)) }
-    /// ensures within { IfOk result (λ handles.
-    ///     All (IsWithin self.old.allocator.limits) handles.items) }
-    /// ensures enough { OnOk result (n ≤ length self.old.allocator.pool) }
-    /// ensures quota { IsErrOf result (failed.Quota (2 ^ 50 - self.old.allocator.asked))
-    ///     ↔ (2 ^ 50 < self.old.allocator.asked + n) }
-    /// ensures space { IsErrOf result (failed.Space n (length self.old.allocator.pool))
-    ///     → length self.old.allocator.pool < n }
-    /// ensures memory { IsErrOf result failed.Memory → 0 < n }
-    /// ensures space_first { IsErrOf result failed.Memory
-    ///     → n ≤ length self.old.allocator.pool }
-    /// ensures refused { IfErr result (λ why. (why ≡ failed.Memory)
-    ///     ⊎ ((why ≡ failed.Space n (length self.old.allocator.pool))
-    ///     ⊎ (why ≡ failed.Quota (2 ^ 50 - self.old.allocator.asked)))) }
-    /// ensures step { ¬ (IsErrOf result failed.Memory) → self.old.allocator.asked + n ≤ 2 ^ 50
-    ///     → self.new.allocator ≡ after_take self.old.allocator n }
-    /// ensures unchanged { IsErrOf result failed.Memory → self.new ≡ self.old }
-    /// ensures over { 2 ^ 50 < self.old.allocator.asked + n → self.new ≡ self.old }
+    /// <code style="display: block; tab-size: 4; white-space: pre-wrap">// In the words of [contracts](crate::contracts):
+    /// ensures listed { [IfOk](crate::contracts::logic#IfOk) result (λ handles.
+    /// &#9;handles.items ≡ [listed](crate::contracts::ent_alloc::sequential#listed) self.old.allocator.made ([take](crate::contracts::logic#take) n self.old.allocator.pool)) }
+    /// ensures within { [IfOk](crate::contracts::logic#IfOk) result (λ handles.
+    /// &#9;[All](crate::contracts::logic#All) ([IsWithin](crate::contracts::ent_alloc::sound#IsWithin) self.old.allocator.limits) handles.items) }
+    /// ensures enough { [OnOk](crate::contracts::logic#OnOk) result (n ≤ [length](crate::contracts::logic#length) self.old.allocator.pool) }
+    /// ensures quota { [IsErrOf](crate::contracts::logic#IsErrOf) result (failed.Quota (2 ^ 50 - self.old.allocator.asked))
+    /// &#9;↔ (2 ^ 50 \< self.old.allocator.asked + n) }
+    /// ensures space { [IsErrOf](crate::contracts::logic#IsErrOf) result (failed.Space n ([length](crate::contracts::logic#length) self.old.allocator.pool))
+    /// &#9;→ [length](crate::contracts::logic#length) self.old.allocator.pool \< n }
+    /// ensures memory { [IsErrOf](crate::contracts::logic#IsErrOf) result failed.Memory → 0 \< n }
+    /// ensures space_first { [IsErrOf](crate::contracts::logic#IsErrOf) result failed.Memory
+    /// &#9;→ n ≤ [length](crate::contracts::logic#length) self.old.allocator.pool }
+    /// ensures refused { [IfErr](crate::contracts::logic#IfErr) result (λ why. (why ≡ failed.Memory)
+    /// &#9;⊎ ((why ≡ failed.Space n ([length](crate::contracts::logic#length) self.old.allocator.pool))
+    /// &#9;⊎ (why ≡ failed.Quota (2 ^ 50 - self.old.allocator.asked)))) }
+    /// ensures step { ¬ ([IsErrOf](crate::contracts::logic#IsErrOf) result failed.Memory) → self.old.allocator.asked + n ≤ 2 ^ 50
+    /// &#9;→ self.new.allocator ≡ [after_take](crate::contracts::ent_alloc::sequential#after_take) self.old.allocator n }
+    /// ensures unchanged { [IsErrOf](crate::contracts::logic#IsErrOf) result failed.Memory → self.new ≡ self.old }
+    /// ensures over { 2 ^ 50 \< self.old.allocator.asked + n → self.new ≡ self.old }
     /// ensures rows { self.new.rows ≡ self.old.rows }
-    /// ensures rows_of_living { HasRowsOfLiving self.new }
-    /// ```
+    /// ensures rows_of_living { [HasRowsOfLiving](crate::contracts::ent_alloc::entities#HasRowsOfLiving) self.new }
+    /// </code>
     ///
     /// </details>
     #[inline]
@@ -155,33 +153,31 @@ impl Entities {
     ///
     /// <details><summary>Contract</summary>
     ///
-    /// In the words of the folder `specs/` of crate `ent_alloc`:
-    ///
-    /// ```text
-    /// ensures listed { OnOk result (handles.new.items ≡ handles.old.items
-    ///     ++ listed self.old.allocator.made (take n self.old.allocator.pool)) }
-    /// ensures within { OnOk result (All (IsWithin self.old.allocator.limits)
-    ///     (listed self.old.allocator.made (take n self.old.allocator.pool))) }
-    /// ensures enough { OnOk result (n ≤ length self.old.allocator.pool) }
-    /// ensures quota { IsErrOf result (failed.Quota (2 ^ 50 - self.old.allocator.asked))
-    ///     ↔ (2 ^ 50 < self.old.allocator.asked + n) }
-    /// ensures space { IsErrOf result (failed.Space n (length self.old.allocator.pool))
-    ///     → length self.old.allocator.pool < n }
-    /// ensures memory { IsErrOf result failed.Memory
-    ///     → vec_capacity handles.old < vec_len handles.old + n }
-    /// ensures space_first { IsErrOf result failed.Memory
-    ///     → n ≤ length self.old.allocator.pool }
-    /// ensures refused { IfErr result (λ why. (why ≡ failed.Memory)
-    ///     ⊎ ((why ≡ failed.Space n (length self.old.allocator.pool))
-    ///     ⊎ (why ≡ failed.Quota (2 ^ 50 - self.old.allocator.asked)))) }
-    /// ensures step { ¬ (IsErrOf result failed.Memory) → self.old.allocator.asked + n ≤ 2 ^ 50
-    ///     → self.new.allocator ≡ after_take self.old.allocator n }
-    /// ensures unchanged { IsErrOf result failed.Memory → self.new ≡ self.old }
-    /// ensures over { 2 ^ 50 < self.old.allocator.asked + n → self.new ≡ self.old }
-    /// ensures kept { OnErr result (handles.new.items ≡ handles.old.items) }
+    /// <code style="display: block; tab-size: 4; white-space: pre-wrap">// In the words of [contracts](crate::contracts):
+    /// ensures listed { [OnOk](crate::contracts::logic#OnOk) result (handles.new.items ≡ handles.old.items
+    /// &#9;++ [listed](crate::contracts::ent_alloc::sequential#listed) self.old.allocator.made ([take](crate::contracts::logic#take) n self.old.allocator.pool)) }
+    /// ensures within { [OnOk](crate::contracts::logic#OnOk) result ([All](crate::contracts::logic#All) ([IsWithin](crate::contracts::ent_alloc::sound#IsWithin) self.old.allocator.limits)
+    /// &#9;([listed](crate::contracts::ent_alloc::sequential#listed) self.old.allocator.made ([take](crate::contracts::logic#take) n self.old.allocator.pool))) }
+    /// ensures enough { [OnOk](crate::contracts::logic#OnOk) result (n ≤ [length](crate::contracts::logic#length) self.old.allocator.pool) }
+    /// ensures quota { [IsErrOf](crate::contracts::logic#IsErrOf) result (failed.Quota (2 ^ 50 - self.old.allocator.asked))
+    /// &#9;↔ (2 ^ 50 \< self.old.allocator.asked + n) }
+    /// ensures space { [IsErrOf](crate::contracts::logic#IsErrOf) result (failed.Space n ([length](crate::contracts::logic#length) self.old.allocator.pool))
+    /// &#9;→ [length](crate::contracts::logic#length) self.old.allocator.pool \< n }
+    /// ensures memory { [IsErrOf](crate::contracts::logic#IsErrOf) result failed.Memory
+    /// &#9;→ [vec_capacity](crate::contracts::logic#vec_capacity) handles.old \< [vec_len](crate::contracts::logic#vec_len) handles.old + n }
+    /// ensures space_first { [IsErrOf](crate::contracts::logic#IsErrOf) result failed.Memory
+    /// &#9;→ n ≤ [length](crate::contracts::logic#length) self.old.allocator.pool }
+    /// ensures refused { [IfErr](crate::contracts::logic#IfErr) result (λ why. (why ≡ failed.Memory)
+    /// &#9;⊎ ((why ≡ failed.Space n ([length](crate::contracts::logic#length) self.old.allocator.pool))
+    /// &#9;⊎ (why ≡ failed.Quota (2 ^ 50 - self.old.allocator.asked)))) }
+    /// ensures step { ¬ ([IsErrOf](crate::contracts::logic#IsErrOf) result failed.Memory) → self.old.allocator.asked + n ≤ 2 ^ 50
+    /// &#9;→ self.new.allocator ≡ [after_take](crate::contracts::ent_alloc::sequential#after_take) self.old.allocator n }
+    /// ensures unchanged { [IsErrOf](crate::contracts::logic#IsErrOf) result failed.Memory → self.new ≡ self.old }
+    /// ensures over { 2 ^ 50 \< self.old.allocator.asked + n → self.new ≡ self.old }
+    /// ensures kept { [OnErr](crate::contracts::logic#OnErr) result (handles.new.items ≡ handles.old.items) }
     /// ensures rows { self.new.rows ≡ self.old.rows }
-    /// ensures rows_of_living { HasRowsOfLiving self.new }
-    /// ```
+    /// ensures rows_of_living { [HasRowsOfLiving](crate::contracts::ent_alloc::entities#HasRowsOfLiving) self.new }
+    /// </code>
     ///
     /// </details>
     #[inline]

@@ -33,13 +33,11 @@ impl Entities {
     ///
     /// <details><summary>Contract</summary>
     ///
-    /// In the words of the folder `specs/` of crate `ent_alloc`:
-    ///
-    /// ```text
-    /// ensures ok { IfOk result (λ clone. clone ≡ self.now) }
-    /// ensures rows_of_living { IfOk result HasRowsOfLiving }
-    /// ensures memory { OnErr result (0 < self.now.allocator.made) }
-    /// ```
+    /// <code style="display: block; tab-size: 4; white-space: pre-wrap">// In the words of [contracts](crate::contracts):
+    /// ensures ok { [IfOk](crate::contracts::logic#IfOk) result (λ clone. clone ≡ self.now) }
+    /// ensures rows_of_living { [IfOk](crate::contracts::logic#IfOk) result [HasRowsOfLiving](crate::contracts::ent_alloc::entities#HasRowsOfLiving) }
+    /// ensures memory { [OnErr](crate::contracts::logic#OnErr) result (0 \< self.now.allocator.made) }
+    /// </code>
     ///
     /// </details>
     #[inline]
@@ -78,17 +76,15 @@ impl Entities {
     ///
     /// <details><summary>Contract</summary>
     ///
-    /// In the words of the folder `specs/` of crate `ent_alloc`:
-    ///
-    /// ```text
-    /// ensures ok { OnOk result (self.new ≡ source.now) }
-    /// ensures rows_of_living { HasRowsOfLiving self.new }
-    /// ensures err { OnErr result (self.new ≡ self.old) }
-    ///
+    /// <code style="display: block; tab-size: 4; white-space: pre-wrap">// In the words of [contracts](crate::contracts):
+    /// ensures ok { [OnOk](crate::contracts::logic#OnOk) result (self.new ≡ source.now) }
+    /// ensures rows_of_living { [HasRowsOfLiving](crate::contracts::ent_alloc::entities#HasRowsOfLiving) self.new }
+    /// ensures err { [OnErr](crate::contracts::logic#OnErr) result (self.new ≡ self.old) }
+    /// &#32;
     /// // It succeeds if the source has made no more slots, and no more of them wait.
-    /// ensures memory { OnErr result ((self.old.allocator.made < source.now.allocator.made)
-    ///     ⊎ (top self.old.allocator < top source.now.allocator)) }
-    /// ```
+    /// ensures memory { [OnErr](crate::contracts::logic#OnErr) result ((self.old.allocator.made \< source.now.allocator.made)
+    /// &#9;⊎ ([top](crate::contracts::ent_alloc::sequential#top) self.old.allocator \< [top](crate::contracts::ent_alloc::sequential#top) source.now.allocator)) }
+    /// </code>
     ///
     /// </details>
     #[inline]

@@ -21,15 +21,16 @@ use crate::handles::{Handle, OutOfMemory};
 /// use std::sync::RwLock;
 ///
 /// static ENTITIES: RwLock<Entities> = RwLock::new(Entities::new());
-/// let first = ENTITIES.write().unwrap().alloc()?;
-/// assert!(ENTITIES.read().unwrap().is_alive(first));
-/// # Ok::<(), forgeni::AllocError>(())
+/// let first = ENTITIES.write()?.alloc()?;
+/// assert!(ENTITIES.read()?.is_alive(first));
+/// # Ok::<(), Box<dyn std::error::Error>>(())
 /// ```
 ///
-/// Contracts see it as a state of the sequential allocator (`specs/Sequential`): the living
-/// handles, the pool of those that can be given, those that are reserved, and those that a refused
-/// request passed over. Beside it they see the rows that a program keeps with living handles
-/// (`specs/Entities`).
+/// Contracts see it as a state of the
+/// [sequential allocator](crate::contracts::ent_alloc::sequential#Allocator): the living handles,
+/// the pool of those that can be given, those that are reserved, and those that a refused request
+/// passed over. Beside it they see the [rows](crate::contracts::ent_alloc::entities#Entities) that
+/// a program keeps with living handles.
 pub struct Entities {
     pub(super) slots: Slots,
     pub(super) requests: Requests,
@@ -53,17 +54,15 @@ impl Entities {
     ///
     /// <details><summary>Contract</summary>
     ///
-    /// In the words of the folder `specs/` of crate `ent_alloc`:
-    ///
-    /// ```text
-    /// ensures allocator { result.allocator ≡ opening (without_placeholder limits) }
-    /// ensures rows { result.rows ≡ map.empty }
-    /// ensures rows_of_living { HasRowsOfLiving result }
-    ///
+    /// <code style="display: block; tab-size: 4; white-space: pre-wrap">// In the words of [contracts](crate::contracts):
+    /// ensures allocator { result.allocator ≡ [opening](crate::contracts::ent_alloc::sequential#opening) ([without_placeholder](crate::contracts::ent_alloc::limits#without_placeholder) limits) }
+    /// ensures rows { result.rows ≡ [map.empty](crate::contracts::logic#FinMap.empty) }
+    /// ensures rows_of_living { [HasRowsOfLiving](crate::contracts::ent_alloc::entities#HasRowsOfLiving) result }
+    /// &#32;
     /// // Whatever calls come then, no handle is given twice, and none that was given is given again.
-    /// ensures given_once { (steps : List Step) → IsRun result.allocator steps
-    ///     → AreSpent (after_run result.allocator steps) (given_in_run result.allocator steps) }
-    /// ```
+    /// ensures given_once { (steps : [List](crate::contracts::logic#List) [Step](crate::contracts::ent_alloc::runs#Step)) → [IsRun](crate::contracts::ent_alloc::runs#IsRun) result.allocator steps
+    /// &#9;→ [AreSpent](crate::contracts::ent_alloc::spent#AreSpent) ([after_run](crate::contracts::ent_alloc::runs#after_run) result.allocator steps) ([given_in_run](crate::contracts::ent_alloc::runs#given_in_run) result.allocator steps) }
+    /// </code>
     ///
     /// </details>
     #[must_use]
@@ -90,17 +89,15 @@ impl Entities {
     ///
     /// <details><summary>Contract</summary>
     ///
-    /// In the words of the folder `specs/` of crate `ent_alloc`:
-    ///
-    /// ```text
-    /// ensures allocator { result.allocator ≡ opening limits }
-    /// ensures rows { result.rows ≡ map.empty }
-    /// ensures rows_of_living { HasRowsOfLiving result }
-    ///
+    /// <code style="display: block; tab-size: 4; white-space: pre-wrap">// In the words of [contracts](crate::contracts):
+    /// ensures allocator { result.allocator ≡ [opening](crate::contracts::ent_alloc::sequential#opening) limits }
+    /// ensures rows { result.rows ≡ [map.empty](crate::contracts::logic#FinMap.empty) }
+    /// ensures rows_of_living { [HasRowsOfLiving](crate::contracts::ent_alloc::entities#HasRowsOfLiving) result }
+    /// &#32;
     /// // Whatever calls come then, no handle is given twice, and none that was given is given again.
-    /// ensures given_once { (steps : List Step) → IsRun result.allocator steps
-    ///     → AreSpent (after_run result.allocator steps) (given_in_run result.allocator steps) }
-    /// ```
+    /// ensures given_once { (steps : [List](crate::contracts::logic#List) [Step](crate::contracts::ent_alloc::runs#Step)) → [IsRun](crate::contracts::ent_alloc::runs#IsRun) result.allocator steps
+    /// &#9;→ [AreSpent](crate::contracts::ent_alloc::spent#AreSpent) ([after_run](crate::contracts::ent_alloc::runs#after_run) result.allocator steps) ([given_in_run](crate::contracts::ent_alloc::runs#given_in_run) result.allocator steps) }
+    /// </code>
     ///
     /// </details>
     #[must_use]
@@ -250,23 +247,21 @@ impl Entities {
     ///
     /// <details><summary>Contract</summary>
     ///
-    /// In the words of the folder `specs/` of crate `ent_alloc`:
-    ///
-    /// ```text
-    /// ensures ok { OnOk result (self.new.allocator ≡ after_flush self.old.allocator) }
+    /// <code style="display: block; tab-size: 4; white-space: pre-wrap">// In the words of [contracts](crate::contracts):
+    /// ensures ok { [OnOk](crate::contracts::logic#OnOk) result (self.new.allocator ≡ [after_flush](crate::contracts::ent_alloc::sequential#after_flush) self.old.allocator) }
     /// ensures rows { self.new.rows ≡ self.old.rows }
-    /// ensures born { OnOk result (out.new.items ≡ out.old.items ++ born self.old.allocator) }
-    /// ensures no_rows { OnOk result
-    ///     (All (λ h. map.get self.new.rows h ≡ None) (born self.old.allocator)) }
-    /// ensures rows_of_living { HasRowsOfLiving self.new }
-    /// ensures err { OnErr result (self.new ≡ self.old) }
-    /// ensures unchanged { OnErr result (out.new.items ≡ out.old.items) }
-    /// ensures capacity { OnErr result (vec_capacity out.new ≡ vec_capacity out.old) }
-    ///
+    /// ensures born { [OnOk](crate::contracts::logic#OnOk) result (out.new.items ≡ out.old.items ++ [born](crate::contracts::ent_alloc::sequential#born) self.old.allocator) }
+    /// ensures no_rows { [OnOk](crate::contracts::logic#OnOk) result
+    /// &#9;([All](crate::contracts::logic#All) (λ h. [map.get](crate::contracts::logic#FinMap.get) self.new.rows h ≡ [None](crate::contracts::logic#None)) ([born](crate::contracts::ent_alloc::sequential#born) self.old.allocator)) }
+    /// ensures rows_of_living { [HasRowsOfLiving](crate::contracts::ent_alloc::entities#HasRowsOfLiving) self.new }
+    /// ensures err { [OnErr](crate::contracts::logic#OnErr) result (self.new ≡ self.old) }
+    /// ensures unchanged { [OnErr](crate::contracts::logic#OnErr) result (out.new.items ≡ out.old.items) }
+    /// ensures capacity { [OnErr](crate::contracts::logic#OnErr) result ([vec_capacity](crate::contracts::logic#vec_capacity) out.new ≡ [vec_capacity](crate::contracts::logic#vec_capacity) out.old) }
+    /// &#32;
     /// // Memory runs out only for new slots, or for a list that lacks room.
-    /// ensures memory { OnErr result ((0 < made_at_flush self.old.allocator)
-    ///     ⊎ (vec_capacity out.old < vec_len out.old + length self.old.allocator.taken)) }
-    /// ```
+    /// ensures memory { [OnErr](crate::contracts::logic#OnErr) result ((0 \< [made_at_flush](crate::contracts::ent_alloc::sequential#made_at_flush) self.old.allocator)
+    /// &#9;⊎ ([vec_capacity](crate::contracts::logic#vec_capacity) out.old \< [vec_len](crate::contracts::logic#vec_len) out.old + [length](crate::contracts::logic#length) self.old.allocator.taken)) }
+    /// </code>
     ///
     /// </details>
     #[inline]
@@ -297,11 +292,9 @@ impl Entities {
     ///
     /// <details><summary>Contract</summary>
     ///
-    /// In the words of the folder `specs/` of crate `ent_alloc`:
-    ///
-    /// ```text
-    /// ensures { result ≡ set.contains self.now.allocator.live handle }
-    /// ```
+    /// <code style="display: block; tab-size: 4; white-space: pre-wrap">// In the words of [contracts](crate::contracts):
+    /// ensures { result ≡ [set.contains](crate::contracts::logic#FinSet.contains) self.now.allocator.live handle }
+    /// </code>
     ///
     /// </details>
     #[must_use]
@@ -327,11 +320,9 @@ impl Entities {
     ///
     /// <details><summary>Contract</summary>
     ///
-    /// In the words of the folder `specs/` of crate `ent_alloc`:
-    ///
-    /// ```text
-    /// ensures { result ≡ state_of self.now.allocator handle }
-    /// ```
+    /// <code style="display: block; tab-size: 4; white-space: pre-wrap">// In the words of [contracts](crate::contracts):
+    /// ensures { result ≡ [state_of](crate::contracts::ent_alloc::sequential#state_of) self.now.allocator handle }
+    /// </code>
     ///
     /// </details>
     #[must_use]
@@ -372,12 +363,10 @@ impl Entities {
     ///
     /// <details><summary>Contract</summary>
     ///
-    /// In the words of the folder `specs/` of crate `ent_alloc`:
-    ///
-    /// ```text
-    /// ensures { result ≡ (set.contains self.now.allocator.live handle
-    ///     || stands_in self.now.allocator.taken handle) }
-    /// ```
+    /// <code style="display: block; tab-size: 4; white-space: pre-wrap">// In the words of [contracts](crate::contracts):
+    /// ensures { result ≡ ([set.contains](crate::contracts::logic#FinSet.contains) self.now.allocator.live handle
+    /// &#9;\|\| [stands_in](crate::contracts::ent_alloc::sequential#stands_in) self.now.allocator.taken handle) }
+    /// </code>
     ///
     /// </details>
     #[must_use]
@@ -404,13 +393,11 @@ impl Entities {
     ///
     /// <details><summary>Contract</summary>
     ///
-    /// In the words of the folder `specs/` of crate `ent_alloc`:
-    ///
-    /// ```text
-    /// ensures living { set.from_list result ≡ self.now.allocator.live }
-    /// ensures rising { AllPairs (λ g h. g.index < h.index) result }
-    /// ensures count { length result ≡ set.len self.now.allocator.live }
-    /// ```
+    /// <code style="display: block; tab-size: 4; white-space: pre-wrap">// In the words of [contracts](crate::contracts):
+    /// ensures living { [set.from_list](crate::contracts::logic#FinSet.from_list) result ≡ self.now.allocator.live }
+    /// ensures rising { [AllPairs](crate::contracts::logic#AllPairs) (λ g h. g.index \< h.index) result }
+    /// ensures count { [length](crate::contracts::logic#length) result ≡ [set.len](crate::contracts::logic#FinSet.len) self.now.allocator.live }
+    /// </code>
     ///
     /// </details>
     #[inline]
@@ -438,12 +425,10 @@ impl Entities {
     ///
     /// <details><summary>Contract</summary>
     ///
-    /// In the words of the folder `specs/` of crate `ent_alloc`:
-    ///
-    /// ```text
-    /// ensures value { result ≡ map.get self.now.rows handle }
-    /// ensures alive { OnSome result (set.contains self.now.allocator.live handle ≡ true) }
-    /// ```
+    /// <code style="display: block; tab-size: 4; white-space: pre-wrap">// In the words of [contracts](crate::contracts):
+    /// ensures value { result ≡ [map.get](crate::contracts::logic#FinMap.get) self.now.rows handle }
+    /// ensures alive { [OnSome](crate::contracts::logic#OnSome) result ([set.contains](crate::contracts::logic#FinSet.contains) self.now.allocator.live handle ≡ [true](crate::contracts::logic#true)) }
+    /// </code>
     ///
     /// </details>
     #[must_use]
@@ -474,16 +459,14 @@ impl Entities {
     ///
     /// <details><summary>Contract</summary>
     ///
-    /// In the words of the folder `specs/` of crate `ent_alloc`:
-    ///
-    /// ```text
-    /// ensures row { OnOk result (self.new.rows ≡ map.insert self.old.rows handle row) }
-    /// ensures lives { OnOk result (set.contains self.old.allocator.live handle ≡ true) }
-    /// ensures absent { OnErr result (set.contains self.old.allocator.live handle ≡ false) }
-    /// ensures unchanged { OnErr result (self.new ≡ self.old) }
+    /// <code style="display: block; tab-size: 4; white-space: pre-wrap">// In the words of [contracts](crate::contracts):
+    /// ensures row { [OnOk](crate::contracts::logic#OnOk) result (self.new.rows ≡ [map.insert](crate::contracts::logic#FinMap.insert) self.old.rows handle row) }
+    /// ensures lives { [OnOk](crate::contracts::logic#OnOk) result ([set.contains](crate::contracts::logic#FinSet.contains) self.old.allocator.live handle ≡ [true](crate::contracts::logic#true)) }
+    /// ensures absent { [OnErr](crate::contracts::logic#OnErr) result ([set.contains](crate::contracts::logic#FinSet.contains) self.old.allocator.live handle ≡ [false](crate::contracts::logic#false)) }
+    /// ensures unchanged { [OnErr](crate::contracts::logic#OnErr) result (self.new ≡ self.old) }
     /// ensures allocator { self.new.allocator ≡ self.old.allocator }
-    /// ensures rows_of_living { HasRowsOfLiving self.new }
-    /// ```
+    /// ensures rows_of_living { [HasRowsOfLiving](crate::contracts::ent_alloc::entities#HasRowsOfLiving) self.new }
+    /// </code>
     ///
     /// </details>
     #[inline]
@@ -514,13 +497,11 @@ impl Entities {
     ///
     /// <details><summary>Contract</summary>
     ///
-    /// In the words of the folder `specs/` of crate `ent_alloc`:
-    ///
-    /// ```text
-    /// ensures found { IfSome result (λ place.
-    ///     slice_get (available self.now.allocator) place ≡ Some handle) }
-    /// ensures none { IfNone result (stands_in (available self.now.allocator) handle ≡ false) }
-    /// ```
+    /// <code style="display: block; tab-size: 4; white-space: pre-wrap">// In the words of [contracts](crate::contracts):
+    /// ensures found { [IfSome](crate::contracts::logic#IfSome) result (λ place.
+    /// &#9;[slice_get](crate::contracts::logic#slice_get) ([available](crate::contracts::ent_alloc::sequential#available) self.now.allocator) place ≡ [Some](crate::contracts::logic#Some) handle) }
+    /// ensures none { [IfNone](crate::contracts::logic#IfNone) result ([stands_in](crate::contracts::ent_alloc::sequential#stands_in) ([available](crate::contracts::ent_alloc::sequential#available) self.now.allocator) handle ≡ [false](crate::contracts::logic#false)) }
+    /// </code>
     ///
     /// </details>
     #[must_use]
@@ -560,11 +541,9 @@ impl Entities {
     ///
     /// <details><summary>Contract</summary>
     ///
-    /// In the words of the folder `specs/` of crate `ent_alloc`:
-    ///
-    /// ```text
-    /// ensures { result ≡ set.len self.now.allocator.live }
-    /// ```
+    /// <code style="display: block; tab-size: 4; white-space: pre-wrap">// In the words of [contracts](crate::contracts):
+    /// ensures { result ≡ [set.len](crate::contracts::logic#FinSet.len) self.now.allocator.live }
+    /// </code>
     ///
     /// </details>
     #[must_use]
@@ -589,11 +568,9 @@ impl Entities {
     ///
     /// <details><summary>Contract</summary>
     ///
-    /// In the words of the folder `specs/` of crate `ent_alloc`:
-    ///
-    /// ```text
-    /// ensures { IsTrue result ↔ (set.len self.now.allocator.live ≡ 0) }
-    /// ```
+    /// <code style="display: block; tab-size: 4; white-space: pre-wrap">// In the words of [contracts](crate::contracts):
+    /// ensures { [IsTrue](crate::contracts::logic#IsTrue) result ↔ ([set.len](crate::contracts::logic#FinSet.len) self.now.allocator.live ≡ 0) }
+    /// </code>
     ///
     /// </details>
     #[must_use]
@@ -618,11 +595,9 @@ impl Entities {
     ///
     /// <details><summary>Contract</summary>
     ///
-    /// In the words of the folder `specs/` of crate `ent_alloc`:
-    ///
-    /// ```text
-    /// ensures { result ≡ length self.now.allocator.taken }
-    /// ```
+    /// <code style="display: block; tab-size: 4; white-space: pre-wrap">// In the words of [contracts](crate::contracts):
+    /// ensures { result ≡ [length](crate::contracts::logic#length) self.now.allocator.taken }
+    /// </code>
     ///
     /// </details>
     #[must_use]
@@ -647,11 +622,9 @@ impl Entities {
     ///
     /// <details><summary>Contract</summary>
     ///
-    /// In the words of the folder `specs/` of crate `ent_alloc`:
-    ///
-    /// ```text
-    /// ensures { IsTrue result ↔ (0 < self.now.allocator.asked) }
-    /// ```
+    /// <code style="display: block; tab-size: 4; white-space: pre-wrap">// In the words of [contracts](crate::contracts):
+    /// ensures { [IsTrue](crate::contracts::logic#IsTrue) result ↔ (0 \< self.now.allocator.asked) }
+    /// </code>
     ///
     /// </details>
     #[must_use]
@@ -676,15 +649,13 @@ impl Entities {
     ///
     /// <details><summary>Contract</summary>
     ///
-    /// In the words of the folder `specs/` of crate `ent_alloc`:
-    ///
-    /// ```text
-    /// ensures value { result ≡ retired self.now.allocator }
-    ///
+    /// <code style="display: block; tab-size: 4; white-space: pre-wrap">// In the words of [contracts](crate::contracts):
+    /// ensures value { result ≡ [retired](crate::contracts::ent_alloc::sequential#retired) self.now.allocator }
+    /// &#32;
     /// // Each slot that was made has a living occupant, waits for the next one, or is retired.
-    /// ensures rest { set.len self.now.allocator.live + top self.now.allocator + result
-    ///     ≡ self.now.allocator.made }
-    /// ```
+    /// ensures rest { [set.len](crate::contracts::logic#FinSet.len) self.now.allocator.live + [top](crate::contracts::ent_alloc::sequential#top) self.now.allocator + result
+    /// &#9;≡ self.now.allocator.made }
+    /// </code>
     ///
     /// </details>
     #[must_use]
@@ -709,11 +680,9 @@ impl Entities {
     ///
     /// <details><summary>Contract</summary>
     ///
-    /// In the words of the folder `specs/` of crate `ent_alloc`:
-    ///
-    /// ```text
+    /// <code style="display: block; tab-size: 4; white-space: pre-wrap">// In the words of [contracts](crate::contracts):
     /// ensures { result ≡ self.now.allocator.made }
-    /// ```
+    /// </code>
     ///
     /// </details>
     #[must_use]
@@ -736,11 +705,9 @@ impl Entities {
     ///
     /// <details><summary>Contract</summary>
     ///
-    /// In the words of the folder `specs/` of crate `ent_alloc`:
-    ///
-    /// ```text
-    /// ensures { result ≡ slots_after_flush self.now.allocator }
-    /// ```
+    /// <code style="display: block; tab-size: 4; white-space: pre-wrap">// In the words of [contracts](crate::contracts):
+    /// ensures { result ≡ [slots_after_flush](crate::contracts::ent_alloc::within#slots_after_flush) self.now.allocator }
+    /// </code>
     ///
     /// </details>
     #[must_use]
@@ -762,11 +729,9 @@ impl Entities {
     ///
     /// <details><summary>Contract</summary>
     ///
-    /// In the words of the folder `specs/` of crate `ent_alloc`:
-    ///
-    /// ```text
+    /// <code style="display: block; tab-size: 4; white-space: pre-wrap">// In the words of [contracts](crate::contracts):
     /// ensures { result ≡ self.now.allocator.limits.slots - self.now.allocator.made }
-    /// ```
+    /// </code>
     ///
     /// </details>
     #[must_use]
@@ -791,11 +756,9 @@ impl Entities {
     ///
     /// <details><summary>Contract</summary>
     ///
-    /// In the words of the folder `specs/` of crate `ent_alloc`:
-    ///
-    /// ```text
-    /// ensures { result ≡ top self.now.allocator }
-    /// ```
+    /// <code style="display: block; tab-size: 4; white-space: pre-wrap">// In the words of [contracts](crate::contracts):
+    /// ensures { result ≡ [top](crate::contracts::ent_alloc::sequential#top) self.now.allocator }
+    /// </code>
     ///
     /// </details>
     #[must_use]
@@ -822,16 +785,14 @@ impl Entities {
     ///
     /// <details><summary>Contract</summary>
     ///
-    /// In the words of the folder `specs/` of crate `ent_alloc`:
-    ///
-    /// ```text
-    /// ensures value { result ≡ cursor self.now.allocator }
-    ///
+    /// <code style="display: block; tab-size: 4; white-space: pre-wrap">// In the words of [contracts](crate::contracts):
+    /// ensures value { result ≡ [cursor](crate::contracts::ent_alloc::sequential#cursor) self.now.allocator }
+    /// &#32;
     /// // What is true of every state, as that no slot has two handles among the living and those
     /// // to be given.
-    /// ensures sound { IsSound self.now.allocator }
-    /// ensures rows_of_living { HasRowsOfLiving self.now }
-    /// ```
+    /// ensures sound { [IsSound](crate::contracts::ent_alloc::sound#IsSound) self.now.allocator }
+    /// ensures rows_of_living { [HasRowsOfLiving](crate::contracts::ent_alloc::entities#HasRowsOfLiving) self.now }
+    /// </code>
     ///
     /// </details>
     #[must_use]
@@ -854,12 +815,10 @@ impl Entities {
     ///
     /// <details><summary>Contract</summary>
     ///
-    /// In the words of the folder `specs/` of crate `ent_alloc`:
-    ///
-    /// ```text
+    /// <code style="display: block; tab-size: 4; white-space: pre-wrap">// In the words of [contracts](crate::contracts):
     /// ensures value { result ≡ self.now.allocator.asked }
     /// ensures within { result ≤ 2 ^ 50 }
-    /// ```
+    /// </code>
     ///
     /// </details>
     #[must_use]
@@ -874,11 +833,9 @@ impl Entities {
     ///
     /// <details><summary>Contract</summary>
     ///
-    /// In the words of the folder `specs/` of crate `ent_alloc`:
-    ///
-    /// ```text
+    /// <code style="display: block; tab-size: 4; white-space: pre-wrap">// In the words of [contracts](crate::contracts):
     /// ensures { result ≡ self.now.allocator.limits }
-    /// ```
+    /// </code>
     ///
     /// </details>
     #[must_use]

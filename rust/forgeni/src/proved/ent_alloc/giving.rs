@@ -34,31 +34,29 @@ impl Entities {
     ///
     /// <details><summary>Contract</summary>
     ///
-    /// In the words of the folder `specs/` of crate `ent_alloc`:
-    ///
-    /// ```text
-    /// ensures handles { IfOk result (λ handles. handles.items ≡ take n self.old.allocator.pool) }
-    /// ensures within { IfOk result (λ handles.
-    ///     All (IsWithin self.old.allocator.limits) handles.items) }
-    /// ensures enough { OnOk result (n ≤ length self.old.allocator.pool) }
-    ///
-    /// // The state is that after as many single calls, and also that after a request for `n`
+    /// <code style="display: block; tab-size: 4; white-space: pre-wrap">// In the words of [contracts](crate::contracts):
+    /// ensures handles { [IfOk](crate::contracts::logic#IfOk) result (λ handles. handles.items ≡ [take](crate::contracts::logic#take) n self.old.allocator.pool) }
+    /// ensures within { [IfOk](crate::contracts::logic#IfOk) result (λ handles.
+    /// &#9;[All](crate::contracts::logic#All) ([IsWithin](crate::contracts::ent_alloc::sound#IsWithin) self.old.allocator.limits) handles.items) }
+    /// ensures enough { [OnOk](crate::contracts::logic#OnOk) result (n ≤ [length](crate::contracts::logic#length) self.old.allocator.pool) }
+    /// &#32;
+    /// // The state is that after as many single calls, and also that after a request for \`n\`
     /// // handles and a flush.
-    /// ensures calls { OnOk result (self.new.allocator
-    ///     ≡ after_allocs self.old.allocator (take n self.old.allocator.pool)) }
-    /// ensures ok { OnOk result
-    ///     (self.new.allocator ≡ after_flush (after_take self.old.allocator n)) }
+    /// ensures calls { [OnOk](crate::contracts::logic#OnOk) result (self.new.allocator
+    /// &#9;≡ [after_allocs](crate::contracts::ent_alloc::sequential#after_allocs) self.old.allocator ([take](crate::contracts::logic#take) n self.old.allocator.pool)) }
+    /// ensures ok { [OnOk](crate::contracts::logic#OnOk) result
+    /// &#9;(self.new.allocator ≡ [after_flush](crate::contracts::ent_alloc::sequential#after_flush) ([after_take](crate::contracts::ent_alloc::sequential#after_take) self.old.allocator n)) }
     /// ensures rows { self.new.rows ≡ self.old.rows }
-    /// ensures no_rows { OnOk result
-    ///     (All (λ h. map.get self.new.rows h ≡ None) (take n self.old.allocator.pool)) }
-    /// ensures rows_of_living { HasRowsOfLiving self.new }
-    /// ensures needs_flush { IsErrOf result AllocError.NeedsFlush
-    ///     ↔ (0 < self.old.allocator.asked) }
-    /// ensures space { IsErrOf result AllocError.Space
-    ///     ↔ ((self.old.allocator.asked ≡ 0) × (length self.old.allocator.pool < n)) }
-    /// ensures memory { IsErrOf result AllocError.Memory → 0 < n }
-    /// ensures err { OnErr result (self.new ≡ self.old) }
-    /// ```
+    /// ensures no_rows { [OnOk](crate::contracts::logic#OnOk) result
+    /// &#9;([All](crate::contracts::logic#All) (λ h. [map.get](crate::contracts::logic#FinMap.get) self.new.rows h ≡ [None](crate::contracts::logic#None)) ([take](crate::contracts::logic#take) n self.old.allocator.pool)) }
+    /// ensures rows_of_living { [HasRowsOfLiving](crate::contracts::ent_alloc::entities#HasRowsOfLiving) self.new }
+    /// ensures needs_flush { [IsErrOf](crate::contracts::logic#IsErrOf) result AllocError.NeedsFlush
+    /// &#9;↔ (0 \< self.old.allocator.asked) }
+    /// ensures space { [IsErrOf](crate::contracts::logic#IsErrOf) result AllocError.Space
+    /// &#9;↔ ((self.old.allocator.asked ≡ 0) × ([length](crate::contracts::logic#length) self.old.allocator.pool \< n)) }
+    /// ensures memory { [IsErrOf](crate::contracts::logic#IsErrOf) result AllocError.Memory → 0 \< n }
+    /// ensures err { [OnErr](crate::contracts::logic#OnErr) result (self.new ≡ self.old) }
+    /// </code>
     ///
     /// </details>
     #[inline]

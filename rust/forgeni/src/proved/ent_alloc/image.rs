@@ -171,22 +171,20 @@ impl Entities {
     ///
     /// <details><summary>Contract</summary>
     ///
-    /// In the words of the folder `specs/` of crate `ent_alloc`:
-    ///
-    /// ```text
-    /// ensures written { OnOk result (out.new.items ≡ out.old.items ++ image self.now) }
-    ///
-    /// // What was written is an image as `read_image` asks: `exact` says that it is read as this
+    /// <code style="display: block; tab-size: 4; white-space: pre-wrap">// In the words of [contracts](crate::contracts):
+    /// ensures written { [OnOk](crate::contracts::logic#OnOk) result (out.new.items ≡ out.old.items ++ [image](crate::contracts::ent_alloc::image#image) self.now) }
+    /// &#32;
+    /// // What was written is an image as \`read_image\` asks: \`exact\` says that it is read as this
     /// // allocator. No two states have one image.
-    /// ensures has_image { OnOk result (HasImage self.now) }
-    /// ensures alone { (d e : Entities) → HasImage d → HasImage e → image d ≡ image e → d ≡ e }
-    /// ensures unchanged { OnErr result (out.new.items ≡ out.old.items) }
-    /// ensures capacity { OnErr result (vec_capacity out.new ≡ vec_capacity out.old) }
-    ///
+    /// ensures has_image { [OnOk](crate::contracts::logic#OnOk) result ([HasImage](crate::contracts::ent_alloc::image#HasImage) self.now) }
+    /// ensures alone { (d e : [Entities](crate::contracts::ent_alloc::entities#Entities)) → [HasImage](crate::contracts::ent_alloc::image#HasImage) d → [HasImage](crate::contracts::ent_alloc::image#HasImage) e → [image](crate::contracts::ent_alloc::image#image) d ≡ [image](crate::contracts::ent_alloc::image#image) e → d ≡ e }
+    /// ensures unchanged { [OnErr](crate::contracts::logic#OnErr) result (out.new.items ≡ out.old.items) }
+    /// ensures capacity { [OnErr](crate::contracts::logic#OnErr) result ([vec_capacity](crate::contracts::logic#vec_capacity) out.new ≡ [vec_capacity](crate::contracts::logic#vec_capacity) out.old) }
+    /// &#32;
     /// // Memory runs out only for a list that lacks room.
-    /// ensures memory { OnErr result
-    ///     (vec_capacity out.old < vec_len out.old + (40 + 12 * self.now.allocator.made)) }
-    /// ```
+    /// ensures memory { [OnErr](crate::contracts::logic#OnErr) result
+    /// &#9;([vec_capacity](crate::contracts::logic#vec_capacity) out.old \< [vec_len](crate::contracts::logic#vec_len) out.old + (40 + 12 \* self.now.allocator.made)) }
+    /// </code>
     ///
     /// </details>
     #[inline]
@@ -245,40 +243,38 @@ impl Entities {
     ///
     /// <details><summary>Contract</summary>
     ///
-    /// In the words of the folder `specs/` of crate `ent_alloc`:
-    ///
-    /// ```text
-    /// ensures found { IfOk result (λ e. image e ≡ bytes.now) }
-    /// ensures has_image { IfOk result HasImage }
-    ///
+    /// <code style="display: block; tab-size: 4; white-space: pre-wrap">// In the words of [contracts](crate::contracts):
+    /// ensures found { [IfOk](crate::contracts::logic#IfOk) result (λ e. [image](crate::contracts::ent_alloc::image#image) e ≡ bytes.now) }
+    /// ensures has_image { [IfOk](crate::contracts::logic#IfOk) result [HasImage](crate::contracts::ent_alloc::image#HasImage) }
+    /// &#32;
     /// // What is refused is the image of no allocator.
-    /// ensures refused { IfErr result (λ fault. fault ≢ ImageFault.Memory → (e : Entities)
-    ///     → HasImage e → image e ≢ bytes.now) }
-    ///
+    /// ensures refused { [IfErr](crate::contracts::logic#IfErr) result (λ fault. fault ≢ ImageFault.Memory → (e : [Entities](crate::contracts::ent_alloc::entities#Entities))
+    /// &#9;→ [HasImage](crate::contracts::ent_alloc::image#HasImage) e → [image](crate::contracts::ent_alloc::image#image) e ≢ bytes.now) }
+    /// &#32;
     /// // It is refused for the first fault of the bytes, and what has none is read.
-    /// ensures fault { IfErr result (λ fault. fault ≢ ImageFault.Memory
-    ///     → first_fault bytes.now ≡ Some fault) }
-    /// ensures faultless { OnOk result (first_fault bytes.now ≡ None) }
-    ///
+    /// ensures fault { [IfErr](crate::contracts::logic#IfErr) result (λ fault. fault ≢ ImageFault.Memory
+    /// &#9;→ [first_fault](crate::contracts::ent_alloc::first_fault#first_fault) bytes.now ≡ [Some](crate::contracts::logic#Some) fault) }
+    /// ensures faultless { [OnOk](crate::contracts::logic#OnOk) result ([first_fault](crate::contracts::ent_alloc::first_fault#first_fault) bytes.now ≡ [None](crate::contracts::logic#None)) }
+    /// &#32;
     /// // Memory is asked for only after all before the slots was found faultless, the number of bytes
     /// // too, and only if there are slots. What is kept has no more bytes than the slots.
-    /// ensures memory { IfErr result (λ fault. fault ≡ ImageFault.Memory
-    ///     → header_fault bytes.now ≡ None) }
-    /// ensures slots { IfErr result (λ fault. fault ≡ ImageFault.Memory
-    ///     → 40 < length bytes.now) }
-    /// ensures bound { IfOk result (λ e. 40 + kept_bytes e.allocator ≤ length bytes.now) }
-    ///
+    /// ensures memory { [IfErr](crate::contracts::logic#IfErr) result (λ fault. fault ≡ ImageFault.Memory
+    /// &#9;→ [header_fault](crate::contracts::ent_alloc::first_fault#header_fault) bytes.now ≡ [None](crate::contracts::logic#None)) }
+    /// ensures slots { [IfErr](crate::contracts::logic#IfErr) result (λ fault. fault ≡ ImageFault.Memory
+    /// &#9;→ 40 \< [length](crate::contracts::logic#length) bytes.now) }
+    /// ensures bound { [IfOk](crate::contracts::logic#IfOk) result (λ e. 40 + [kept_bytes](crate::contracts::ent_alloc::image#kept_bytes) e.allocator ≤ [length](crate::contracts::logic#length) bytes.now) }
+    /// &#32;
     /// // The image of an allocator is read as this allocator, unless memory runs out.
-    /// ensures exact { (e : Entities) → HasImage e → image e ≡ bytes.now
-    ///     → (result ≡ Ok e) ⊎ (result ≡ Err ImageFault.Memory) }
-    ///
+    /// ensures exact { (e : [Entities](crate::contracts::ent_alloc::entities#Entities)) → [HasImage](crate::contracts::ent_alloc::image#HasImage) e → [image](crate::contracts::ent_alloc::image#image) e ≡ bytes.now
+    /// &#9;→ (result ≡ [Ok](crate::contracts::logic#Ok) e) ⊎ (result ≡ [Err](crate::contracts::logic#Err) ImageFault.Memory) }
+    /// &#32;
     /// // Of what was given before the image was written, nothing is given again, whatever calls come
     /// // after it is read. Nor is anything given twice by these.
-    /// ensures given_once { (e : Entities) (given : List Handle) → HasImage e
-    ///     → image e ≡ bytes.now → AreSpent e.allocator given → IfOk result (λ r.
-    ///     (steps : List Step) → IsRun r.allocator steps → AreSpent
-    ///     (after_run r.allocator steps) (given ++ given_in_run r.allocator steps)) }
-    /// ```
+    /// ensures given_once { (e : [Entities](crate::contracts::ent_alloc::entities#Entities)) (given : [List](crate::contracts::logic#List) [Handle](crate::contracts::ent_handle::handle#Handle)) → [HasImage](crate::contracts::ent_alloc::image#HasImage) e
+    /// &#9;→ [image](crate::contracts::ent_alloc::image#image) e ≡ bytes.now → [AreSpent](crate::contracts::ent_alloc::spent#AreSpent) e.allocator given → [IfOk](crate::contracts::logic#IfOk) result (λ r.
+    /// &#9;(steps : [List](crate::contracts::logic#List) [Step](crate::contracts::ent_alloc::runs#Step)) → [IsRun](crate::contracts::ent_alloc::runs#IsRun) r.allocator steps → [AreSpent](crate::contracts::ent_alloc::spent#AreSpent)
+    /// &#9;([after_run](crate::contracts::ent_alloc::runs#after_run) r.allocator steps) (given ++ [given_in_run](crate::contracts::ent_alloc::runs#given_in_run) r.allocator steps)) }
+    /// </code>
     ///
     /// </details>
     #[inline]
@@ -313,32 +309,30 @@ impl Entities {
     ///
     /// <details><summary>Contract</summary>
     ///
-    /// In the words of the folder `specs/` of crate `ent_alloc`:
-    ///
-    /// ```text
-    /// ensures found { IfOk result (λ e. image e ≡ bytes.now) }
-    /// ensures has_image { IfOk result HasImage }
-    ///
+    /// <code style="display: block; tab-size: 4; white-space: pre-wrap">// In the words of [contracts](crate::contracts):
+    /// ensures found { [IfOk](crate::contracts::logic#IfOk) result (λ e. [image](crate::contracts::ent_alloc::image#image) e ≡ bytes.now) }
+    /// ensures has_image { [IfOk](crate::contracts::logic#IfOk) result [HasImage](crate::contracts::ent_alloc::image#HasImage) }
+    /// &#32;
     /// // A flush of what is read leaves no more slots than are allowed.
-    /// ensures within { IfOk result (λ e. slots_after_flush e.allocator ≤ most) }
-    ///
+    /// ensures within { [IfOk](crate::contracts::logic#IfOk) result (λ e. [slots_after_flush](crate::contracts::ent_alloc::within#slots_after_flush) e.allocator ≤ most) }
+    /// &#32;
     /// // The image of an allocator is read as this allocator, unless memory runs out, exactly if it has
     /// // no more slots then.
-    /// ensures exact { (e : Entities) → HasImage e → image e ≡ bytes.now
-    ///     → (result ≡ within most e) ⊎ (result ≡ Err ImageFault.Memory) }
-    ///
+    /// ensures exact { (e : [Entities](crate::contracts::ent_alloc::entities#Entities)) → [HasImage](crate::contracts::ent_alloc::image#HasImage) e → [image](crate::contracts::ent_alloc::image#image) e ≡ bytes.now
+    /// &#9;→ (result ≡ [within](crate::contracts::ent_alloc::within#within) most e) ⊎ (result ≡ [Err](crate::contracts::logic#Err) ImageFault.Memory) }
+    /// &#32;
     /// // Else it is refused for the first fault of the bytes, or for the bound if they have none.
-    /// ensures fault { IfErr result (λ fault. fault ≢ ImageFault.Memory
-    ///     → (first_fault bytes.now ≡ Some fault) ⊎ IsBeyond bytes.now most fault) }
-    /// ensures faultless { OnOk result (first_fault bytes.now ≡ None) }
-    ///
-    /// // It asks for no more memory than `read_image`.
-    /// ensures memory { IfErr result (λ fault. fault ≡ ImageFault.Memory
-    ///     → header_fault bytes.now ≡ None) }
-    /// ensures slots { IfErr result (λ fault. fault ≡ ImageFault.Memory
-    ///     → 40 < length bytes.now) }
-    /// ensures bound { IfOk result (λ e. 40 + kept_bytes e.allocator ≤ length bytes.now) }
-    /// ```
+    /// ensures fault { [IfErr](crate::contracts::logic#IfErr) result (λ fault. fault ≢ ImageFault.Memory
+    /// &#9;→ ([first_fault](crate::contracts::ent_alloc::first_fault#first_fault) bytes.now ≡ [Some](crate::contracts::logic#Some) fault) ⊎ [IsBeyond](crate::contracts::ent_alloc::within#IsBeyond) bytes.now most fault) }
+    /// ensures faultless { [OnOk](crate::contracts::logic#OnOk) result ([first_fault](crate::contracts::ent_alloc::first_fault#first_fault) bytes.now ≡ [None](crate::contracts::logic#None)) }
+    /// &#32;
+    /// // It asks for no more memory than \`read_image\`.
+    /// ensures memory { [IfErr](crate::contracts::logic#IfErr) result (λ fault. fault ≡ ImageFault.Memory
+    /// &#9;→ [header_fault](crate::contracts::ent_alloc::first_fault#header_fault) bytes.now ≡ [None](crate::contracts::logic#None)) }
+    /// ensures slots { [IfErr](crate::contracts::logic#IfErr) result (λ fault. fault ≡ ImageFault.Memory
+    /// &#9;→ 40 \< [length](crate::contracts::logic#length) bytes.now) }
+    /// ensures bound { [IfOk](crate::contracts::logic#IfOk) result (λ e. 40 + [kept_bytes](crate::contracts::ent_alloc::image#kept_bytes) e.allocator ≤ [length](crate::contracts::logic#length) bytes.now) }
+    /// </code>
     ///
     /// </details>
     #[inline]

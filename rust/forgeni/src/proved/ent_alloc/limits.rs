@@ -44,14 +44,12 @@ impl Limits {
     ///
     /// <details><summary>Contract</summary>
     ///
-    /// In the words of the folder `specs/` of crate `ent_alloc`:
-    ///
-    /// ```text
-    /// ensures in_range { IsSome result
-    ///     ↔ AreLimits (record { slots = slots; generations = generations }) }
-    /// ensures value { IfSome result (λ limits.
-    ///     limits ≡ record { slots = slots; generations = generations }) }
-    /// ```
+    /// <code style="display: block; tab-size: 4; white-space: pre-wrap">// In the words of [contracts](crate::contracts):
+    /// ensures in_range { [IsSome](crate::contracts::logic#IsSome) result
+    /// &#9;↔ [AreLimits](crate::contracts::ent_alloc::limits#AreLimits) (record { slots = slots; generations = generations }) }
+    /// ensures value { [IfSome](crate::contracts::logic#IfSome) result (λ limits.
+    /// &#9;limits ≡ record { slots = slots; generations = generations }) }
+    /// </code>
     ///
     /// </details>
     #[must_use]
@@ -76,11 +74,9 @@ impl Limits {
     ///
     /// <details><summary>Contract</summary>
     ///
-    /// In the words of the folder `specs/` of crate `ent_alloc`:
-    ///
-    /// ```text
+    /// <code style="display: block; tab-size: 4; white-space: pre-wrap">// In the words of [contracts](crate::contracts):
     /// ensures { result ≡ record { slots = 2 ^ 32 - 1; generations = 2 ^ 31 - 1 } }
-    /// ```
+    /// </code>
     ///
     /// </details>
     #[must_use]
@@ -107,18 +103,16 @@ impl Limits {
     ///
     /// <details><summary>Contract</summary>
     ///
-    /// In the words of the folder `specs/` of crate `ent_alloc`:
-    ///
-    /// ```text
-    /// ensures value { result ≡ without_placeholder self }
-    /// ensures both { self ≡ greatest_limits → result ≡ record greatest_limits {
-    ///   generations = 2 ^ 31 - 2;
+    /// <code style="display: block; tab-size: 4; white-space: pre-wrap">// In the words of [contracts](crate::contracts):
+    /// ensures value { result ≡ [without_placeholder](crate::contracts::ent_alloc::limits#without_placeholder) self }
+    /// ensures both { self ≡ [greatest_limits](crate::contracts::ent_alloc::limits#greatest_limits) → result ≡ record [greatest_limits](crate::contracts::ent_alloc::limits#greatest_limits) {
+    /// &#32;&#32;generations = 2 ^ 31 - 2;
     /// } }
-    /// ensures others { self ≢ greatest_limits → result ≡ self }
-    ///
+    /// ensures others { self ≢ [greatest_limits](crate::contracts::ent_alloc::limits#greatest_limits) → result ≡ self }
+    /// &#32;
     /// // An allocator gives handles within its limits alone.
-    /// ensures kept_back { ¬ (IsWithin result placeholder) }
-    /// ```
+    /// ensures kept_back { ¬ ([IsWithin](crate::contracts::ent_alloc::sound#IsWithin) result [placeholder](crate::contracts::ent_handle::handle#placeholder)) }
+    /// </code>
     ///
     /// </details>
     #[must_use]
@@ -148,11 +142,9 @@ impl Limits {
     ///
     /// <details><summary>Contract</summary>
     ///
-    /// In the words of the folder `specs/` of crate `ent_alloc`:
-    ///
-    /// ```text
+    /// <code style="display: block; tab-size: 4; white-space: pre-wrap">// In the words of [contracts](crate::contracts):
     /// ensures { result ≡ self.slots }
-    /// ```
+    /// </code>
     ///
     /// </details>
     #[must_use]
@@ -179,11 +171,9 @@ impl Limits {
     ///
     /// <details><summary>Contract</summary>
     ///
-    /// In the words of the folder `specs/` of crate `ent_alloc`:
-    ///
-    /// ```text
+    /// <code style="display: block; tab-size: 4; white-space: pre-wrap">// In the words of [contracts](crate::contracts):
     /// ensures { result ≡ self.generations }
-    /// ```
+    /// </code>
     ///
     /// </details>
     #[must_use]

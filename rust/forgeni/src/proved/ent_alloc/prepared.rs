@@ -28,11 +28,9 @@ impl Prepared {
     ///
     /// <details><summary>Contract</summary>
     ///
-    /// In the words of the folder `specs/` of crate `ent_alloc`:
-    ///
-    /// ```text
+    /// <code style="display: block; tab-size: 4; white-space: pre-wrap">// In the words of [contracts](crate::contracts):
     /// ensures { result.entities ≡ entities }
-    /// ```
+    /// </code>
     ///
     /// </details>
     #[inline]
@@ -57,12 +55,10 @@ impl Prepared {
     ///
     /// <details><summary>Contract</summary>
     ///
-    /// In the words of the folder `specs/` of crate `ent_alloc`:
-    ///
-    /// ```text
+    /// <code style="display: block; tab-size: 4; white-space: pre-wrap">// In the words of [contracts](crate::contracts):
     /// ensures value { result ≡ self.entities }
-    /// ensures rows_of_living { HasRowsOfLiving result }
-    /// ```
+    /// ensures rows_of_living { [HasRowsOfLiving](crate::contracts::ent_alloc::entities#HasRowsOfLiving) result }
+    /// </code>
     ///
     /// </details>
     #[inline]
@@ -87,16 +83,14 @@ impl Prepared {
     ///
     /// <details><summary>Contract</summary>
     ///
-    /// In the words of the folder `specs/` of crate `ent_alloc`:
-    ///
-    /// ```text
+    /// <code style="display: block; tab-size: 4; white-space: pre-wrap">// In the words of [contracts](crate::contracts):
     /// ensures entities { self.new.entities ≡ self.old.entities }
-    /// ensures slots { OnOk result (source.now.allocator.made ≤ self.new.slots) }
-    /// ensures waiting { OnOk result (top source.now.allocator ≤ self.new.waiting) }
-    /// ensures memory { OnErr result
-    ///     ((self.old.entities.allocator.made < source.now.allocator.made)
-    ///     ⊎ (top self.old.entities.allocator < top source.now.allocator)) }
-    /// ```
+    /// ensures slots { [OnOk](crate::contracts::logic#OnOk) result (source.now.allocator.made ≤ self.new.slots) }
+    /// ensures waiting { [OnOk](crate::contracts::logic#OnOk) result ([top](crate::contracts::ent_alloc::sequential#top) source.now.allocator ≤ self.new.waiting) }
+    /// ensures memory { [OnErr](crate::contracts::logic#OnErr) result
+    /// &#9;((self.old.entities.allocator.made \< source.now.allocator.made)
+    /// &#9;⊎ ([top](crate::contracts::ent_alloc::sequential#top) self.old.entities.allocator \< [top](crate::contracts::ent_alloc::sequential#top) source.now.allocator)) }
+    /// </code>
     ///
     /// </details>
     #[inline]

@@ -154,11 +154,9 @@ impl Entities {
     ///
     /// <details><summary>Contract</summary>
     ///
-    /// In the words of the folder `specs/` of crate `ent_alloc`:
-    ///
-    /// ```text
-    /// ensures { result ≡ length self.now.allocator.pool }
-    /// ```
+    /// <code style="display: block; tab-size: 4; white-space: pre-wrap">// In the words of [contracts](crate::contracts):
+    /// ensures { result ≡ [length](crate::contracts::logic#length) self.now.allocator.pool }
+    /// </code>
     ///
     /// </details>
     #[must_use]
@@ -196,13 +194,11 @@ impl Entities {
 ///
 /// <details><summary>Contract</summary>
 ///
-/// In the words of the folder `specs/` of crate `ent_alloc`:
-///
-/// ```text
-/// ensures cancelled { entities.new.allocator ≡ before_requests entities.old.allocator }
+/// <code style="display: block; tab-size: 4; white-space: pre-wrap">// In the words of [contracts](crate::contracts):
+/// ensures cancelled { entities.new.allocator ≡ [before_requests](crate::contracts::ent_alloc::sequential#before_requests) entities.old.allocator }
 /// ensures rows { entities.new.rows ≡ entities.old.rows }
-/// ensures rows_of_living { HasRowsOfLiving entities.new }
-/// ```
+/// ensures rows_of_living { [HasRowsOfLiving](crate::contracts::ent_alloc::entities#HasRowsOfLiving) entities.new }
+/// </code>
 ///
 /// </details>
 #[inline]

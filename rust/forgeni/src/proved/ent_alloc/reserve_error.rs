@@ -73,12 +73,10 @@ impl ReserveError {
     ///
     /// <details><summary>Contract</summary>
     ///
-    /// In the words of the folder `specs/` of crate `ent_alloc`:
-    ///
-    /// ```text
-    /// ensures ok { OnOk result (self ≢ ReserveError.Memory) }
-    /// ensures err { OnErr result (self ≡ ReserveError.Memory) }
-    /// ```
+    /// <code style="display: block; tab-size: 4; white-space: pre-wrap">// In the words of [contracts](crate::contracts):
+    /// ensures ok { [OnOk](crate::contracts::logic#OnOk) result (self ≢ ReserveError.Memory) }
+    /// ensures err { [OnErr](crate::contracts::logic#OnErr) result (self ≡ ReserveError.Memory) }
+    /// </code>
     ///
     /// </details>
     #[inline]

@@ -30,11 +30,9 @@ pub trait Source {
     ///
     /// <details><summary>Contract</summary>
     ///
-    /// In the words of the folder `specs/` of crate `ent_alloc`:
-    ///
-    /// ```text
-    /// ensures { result ≡ set.contains (start self.now).live handle }
-    /// ```
+    /// <code style="display: block; tab-size: 4; white-space: pre-wrap">// In the words of [contracts](crate::contracts):
+    /// ensures { result ≡ [set.contains](crate::contracts::logic#FinSet.contains) (start self.now).live handle }
+    /// </code>
     ///
     /// </details>
     fn was_alive(&self, handle: Handle) -> bool;
@@ -44,12 +42,10 @@ pub trait Source {
     ///
     /// <details><summary>Contract</summary>
     ///
-    /// In the words of the folder `specs/` of crate `ent_alloc`:
-    ///
-    /// ```text
-    /// ensures value { result ≡ map.get (rows self.now) handle }
-    /// ensures alive { OnSome result (set.contains (start self.now).live handle ≡ true) }
-    /// ```
+    /// <code style="display: block; tab-size: 4; white-space: pre-wrap">// In the words of [contracts](crate::contracts):
+    /// ensures value { result ≡ [map.get](crate::contracts::logic#FinMap.get) (rows self.now) handle }
+    /// ensures alive { [OnSome](crate::contracts::logic#OnSome) result ([set.contains](crate::contracts::logic#FinSet.contains) (start self.now).live handle ≡ [true](crate::contracts::logic#true)) }
+    /// </code>
     ///
     /// </details>
     fn had_row(&self, handle: Handle) -> Option<u32>;
@@ -62,14 +58,12 @@ pub trait Source {
     ///
     /// <details><summary>Contract</summary>
     ///
-    /// In the words of the folder `specs/` of crate `ent_alloc`:
-    ///
-    /// ```text
+    /// <code style="display: block; tab-size: 4; white-space: pre-wrap">// In the words of [contracts](crate::contracts):
     /// requires { serves self.now reserver.old }
     /// ensures stays { serves self.now reserver.new }
-    /// ensures replies { may_reply self.now reserver.old reserver.new 1 (listed_alone result) }
-    /// ensures wanted { IfErr result (SaysWanted 1) }
-    /// ```
+    /// ensures replies { may_reply self.now reserver.old reserver.new 1 ([listed_alone](crate::contracts::ent_alloc::sequential#listed_alone) result) }
+    /// ensures wanted { [IfErr](crate::contracts::logic#IfErr) result ([SaysWanted](crate::contracts::ent_alloc::serving#SaysWanted) 1) }
+    /// </code>
     ///
     /// </details>
     fn serve_one(&self, reserver: &mut Self::Reserver) -> Result<Handle, Refused>;
@@ -82,15 +76,13 @@ pub trait Source {
     ///
     /// <details><summary>Contract</summary>
     ///
-    /// In the words of the folder `specs/` of crate `ent_alloc`:
-    ///
-    /// ```text
+    /// <code style="display: block; tab-size: 4; white-space: pre-wrap">// In the words of [contracts](crate::contracts):
     /// requires { serves self.now reserver.old }
     /// ensures stays { serves self.now reserver.new }
     /// ensures replies { may_reply self.now reserver.old reserver.new n result }
-    /// ensures length { IfOk result (λ handles. length handles ≡ n) }
-    /// ensures wanted { IfErr result (SaysWanted n) }
-    /// ```
+    /// ensures length { [IfOk](crate::contracts::logic#IfOk) result (λ handles. [length](crate::contracts::logic#length) handles ≡ n) }
+    /// ensures wanted { [IfErr](crate::contracts::logic#IfErr) result ([SaysWanted](crate::contracts::ent_alloc::serving#SaysWanted) n) }
+    /// </code>
     ///
     /// </details>
     fn serve_many(&self, reserver: &mut Self::Reserver, n: u32) -> Result<Reserved<'_>, Refused>;

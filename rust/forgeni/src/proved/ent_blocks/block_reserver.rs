@@ -42,11 +42,9 @@ impl BlockReserver {
     ///
     /// <details><summary>Contract</summary>
     ///
-    /// In the words of the folder `specs/` of crate `ent_blocks`:
-    ///
-    /// ```text
+    /// <code style="display: block; tab-size: 4; white-space: pre-wrap">// In the words of [contracts](crate::contracts):
     /// ensures { result ≡ self.now.block.size }
-    /// ```
+    /// </code>
     ///
     /// </details>
     #[must_use]
@@ -72,12 +70,10 @@ impl BlockReserver {
     ///
     /// <details><summary>Contract</summary>
     ///
-    /// In the words of the folder `specs/` of crate `ent_blocks`:
-    ///
-    /// ```text
+    /// <code style="display: block; tab-size: 4; white-space: pre-wrap">// In the words of [contracts](crate::contracts):
     /// ensures value { result ≡ self.now.block.used }
     /// ensures within { result ≤ self.now.block.size }
-    /// ```
+    /// </code>
     ///
     /// </details>
     #[must_use]
@@ -102,12 +98,10 @@ impl BlockReserver {
     ///
     /// <details><summary>Contract</summary>
     ///
-    /// In the words of the folder `specs/` of crate `ent_blocks`:
-    ///
-    /// ```text
+    /// <code style="display: block; tab-size: 4; white-space: pre-wrap">// In the words of [contracts](crate::contracts):
     /// ensures value { result ≡ self.now.block.size - self.now.block.used }
     /// ensures within { self.now.block.used ≤ self.now.block.size }
-    /// ```
+    /// </code>
     ///
     /// </details>
     #[must_use]
@@ -133,11 +127,9 @@ impl BlockReserver {
     ///
     /// <details><summary>Contract</summary>
     ///
-    /// In the words of the folder `specs/` of crate `ent_blocks`:
-    ///
-    /// ```text
+    /// <code style="display: block; tab-size: 4; white-space: pre-wrap">// In the words of [contracts](crate::contracts):
     /// ensures { result ≡ wanted_by self.now }
-    /// ```
+    /// </code>
     ///
     /// </details>
     #[must_use]
@@ -170,11 +162,9 @@ impl BlockReserver {
     ///
     /// <details><summary>Contract</summary>
     ///
-    /// In the words of the folder `specs/` of crate `ent_blocks`:
-    ///
-    /// ```text
+    /// <code style="display: block; tab-size: 4; white-space: pre-wrap">// In the words of [contracts](crate::contracts):
     /// ensures { IsTrue result ↔ (self.now.number ≡ blocks.now.number) }
-    /// ```
+    /// </code>
     ///
     /// </details>
     #[must_use]
@@ -198,11 +188,9 @@ impl Held for BlockReserver {
 ///
 /// <details><summary>Contract</summary>
 ///
-/// In the words of the folder `specs/` of crate `ent_blocks`:
-///
-/// ```text
+/// <code style="display: block; tab-size: 4; white-space: pre-wrap">// In the words of [contracts](crate::contracts):
 /// ensures { result ≡ reserver.now }
-/// ```
+/// </code>
 ///
 /// </details>
 #[inline]

@@ -39,11 +39,9 @@ impl BlockSize {
     ///
     /// <details><summary>Contract</summary>
     ///
-    /// In the words of the folder `specs/` of crate `ent_blocks`:
-    ///
-    /// ```text
-    /// ensures { result ≡ record { size = min 64 limit; limit = limit } }
-    /// ```
+    /// <code style="display: block; tab-size: 4; white-space: pre-wrap">// In the words of [contracts](crate::contracts):
+    /// ensures { result ≡ record { size = [min](crate::contracts::logic#min) 64 limit; limit = limit } }
+    /// </code>
     ///
     /// </details>
     #[must_use]
@@ -70,11 +68,9 @@ impl BlockSize {
     ///
     /// <details><summary>Contract</summary>
     ///
-    /// In the words of the folder `specs/` of crate `ent_blocks`:
-    ///
-    /// ```text
-    /// ensures { result ≡ record { size = min size limit; limit = limit } }
-    /// ```
+    /// <code style="display: block; tab-size: 4; white-space: pre-wrap">// In the words of [contracts](crate::contracts):
+    /// ensures { result ≡ record { size = [min](crate::contracts::logic#min) size limit; limit = limit } }
+    /// </code>
     ///
     /// </details>
     #[must_use]
@@ -100,11 +96,9 @@ impl BlockSize {
     ///
     /// <details><summary>Contract</summary>
     ///
-    /// In the words of the folder `specs/` of crate `ent_blocks`:
-    ///
-    /// ```text
+    /// <code style="display: block; tab-size: 4; white-space: pre-wrap">// In the words of [contracts](crate::contracts):
     /// ensures { result ≡ self.now.size }
-    /// ```
+    /// </code>
     ///
     /// </details>
     #[must_use]
@@ -126,11 +120,9 @@ impl BlockSize {
     ///
     /// <details><summary>Contract</summary>
     ///
-    /// In the words of the folder `specs/` of crate `ent_blocks`:
-    ///
-    /// ```text
+    /// <code style="display: block; tab-size: 4; white-space: pre-wrap">// In the words of [contracts](crate::contracts):
     /// ensures { result ≡ self.now.limit }
-    /// ```
+    /// </code>
     ///
     /// </details>
     #[must_use]
@@ -157,13 +149,11 @@ impl BlockSize {
     ///
     /// <details><summary>Contract</summary>
     ///
-    /// In the words of the folder `specs/` of crate `ent_blocks`:
-    ///
-    /// ```text
+    /// <code style="display: block; tab-size: 4; white-space: pre-wrap">// In the words of [contracts](crate::contracts):
     /// ensures next { self.new
-    ///     ≡ record self.old { size = min (max 64 (2 * wanted)) self.old.limit } }
-    /// ensures enough { min wanted self.old.limit ≤ self.new.size }
-    /// ```
+    /// &#9;≡ record self.old { size = [min](crate::contracts::logic#min) ([max](crate::contracts::logic#max) 64 (2 \* wanted)) self.old.limit } }
+    /// ensures enough { [min](crate::contracts::logic#min) wanted self.old.limit ≤ self.new.size }
+    /// </code>
     ///
     /// </details>
     #[inline]

@@ -86,11 +86,9 @@ impl Blocks {
     ///
     /// <details><summary>Contract</summary>
     ///
-    /// In the words of the folder `specs/` of crate `ent_blocks`:
-    ///
-    /// ```text
-    /// ensures { result ≡ length self.now.phase.blocks }
-    /// ```
+    /// <code style="display: block; tab-size: 4; white-space: pre-wrap">// In the words of [contracts](crate::contracts):
+    /// ensures { result ≡ [length](crate::contracts::logic#length) self.now.phase.blocks }
+    /// </code>
     ///
     /// </details>
     #[must_use]
@@ -115,11 +113,9 @@ impl Blocks {
     ///
     /// <details><summary>Contract</summary>
     ///
-    /// In the words of the folder `specs/` of crate `ent_blocks`:
-    ///
-    /// ```text
-    /// ensures { result ≡ set.contains self.now.phase.start.live handle }
-    /// ```
+    /// <code style="display: block; tab-size: 4; white-space: pre-wrap">// In the words of [contracts](crate::contracts):
+    /// ensures { result ≡ [set.contains](crate::contracts::logic#FinSet.contains) self.now.phase.start.live handle }
+    /// </code>
     ///
     /// </details>
     #[must_use]
@@ -144,12 +140,10 @@ impl Blocks {
     ///
     /// <details><summary>Contract</summary>
     ///
-    /// In the words of the folder `specs/` of crate `ent_blocks`:
-    ///
-    /// ```text
-    /// ensures value { result ≡ maps.get self.now.phase.rows handle }
-    /// ensures alive { OnSome result (set.contains self.now.phase.start.live handle ≡ true) }
-    /// ```
+    /// <code style="display: block; tab-size: 4; white-space: pre-wrap">// In the words of [contracts](crate::contracts):
+    /// ensures value { result ≡ [maps.get](crate::contracts::logic#FinMap.get) self.now.phase.rows handle }
+    /// ensures alive { [OnSome](crate::contracts::logic#OnSome) result ([set.contains](crate::contracts::logic#FinSet.contains) self.now.phase.start.live handle ≡ [true](crate::contracts::logic#true)) }
+    /// </code>
     ///
     /// </details>
     #[must_use]
@@ -179,21 +173,19 @@ impl Blocks {
     ///
     /// <details><summary>Contract</summary>
     ///
-    /// In the words of the folder `specs/` of crate `ent_blocks`:
-    ///
-    /// ```text
-    /// ensures reply { IfOk result (λ handle. reply_from self.now.phase.start.made
-    ///     (rest_of self.now.phase.start.pool reserver.old.block) 1 ≡ Ok (handle ∷ [])) }
-    /// ensures ok { OnOk result (reserver.new ≡ record reserver.old {
-    ///   block = after_use reserver.old.block 1;
+    /// <code style="display: block; tab-size: 4; white-space: pre-wrap">// In the words of [contracts](crate::contracts):
+    /// ensures reply { [IfOk](crate::contracts::logic#IfOk) result (λ handle. [reply_from](crate::contracts::ent_alloc::sequential#reply_from) self.now.phase.start.made
+    /// &#9;([rest_of](crate::contracts::ent_blocks::blocks#rest_of) self.now.phase.start.pool reserver.old.block) 1 ≡ [Ok](crate::contracts::logic#Ok) (handle ∷ \[\])) }
+    /// ensures ok { [OnOk](crate::contracts::logic#OnOk) result (reserver.new ≡ record reserver.old {
+    /// &#32;&#32;block = [after_use](crate::contracts::ent_blocks::blocks#after_use) reserver.old.block 1;
     /// }) }
-    /// ensures other_phase { IsErrOf result refused.OtherPhase
-    ///     ↔ (reserver.old.number ≢ self.now.number) }
-    /// ensures err { IfErr result (λ error. (error ≡ refused.OtherPhase)
-    ///     ⊎ ((error ≡ refused.Space 1 0) × (reserver.old.block.used ≡ reserver.old.block.size))) }
-    /// ensures remembers { IfErr result (λ error.
-    ///     reserver.new ≡ after_error reserver.old error) }
-    /// ```
+    /// ensures other_phase { [IsErrOf](crate::contracts::logic#IsErrOf) result refused.OtherPhase
+    /// &#9;↔ (reserver.old.number ≢ self.now.number) }
+    /// ensures err { [IfErr](crate::contracts::logic#IfErr) result (λ error. (error ≡ refused.OtherPhase)
+    /// &#9;⊎ ((error ≡ refused.Space 1 0) × (reserver.old.block.used ≡ reserver.old.block.size))) }
+    /// ensures remembers { [IfErr](crate::contracts::logic#IfErr) result (λ error.
+    /// &#9;reserver.new ≡ [after_error](crate::contracts::ent_blocks::faults#after_error) reserver.old error) }
+    /// </code>
     ///
     /// </details>
     #[inline]
@@ -233,25 +225,23 @@ impl Blocks {
     ///
     /// <details><summary>Contract</summary>
     ///
-    /// In the words of the folder `specs/` of crate `ent_blocks`:
-    ///
-    /// ```text
-    /// ensures given { IfOk result (λ handles. handles.items ≡ listed self.now.phase.start.made
-    ///     (take n (rest_of self.now.phase.start.pool reserver.old.block))) }
-    /// ensures ok { OnOk result (reserver.new ≡ record reserver.old {
-    ///   block = after_use reserver.old.block n;
+    /// <code style="display: block; tab-size: 4; white-space: pre-wrap">// In the words of [contracts](crate::contracts):
+    /// ensures given { [IfOk](crate::contracts::logic#IfOk) result (λ handles. handles.items ≡ [listed](crate::contracts::ent_alloc::sequential#listed) self.now.phase.start.made
+    /// &#9;([take](crate::contracts::logic#take) n ([rest_of](crate::contracts::ent_blocks::blocks#rest_of) self.now.phase.start.pool reserver.old.block))) }
+    /// ensures ok { [OnOk](crate::contracts::logic#OnOk) result (reserver.new ≡ record reserver.old {
+    /// &#32;&#32;block = [after_use](crate::contracts::ent_blocks::blocks#after_use) reserver.old.block n;
     /// }) }
-    /// ensures other_phase { IsErrOf result refused.OtherPhase
-    ///     ↔ (reserver.old.number ≢ self.now.number) }
+    /// ensures other_phase { [IsErrOf](crate::contracts::logic#IsErrOf) result refused.OtherPhase
+    /// &#9;↔ (reserver.old.number ≢ self.now.number) }
     /// ensures space { let left = reserver.old.block.size - reserver.old.block.used in
-    ///     IsErrOf result (refused.Space n left)
-    ///     ↔ ((reserver.old.number ≡ self.now.number) × (left < n)) }
+    /// &#9;[IsErrOf](crate::contracts::logic#IsErrOf) result (refused.Space n left)
+    /// &#9;↔ ((reserver.old.number ≡ self.now.number) × (left \< n)) }
     /// ensures err { let left = reserver.old.block.size - reserver.old.block.used in
-    ///     IfErr result (λ error. (error ≡ refused.OtherPhase)
-    ///     ⊎ ((error ≡ refused.Space n left) ⊎ ((error ≡ refused.Memory) × (0 < n)))) }
-    /// ensures remembers { IfErr result (λ error.
-    ///     reserver.new ≡ after_error reserver.old error) }
-    /// ```
+    /// &#9;[IfErr](crate::contracts::logic#IfErr) result (λ error. (error ≡ refused.OtherPhase)
+    /// &#9;⊎ ((error ≡ refused.Space n left) ⊎ ((error ≡ refused.Memory) × (0 \< n)))) }
+    /// ensures remembers { [IfErr](crate::contracts::logic#IfErr) result (λ error.
+    /// &#9;reserver.new ≡ [after_error](crate::contracts::ent_blocks::faults#after_error) reserver.old error) }
+    /// </code>
     ///
     /// </details>
     #[inline]
@@ -286,28 +276,26 @@ impl Blocks {
     ///
     /// <details><summary>Contract</summary>
     ///
-    /// In the words of the folder `specs/` of crate `ent_blocks`:
-    ///
-    /// ```text
-    /// ensures given { OnOk result (handles.new.items ≡ handles.old.items
-    ///     ++ listed self.now.phase.start.made
-    ///     (take n (rest_of self.now.phase.start.pool reserver.old.block))) }
-    /// ensures ok { OnOk result (reserver.new ≡ record reserver.old {
-    ///   block = after_use reserver.old.block n;
+    /// <code style="display: block; tab-size: 4; white-space: pre-wrap">// In the words of [contracts](crate::contracts):
+    /// ensures given { [OnOk](crate::contracts::logic#OnOk) result (handles.new.items ≡ handles.old.items
+    /// &#9;++ [listed](crate::contracts::ent_alloc::sequential#listed) self.now.phase.start.made
+    /// &#9;([take](crate::contracts::logic#take) n ([rest_of](crate::contracts::ent_blocks::blocks#rest_of) self.now.phase.start.pool reserver.old.block))) }
+    /// ensures ok { [OnOk](crate::contracts::logic#OnOk) result (reserver.new ≡ record reserver.old {
+    /// &#32;&#32;block = [after_use](crate::contracts::ent_blocks::blocks#after_use) reserver.old.block n;
     /// }) }
-    /// ensures other_phase { IsErrOf result refused.OtherPhase
-    ///     ↔ (reserver.old.number ≢ self.now.number) }
+    /// ensures other_phase { [IsErrOf](crate::contracts::logic#IsErrOf) result refused.OtherPhase
+    /// &#9;↔ (reserver.old.number ≢ self.now.number) }
     /// ensures space { let left = reserver.old.block.size - reserver.old.block.used in
-    ///     IsErrOf result (refused.Space n left)
-    ///     ↔ ((reserver.old.number ≡ self.now.number) × (left < n)) }
+    /// &#9;[IsErrOf](crate::contracts::logic#IsErrOf) result (refused.Space n left)
+    /// &#9;↔ ((reserver.old.number ≡ self.now.number) × (left \< n)) }
     /// ensures err { let left = reserver.old.block.size - reserver.old.block.used in
-    ///     IfErr result (λ error. (error ≡ refused.OtherPhase)
-    ///     ⊎ ((error ≡ refused.Space n left) ⊎ ((error ≡ refused.Memory)
-    ///     × (vec_capacity handles.old < vec_len handles.old + n)))) }
-    /// ensures remembers { IfErr result (λ error.
-    ///     reserver.new ≡ after_error reserver.old error) }
-    /// ensures kept { OnErr result (handles.new.items ≡ handles.old.items) }
-    /// ```
+    /// &#9;[IfErr](crate::contracts::logic#IfErr) result (λ error. (error ≡ refused.OtherPhase)
+    /// &#9;⊎ ((error ≡ refused.Space n left) ⊎ ((error ≡ refused.Memory)
+    /// &#9;× ([vec_capacity](crate::contracts::logic#vec_capacity) handles.old \< [vec_len](crate::contracts::logic#vec_len) handles.old + n)))) }
+    /// ensures remembers { [IfErr](crate::contracts::logic#IfErr) result (λ error.
+    /// &#9;reserver.new ≡ [after_error](crate::contracts::ent_blocks::faults#after_error) reserver.old error) }
+    /// ensures kept { [OnErr](crate::contracts::logic#OnErr) result (handles.new.items ≡ handles.old.items) }
+    /// </code>
     ///
     /// </details>
     #[inline]
@@ -360,47 +348,45 @@ impl Blocks {
     ///
     /// <details><summary>Contract</summary>
     ///
-    /// In the words of the folder `specs/` of crate `ent_blocks`:
-    ///
-    /// ```text
-    /// ensures after { IfOk result (λ entities. entities.allocator
-    ///     ≡ after_blocks self.phase.start (blocks_of reservers.items)) }
-    /// ensures rows { IfOk result (λ entities. entities.rows ≡ self.phase.rows) }
-    /// ensures rows_of_living { IfOk result HasRowsOfLiving }
-    /// ensures waiting { IfOk result (λ entities.
-    ///     top entities.allocator ≤ max (top self.phase.start) (dealt self.phase.blocks)) }
-    ///
+    /// <code style="display: block; tab-size: 4; white-space: pre-wrap">// In the words of [contracts](crate::contracts):
+    /// ensures after { [IfOk](crate::contracts::logic#IfOk) result (λ entities. entities.allocator
+    /// &#9;≡ after_blocks self.phase.start ([blocks_of](crate::contracts::ent_blocks::blocks#blocks_of) reservers.items)) }
+    /// ensures rows { [IfOk](crate::contracts::logic#IfOk) result (λ entities. entities.rows ≡ self.phase.rows) }
+    /// ensures rows_of_living { [IfOk](crate::contracts::logic#IfOk) result [HasRowsOfLiving](crate::contracts::ent_alloc::entities#HasRowsOfLiving) }
+    /// ensures waiting { [IfOk](crate::contracts::logic#IfOk) result (λ entities.
+    /// &#9;[top](crate::contracts::ent_alloc::sequential#top) entities.allocator ≤ [max](crate::contracts::logic#max) ([top](crate::contracts::ent_alloc::sequential#top) self.phase.start) ([dealt](crate::contracts::ent_blocks::blocks#dealt) self.phase.blocks)) }
+    /// &#32;
     /// // No handle was given twice, and none was alive.
-    /// ensures distinct { IfOk result (λ entities.
-    ///     AllPairs (λ g h. g ≢ h) entities.allocator.taken) }
-    /// ensures not_live { IfOk result (λ entities.
-    ///     All (λ h. ¬ (IsLive self.phase.start h)) entities.allocator.taken) }
-    ///
+    /// ensures distinct { [IfOk](crate::contracts::logic#IfOk) result (λ entities.
+    /// &#9;[AllPairs](crate::contracts::logic#AllPairs) (λ g h. g ≢ h) entities.allocator.taken) }
+    /// ensures not_live { [IfOk](crate::contracts::logic#IfOk) result (λ entities.
+    /// &#9;[All](crate::contracts::logic#All) (λ h. ¬ ([IsLive](crate::contracts::ent_alloc::sound#IsLive) self.phase.start h)) entities.allocator.taken) }
+    /// &#32;
     /// // A flush brings to life exactly what was used.
-    /// ensures brings_to_life { IfOk result (λ entities. (h : HandleValue) →
-    ///     IsLive (after_flush entities.allocator) h
-    ///     ↔ (IsLive self.phase.start h ⊎ Contains entities.allocator.taken h)) }
-    ///
+    /// ensures brings_to_life { [IfOk](crate::contracts::logic#IfOk) result (λ entities. (h : [HandleValue](crate::contracts::ent_handle::handle#Handle)) →
+    /// &#9;[IsLive](crate::contracts::ent_alloc::sound#IsLive) ([after_flush](crate::contracts::ent_alloc::sequential#after_flush) entities.allocator) h
+    /// &#9;↔ ([IsLive](crate::contracts::ent_alloc::sound#IsLive) self.phase.start h ⊎ [Contains](crate::contracts::logic#Contains) entities.allocator.taken h)) }
+    /// &#32;
     /// // When it succeeds, when it is refused, and what stands then.
-    /// ensures of { OnOk result (All (λ r. r.number ≡ self.number) reservers.items) }
-    /// ensures all { OnOk result (map unused (blocks_of reservers.items) ≡ self.phase.blocks) }
-    /// ensures other_phase { IsErrWith result (λ h. h.error ≡ failed.OtherPhase)
-    ///     ↔ ¬ (All (λ r. r.number ≡ self.number) reservers.items) }
-    /// ensures order { IsErrWith result (λ h. h.error ≡ failed.Order)
-    ///     ↔ (All (λ r. r.number ≡ self.number) reservers.items
-    ///     × ¬ (IsTrue (are_among self.phase.blocks (blocks_of reservers.items)))) }
-    /// ensures missing { IsErrWith result (λ h.
-    ///     IsMissing (length self.phase.blocks - length reservers.items) h.error)
-    ///     ↔ (All (λ r. r.number ≡ self.number) reservers.items
-    ///     × (IsTrue (are_among self.phase.blocks (blocks_of reservers.items))
-    ///     × (length reservers.items < length self.phase.blocks))) }
-    /// ensures missing_count { IfErr result (λ h. (n : ℕ) → IsMissing n h.error
-    ///     → n ≡ length self.phase.blocks - length reservers.items) }
-    /// ensures memory { IsErrWith result (λ h. h.error ≡ failed.Memory)
-    ///     → 0 < length self.phase.blocks }
-    /// ensures handed_back { IfErr result (λ h. (h.value.0 ≡ self)
-    ///     × (h.value.1.items ≡ reservers.items)) }
-    /// ```
+    /// ensures of { [OnOk](crate::contracts::logic#OnOk) result ([All](crate::contracts::logic#All) (λ r. r.number ≡ self.number) reservers.items) }
+    /// ensures all { [OnOk](crate::contracts::logic#OnOk) result ([map](crate::contracts::logic#map) [unused](crate::contracts::ent_blocks::blocks#unused) ([blocks_of](crate::contracts::ent_blocks::blocks#blocks_of) reservers.items) ≡ self.phase.blocks) }
+    /// ensures other_phase { [IsErrWith](crate::contracts::ent_blocks::faults#IsErrWith) result (λ h. h.error ≡ failed.OtherPhase)
+    /// &#9;↔ ¬ ([All](crate::contracts::logic#All) (λ r. r.number ≡ self.number) reservers.items) }
+    /// ensures order { [IsErrWith](crate::contracts::ent_blocks::faults#IsErrWith) result (λ h. h.error ≡ failed.Order)
+    /// &#9;↔ ([All](crate::contracts::logic#All) (λ r. r.number ≡ self.number) reservers.items
+    /// &#9;× ¬ ([IsTrue](crate::contracts::logic#IsTrue) ([are_among](crate::contracts::ent_blocks::blocks#are_among) self.phase.blocks ([blocks_of](crate::contracts::ent_blocks::blocks#blocks_of) reservers.items)))) }
+    /// ensures missing { [IsErrWith](crate::contracts::ent_blocks::faults#IsErrWith) result (λ h.
+    /// &#9;[IsMissing](crate::contracts::ent_blocks::faults#IsMissing) ([length](crate::contracts::logic#length) self.phase.blocks - [length](crate::contracts::logic#length) reservers.items) h.error)
+    /// &#9;↔ ([All](crate::contracts::logic#All) (λ r. r.number ≡ self.number) reservers.items
+    /// &#9;× ([IsTrue](crate::contracts::logic#IsTrue) ([are_among](crate::contracts::ent_blocks::blocks#are_among) self.phase.blocks ([blocks_of](crate::contracts::ent_blocks::blocks#blocks_of) reservers.items))
+    /// &#9;× ([length](crate::contracts::logic#length) reservers.items \< [length](crate::contracts::logic#length) self.phase.blocks))) }
+    /// ensures missing_count { [IfErr](crate::contracts::logic#IfErr) result (λ h. (n : [ℕ](crate::contracts::logic#ℕ)) → [IsMissing](crate::contracts::ent_blocks::faults#IsMissing) n h.error
+    /// &#9;→ n ≡ [length](crate::contracts::logic#length) self.phase.blocks - [length](crate::contracts::logic#length) reservers.items) }
+    /// ensures memory { [IsErrWith](crate::contracts::ent_blocks::faults#IsErrWith) result (λ h. h.error ≡ failed.Memory)
+    /// &#9;→ 0 \< [length](crate::contracts::logic#length) self.phase.blocks }
+    /// ensures handed_back { [IfErr](crate::contracts::logic#IfErr) result (λ h. (h.value.0 ≡ self)
+    /// &#9;× (h.value.1.items ≡ reservers.items)) }
+    /// </code>
     ///
     /// </details>
     #[inline]
@@ -445,40 +431,38 @@ impl Blocks {
     ///
     /// <details><summary>Contract</summary>
     ///
-    /// In the words of the folder `specs/` of crate `ent_blocks`:
-    ///
-    /// ```text
-    /// ensures after { IfOk result (λ entities. entities.allocator ≡ after_blocks
-    ///     self.phase.start (accounted self.phase.blocks (blocks_of reservers.items))) }
-    /// ensures rows { IfOk result (λ entities. entities.rows ≡ self.phase.rows) }
-    /// ensures rows_of_living { IfOk result HasRowsOfLiving }
-    /// ensures waiting { IfOk result (λ entities.
-    ///     top entities.allocator ≤ max (top self.phase.start) (dealt self.phase.blocks)) }
-    ///
+    /// <code style="display: block; tab-size: 4; white-space: pre-wrap">// In the words of [contracts](crate::contracts):
+    /// ensures after { [IfOk](crate::contracts::logic#IfOk) result (λ entities. entities.allocator ≡ after_blocks
+    /// &#9;self.phase.start ([accounted](crate::contracts::ent_blocks::blocks#accounted) self.phase.blocks ([blocks_of](crate::contracts::ent_blocks::blocks#blocks_of) reservers.items))) }
+    /// ensures rows { [IfOk](crate::contracts::logic#IfOk) result (λ entities. entities.rows ≡ self.phase.rows) }
+    /// ensures rows_of_living { [IfOk](crate::contracts::logic#IfOk) result [HasRowsOfLiving](crate::contracts::ent_alloc::entities#HasRowsOfLiving) }
+    /// ensures waiting { [IfOk](crate::contracts::logic#IfOk) result (λ entities.
+    /// &#9;[top](crate::contracts::ent_alloc::sequential#top) entities.allocator ≤ [max](crate::contracts::logic#max) ([top](crate::contracts::ent_alloc::sequential#top) self.phase.start) ([dealt](crate::contracts::ent_blocks::blocks#dealt) self.phase.blocks)) }
+    /// &#32;
     /// // No handle is taken twice, and none was alive. A flush brings to life exactly these.
-    /// ensures distinct { IfOk result (λ entities.
-    ///     AllPairs (λ g h. g ≢ h) entities.allocator.taken) }
-    /// ensures not_live { IfOk result (λ entities.
-    ///     All (λ h. ¬ (IsLive self.phase.start h)) entities.allocator.taken) }
-    /// ensures brings_to_life { IfOk result (λ entities. (h : HandleValue) →
-    ///     IsLive (after_flush entities.allocator) h
-    ///     ↔ (IsLive self.phase.start h ⊎ Contains entities.allocator.taken h)) }
-    ///
+    /// ensures distinct { [IfOk](crate::contracts::logic#IfOk) result (λ entities.
+    /// &#9;[AllPairs](crate::contracts::logic#AllPairs) (λ g h. g ≢ h) entities.allocator.taken) }
+    /// ensures not_live { [IfOk](crate::contracts::logic#IfOk) result (λ entities.
+    /// &#9;[All](crate::contracts::logic#All) (λ h. ¬ ([IsLive](crate::contracts::ent_alloc::sound#IsLive) self.phase.start h)) entities.allocator.taken) }
+    /// ensures brings_to_life { [IfOk](crate::contracts::logic#IfOk) result (λ entities. (h : [HandleValue](crate::contracts::ent_handle::handle#Handle)) →
+    /// &#9;[IsLive](crate::contracts::ent_alloc::sound#IsLive) ([after_flush](crate::contracts::ent_alloc::sequential#after_flush) entities.allocator) h
+    /// &#9;↔ ([IsLive](crate::contracts::ent_alloc::sound#IsLive) self.phase.start h ⊎ [Contains](crate::contracts::logic#Contains) entities.allocator.taken h)) }
+    /// &#32;
     /// // When it succeeds, when it is refused, and what stands then.
-    /// ensures of { OnOk result (All (λ r. r.number ≡ self.number) reservers.items) }
-    /// ensures among { OnOk result
-    ///     (IsTrue (are_among self.phase.blocks (blocks_of reservers.items))) }
-    /// ensures other_phase { IsErrWith result (λ h. h.error ≡ failed.OtherPhase)
-    ///     ↔ ¬ (All (λ r. r.number ≡ self.number) reservers.items) }
-    /// ensures order { IsErrWith result (λ h. h.error ≡ failed.Order)
-    ///     ↔ (All (λ r. r.number ≡ self.number) reservers.items
-    ///     × ¬ (IsTrue (are_among self.phase.blocks (blocks_of reservers.items)))) }
-    /// ensures no_missing { IfErr result (λ h. (n : ℕ) → ¬ (IsMissing n h.error)) }
-    /// ensures memory { IsErrWith result (λ h. h.error ≡ failed.Memory)
-    ///     → 0 < length self.phase.blocks }
-    /// ensures handed_back { IfErr result (λ h. (h.value.0 ≡ self)
-    ///     × (h.value.1.items ≡ reservers.items)) }
-    /// ```
+    /// ensures of { [OnOk](crate::contracts::logic#OnOk) result ([All](crate::contracts::logic#All) (λ r. r.number ≡ self.number) reservers.items) }
+    /// ensures among { [OnOk](crate::contracts::logic#OnOk) result
+    /// &#9;([IsTrue](crate::contracts::logic#IsTrue) ([are_among](crate::contracts::ent_blocks::blocks#are_among) self.phase.blocks ([blocks_of](crate::contracts::ent_blocks::blocks#blocks_of) reservers.items))) }
+    /// ensures other_phase { [IsErrWith](crate::contracts::ent_blocks::faults#IsErrWith) result (λ h. h.error ≡ failed.OtherPhase)
+    /// &#9;↔ ¬ ([All](crate::contracts::logic#All) (λ r. r.number ≡ self.number) reservers.items) }
+    /// ensures order { [IsErrWith](crate::contracts::ent_blocks::faults#IsErrWith) result (λ h. h.error ≡ failed.Order)
+    /// &#9;↔ ([All](crate::contracts::logic#All) (λ r. r.number ≡ self.number) reservers.items
+    /// &#9;× ¬ ([IsTrue](crate::contracts::logic#IsTrue) ([are_among](crate::contracts::ent_blocks::blocks#are_among) self.phase.blocks ([blocks_of](crate::contracts::ent_blocks::blocks#blocks_of) reservers.items)))) }
+    /// ensures no_missing { [IfErr](crate::contracts::logic#IfErr) result (λ h. (n : [ℕ](crate::contracts::logic#ℕ)) → ¬ ([IsMissing](crate::contracts::ent_blocks::faults#IsMissing) n h.error)) }
+    /// ensures memory { [IsErrWith](crate::contracts::ent_blocks::faults#IsErrWith) result (λ h. h.error ≡ failed.Memory)
+    /// &#9;→ 0 \< [length](crate::contracts::logic#length) self.phase.blocks }
+    /// ensures handed_back { [IfErr](crate::contracts::logic#IfErr) result (λ h. (h.value.0 ≡ self)
+    /// &#9;× (h.value.1.items ≡ reservers.items)) }
+    /// </code>
     ///
     /// </details>
     #[inline]
@@ -548,25 +532,23 @@ impl Blocks {
 ///
 /// <details><summary>Contract</summary>
 ///
-/// In the words of the folder `specs/` of crate `ent_blocks`:
-///
-/// ```text
-/// ensures given { IfOk result (λ handles. handles ≡ listed blocks.now.phase.start.made
-///     (take n (rest_of blocks.now.phase.start.pool reserver.old.block))) }
-/// ensures length { IfOk result (λ handles. length handles ≡ n) }
-/// ensures ok { OnOk result (reserver.new ≡ record reserver.old {
-///   block = after_use reserver.old.block n;
+/// <code style="display: block; tab-size: 4; white-space: pre-wrap">// In the words of [contracts](crate::contracts):
+/// ensures given { [IfOk](crate::contracts::logic#IfOk) result (λ handles. handles ≡ [listed](crate::contracts::ent_alloc::sequential#listed) blocks.now.phase.start.made
+/// &#9;([take](crate::contracts::logic#take) n ([rest_of](crate::contracts::ent_blocks::blocks#rest_of) blocks.now.phase.start.pool reserver.old.block))) }
+/// ensures length { [IfOk](crate::contracts::logic#IfOk) result (λ handles. [length](crate::contracts::logic#length) handles ≡ n) }
+/// ensures ok { [OnOk](crate::contracts::logic#OnOk) result (reserver.new ≡ record reserver.old {
+/// &#32;&#32;block = [after_use](crate::contracts::ent_blocks::blocks#after_use) reserver.old.block n;
 /// }) }
-/// ensures other_phase { IsErrOf result refused.OtherPhase
-///     ↔ (reserver.old.number ≢ blocks.now.number) }
+/// ensures other_phase { [IsErrOf](crate::contracts::logic#IsErrOf) result refused.OtherPhase
+/// &#9;↔ (reserver.old.number ≢ blocks.now.number) }
 /// ensures space { let left = reserver.old.block.size - reserver.old.block.used in
-///     IsErrOf result (refused.Space n left)
-///     ↔ ((reserver.old.number ≡ blocks.now.number) × (left < n)) }
+/// &#9;[IsErrOf](crate::contracts::logic#IsErrOf) result (refused.Space n left)
+/// &#9;↔ ((reserver.old.number ≡ blocks.now.number) × (left \< n)) }
 /// ensures err { let left = reserver.old.block.size - reserver.old.block.used in
-///     IfErr result (λ error. (error ≡ refused.OtherPhase) ⊎ (error ≡ refused.Space n left)) }
-/// ensures remembers { IfErr result (λ error.
-///     reserver.new ≡ after_error reserver.old error) }
-/// ```
+/// &#9;[IfErr](crate::contracts::logic#IfErr) result (λ error. (error ≡ refused.OtherPhase) ⊎ (error ≡ refused.Space n left)) }
+/// ensures remembers { [IfErr](crate::contracts::logic#IfErr) result (λ error.
+/// &#9;reserver.new ≡ [after_error](crate::contracts::ent_blocks::faults#after_error) reserver.old error) }
+/// </code>
 ///
 /// </details>
 #[inline]

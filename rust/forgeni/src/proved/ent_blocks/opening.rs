@@ -31,18 +31,16 @@ pub struct Deal {
 ///
 /// <details><summary>Contract</summary>
 ///
-/// In the words of the folder `specs/` of crate `ent_blocks`:
-///
-/// ```text
-/// ensures start { IfOk result (λ d. d.start ≡ entities.allocator) }
-/// ensures rows { IfOk result (λ d. d.rows ≡ entities.rows) }
-/// ensures blocks { IfOk result (λ d. d.blocks
-///     ≡ blocks_from 0 (length entities.allocator.pool) sizes.now) }
-/// ensures needs_flush { IsErrWith result (λ h. h.error ≡ failed.NeedsFlush)
-///     ↔ (0 < entities.allocator.asked) }
-/// ensures memory { IsErrWith result (λ h. h.error ≡ failed.Memory) → 0 < length sizes.now }
-/// ensures handed_back { IfErr result (λ h. h.value ≡ entities) }
-/// ```
+/// <code style="display: block; tab-size: 4; white-space: pre-wrap">// In the words of [contracts](crate::contracts):
+/// ensures start { [IfOk](crate::contracts::logic#IfOk) result (λ d. d.start ≡ entities.allocator) }
+/// ensures rows { [IfOk](crate::contracts::logic#IfOk) result (λ d. d.rows ≡ entities.rows) }
+/// ensures blocks { [IfOk](crate::contracts::logic#IfOk) result (λ d. d.blocks
+/// &#9;≡ [blocks_from](crate::contracts::ent_blocks::blocks#blocks_from) 0 ([length](crate::contracts::logic#length) entities.allocator.pool) sizes.now) }
+/// ensures needs_flush { [IsErrWith](crate::contracts::ent_blocks::faults#IsErrWith) result (λ h. h.error ≡ failed.NeedsFlush)
+/// &#9;↔ (0 \< entities.allocator.asked) }
+/// ensures memory { [IsErrWith](crate::contracts::ent_blocks::faults#IsErrWith) result (λ h. h.error ≡ failed.Memory) → 0 \< [length](crate::contracts::logic#length) sizes.now }
+/// ensures handed_back { [IfErr](crate::contracts::logic#IfErr) result (λ h. h.value ≡ entities) }
+/// </code>
 ///
 /// </details>
 #[inline]

@@ -14,11 +14,9 @@ impl Part {
     ///
     /// <details><summary>Contract</summary>
     ///
-    /// In the words of the folder `specs/` of crate `ent_blocks`:
-    ///
-    /// ```text
+    /// <code style="display: block; tab-size: 4; white-space: pre-wrap">// In the words of [contracts](crate::contracts):
     /// ensures { result ≡ record { before = before; size = size; used = 0 } }
-    /// ```
+    /// </code>
     ///
     /// </details>
     #[inline]
@@ -34,11 +32,9 @@ impl Part {
     ///
     /// <details><summary>Contract</summary>
     ///
-    /// In the words of the folder `specs/` of crate `ent_blocks`:
-    ///
-    /// ```text
+    /// <code style="display: block; tab-size: 4; white-space: pre-wrap">// In the words of [contracts](crate::contracts):
     /// ensures { result ≡ self.now.before }
-    /// ```
+    /// </code>
     ///
     /// </details>
     #[inline]
@@ -50,11 +46,9 @@ impl Part {
     ///
     /// <details><summary>Contract</summary>
     ///
-    /// In the words of the folder `specs/` of crate `ent_blocks`:
-    ///
-    /// ```text
+    /// <code style="display: block; tab-size: 4; white-space: pre-wrap">// In the words of [contracts](crate::contracts):
     /// ensures { result ≡ self.now.size }
-    /// ```
+    /// </code>
     ///
     /// </details>
     #[inline]
@@ -66,12 +60,10 @@ impl Part {
     ///
     /// <details><summary>Contract</summary>
     ///
-    /// In the words of the folder `specs/` of crate `ent_blocks`:
-    ///
-    /// ```text
+    /// <code style="display: block; tab-size: 4; white-space: pre-wrap">// In the words of [contracts](crate::contracts):
     /// ensures value { result ≡ self.now.used }
     /// ensures within { result ≤ self.now.size }
-    /// ```
+    /// </code>
     ///
     /// </details>
     #[inline]
@@ -83,12 +75,10 @@ impl Part {
     ///
     /// <details><summary>Contract</summary>
     ///
-    /// In the words of the folder `specs/` of crate `ent_blocks`:
-    ///
-    /// ```text
+    /// <code style="display: block; tab-size: 4; white-space: pre-wrap">// In the words of [contracts](crate::contracts):
     /// ensures value { result ≡ self.now.size - self.now.used }
     /// ensures within { self.now.used ≤ self.now.size }
-    /// ```
+    /// </code>
     ///
     /// </details>
     #[inline]
@@ -109,12 +99,10 @@ impl Part {
     ///
     /// <details><summary>Contract</summary>
     ///
-    /// In the words of the folder `specs/` of crate `ent_blocks`:
-    ///
-    /// ```text
+    /// <code style="display: block; tab-size: 4; white-space: pre-wrap">// In the words of [contracts](crate::contracts):
     /// ensures value { result ≡ portion_of self.now }
     /// ensures used { self.now.used ≤ self.now.size }
-    /// ```
+    /// </code>
     ///
     /// </details>
     #[inline]
@@ -129,11 +117,9 @@ impl Part {
     ///
     /// <details><summary>Contract</summary>
     ///
-    /// In the words of the folder `specs/` of crate `ent_blocks`:
-    ///
-    /// ```text
+    /// <code style="display: block; tab-size: 4; white-space: pre-wrap">// In the words of [contracts](crate::contracts):
     /// ensures { result ≡ is_same self.now other.now }
-    /// ```
+    /// </code>
     ///
     /// </details>
     #[inline]

@@ -49,21 +49,19 @@ pub(super) fn decimal_value(bytes: &[u8]) -> Option<u32>
 ///
 /// <details><summary>Contract</summary>
 ///
-/// In the words of the folder `specs/` of crate `ent_handle`:
-///
-/// ```text
+/// <code style="display: block; tab-size: 4; white-space: pre-wrap">// In the words of [contracts](crate::contracts):
 /// // The text is the decimal of the number that is read.
-/// ensures found { IfOk result (λ n. bytes.now ≡ decimal n) }
+/// ensures found { [IfOk](crate::contracts::logic#IfOk) result (λ n. bytes.now ≡ [decimal](crate::contracts::logic#decimal) n) }
 /// // The decimal of each number below 2^32 is read as that number.
-/// ensures only { (n : ℕ) → n < 2 ^ 32 → bytes.now ≡ decimal n → result ≡ Ok n }
-///
-/// ensures shape { IsErrOf result ParseHandleError.Shape ↔ (¬ IsDecimal bytes.now) }
-/// ensures range { IsErrOf result ParseHandleError.Range
-///     ↔ (IsDecimal bytes.now × (2 ^ 32 ≤ digits_value 10 bytes.now)) }
-///
+/// ensures only { (n : [ℕ](crate::contracts::logic#ℕ)) → n \< 2 ^ 32 → bytes.now ≡ [decimal](crate::contracts::logic#decimal) n → result ≡ Ok n }
+/// &#32;
+/// ensures shape { [IsErrOf](crate::contracts::logic#IsErrOf) result ParseHandleError.Shape ↔ (¬ [IsDecimal](crate::contracts::ent_handle::text#IsDecimal) bytes.now) }
+/// ensures range { [IsErrOf](crate::contracts::logic#IsErrOf) result ParseHandleError.Range
+/// &#9;↔ ([IsDecimal](crate::contracts::ent_handle::text#IsDecimal) bytes.now × (2 ^ 32 ≤ [digits_value](crate::contracts::logic#digits_value) 10 bytes.now)) }
+/// &#32;
 /// // The whole result, as a function of the text.
-/// ensures exact { result ≡ number_of bytes.now }
-/// ```
+/// ensures exact { result ≡ [number_of](crate::contracts::ent_handle::text#number_of) bytes.now }
+/// </code>
 ///
 /// </details>
 #[inline]

@@ -50,11 +50,9 @@ impl<T, E> HandedBack<T, E> {
     ///
     /// <details><summary>Contract</summary>
     ///
-    /// In the words of the folder `specs/` of crate `ent_handle`:
-    ///
-    /// ```text
+    /// <code style="display: block; tab-size: 4; white-space: pre-wrap">// In the words of [contracts](crate::contracts):
     /// ensures { result ≡ record { value = value; error = error } }
-    /// ```
+    /// </code>
     ///
     /// </details>
     #[must_use]
@@ -78,12 +76,10 @@ impl<T, E> HandedBack<T, E> {
     ///
     /// <details><summary>Contract</summary>
     ///
-    /// In the words of the folder `specs/` of crate `ent_handle`:
-    ///
-    /// ```text
+    /// <code style="display: block; tab-size: 4; white-space: pre-wrap">// In the words of [contracts](crate::contracts):
     /// ensures value { result.0 ≡ self.value }
     /// ensures error { result.1 ≡ self.error }
-    /// ```
+    /// </code>
     ///
     /// </details>
     #[must_use]
@@ -105,11 +101,9 @@ impl<T, E> HandedBack<T, E> {
     ///
     /// <details><summary>Contract</summary>
     ///
-    /// In the words of the folder `specs/` of crate `ent_handle`:
-    ///
-    /// ```text
+    /// <code style="display: block; tab-size: 4; white-space: pre-wrap">// In the words of [contracts](crate::contracts):
     /// ensures { result.now ≡ self.now.value }
-    /// ```
+    /// </code>
     ///
     /// </details>
     #[must_use]
@@ -134,11 +128,9 @@ impl<T, E> HandedBack<T, E> {
     ///
     /// <details><summary>Contract</summary>
     ///
-    /// In the words of the folder `specs/` of crate `ent_handle`:
-    ///
-    /// ```text
+    /// <code style="display: block; tab-size: 4; white-space: pre-wrap">// In the words of [contracts](crate::contracts):
     /// ensures { result.now ≡ self.now.error }
-    /// ```
+    /// </code>
     ///
     /// </details>
     #[must_use]

@@ -52,13 +52,11 @@ impl Handle {
     ///
     /// <details><summary>Contract</summary>
     ///
-    /// In the words of the folder `specs/` of crate `ent_handle`:
-    ///
-    /// ```text
-    /// ensures in_range { IsSome result
-    ///     ↔ IsHandle (record { index = index; generation = generation }) }
-    /// ensures value { IfSome result (λ h. h ≡ record { index = index; generation = generation }) }
-    /// ```
+    /// <code style="display: block; tab-size: 4; white-space: pre-wrap">// In the words of [contracts](crate::contracts):
+    /// ensures in_range { [IsSome](crate::contracts::logic#IsSome) result
+    /// &#9;↔ [IsHandle](crate::contracts::ent_handle::handle#IsHandle) (record { index = index; generation = generation }) }
+    /// ensures value { [IfSome](crate::contracts::logic#IfSome) result (λ h. h ≡ record { index = index; generation = generation }) }
+    /// </code>
     ///
     /// </details>
     #[must_use]
@@ -104,11 +102,9 @@ impl Handle {
     ///
     /// <details><summary>Contract</summary>
     ///
-    /// In the words of the folder `specs/` of crate `ent_handle`:
-    ///
-    /// ```text
+    /// <code style="display: block; tab-size: 4; white-space: pre-wrap">// In the words of [contracts](crate::contracts):
     /// ensures { result ≡ self.index }
-    /// ```
+    /// </code>
     ///
     /// </details>
     #[must_use]
@@ -135,11 +131,9 @@ impl Handle {
     ///
     /// <details><summary>Contract</summary>
     ///
-    /// In the words of the folder `specs/` of crate `ent_handle`:
-    ///
-    /// ```text
+    /// <code style="display: block; tab-size: 4; white-space: pre-wrap">// In the words of [contracts](crate::contracts):
     /// ensures { result ≡ self.generation }
-    /// ```
+    /// </code>
     ///
     /// </details>
     #[must_use]
@@ -172,12 +166,10 @@ impl Handle {
     ///
     /// <details><summary>Contract</summary>
     ///
-    /// In the words of the folder `specs/` of crate `ent_handle`:
-    ///
-    /// ```text
-    /// ensures bits { result ≡ bits self }
-    /// ensures in_range { IsHandle self }
-    /// ```
+    /// <code style="display: block; tab-size: 4; white-space: pre-wrap">// In the words of [contracts](crate::contracts):
+    /// ensures bits { result ≡ [bits](crate::contracts::ent_handle::handle#bits) self }
+    /// ensures in_range { [IsHandle](crate::contracts::ent_handle::handle#IsHandle) self }
+    /// </code>
     ///
     /// </details>
     #[must_use]
@@ -207,14 +199,12 @@ impl Handle {
     ///
     /// <details><summary>Contract</summary>
     ///
-    /// In the words of the folder `specs/` of crate `ent_handle`:
-    ///
-    /// ```text
-    /// ensures bits { result ≡ nat_cmp (bits self.now) (bits other.now) }
-    /// ensures parts { result ≡ ordering_then
-    ///     (nat_cmp self.now.generation other.now.generation)
-    ///     (nat_cmp self.now.index other.now.index) }
-    /// ```
+    /// <code style="display: block; tab-size: 4; white-space: pre-wrap">// In the words of [contracts](crate::contracts):
+    /// ensures bits { result ≡ [nat_cmp](crate::contracts::logic#nat_cmp) ([bits](crate::contracts::ent_handle::handle#bits) self.now) ([bits](crate::contracts::ent_handle::handle#bits) other.now) }
+    /// ensures parts { result ≡ [ordering_then](crate::contracts::logic#ordering_then)
+    /// &#9;([nat_cmp](crate::contracts::logic#nat_cmp) self.now.generation other.now.generation)
+    /// &#9;([nat_cmp](crate::contracts::logic#nat_cmp) self.now.index other.now.index) }
+    /// </code>
     ///
     /// </details>
     #[must_use]
@@ -237,13 +227,11 @@ impl Handle {
     ///
     /// <details><summary>Contract</summary>
     ///
-    /// In the words of the folder `specs/` of crate `ent_handle`:
-    ///
-    /// ```text
-    /// ensures found { IfSome result (λ h. bits h ≡ of) }
-    /// ensures in_range { IfSome result IsHandle }
-    /// ensures none { IfNone result ((h : Handle) → IsHandle h → bits h ≢ of) }
-    /// ```
+    /// <code style="display: block; tab-size: 4; white-space: pre-wrap">// In the words of [contracts](crate::contracts):
+    /// ensures found { [IfSome](crate::contracts::logic#IfSome) result (λ h. [bits](crate::contracts::ent_handle::handle#bits) h ≡ of) }
+    /// ensures in_range { [IfSome](crate::contracts::logic#IfSome) result [IsHandle](crate::contracts::ent_handle::handle#IsHandle) }
+    /// ensures none { [IfNone](crate::contracts::logic#IfNone) result ((h : [Handle](crate::contracts::ent_handle::handle#Handle)) → [IsHandle](crate::contracts::ent_handle::handle#IsHandle) h → [bits](crate::contracts::ent_handle::handle#bits) h ≢ of) }
+    /// </code>
     ///
     /// </details>
     #[must_use]

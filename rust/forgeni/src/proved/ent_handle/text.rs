@@ -41,13 +41,11 @@ impl core::error::Error for ParseHandleError {}
 ///
 /// <details><summary>Contract</summary>
 ///
-/// In the words of the folder `specs/` of crate `ent_handle`:
-///
-/// ```text
-/// ensures found { IfSome result (λ parts. bytes.now ≡ parts.0.now ++ separator ∷ parts.1.now) }
-/// ensures first { IfSome result (λ parts. All (λ byte. byte ≢ separator) parts.0.now) }
-/// ensures none { IfNone result (All (λ byte. byte ≢ separator) bytes.now) }
-/// ```
+/// <code style="display: block; tab-size: 4; white-space: pre-wrap">// In the words of [contracts](crate::contracts):
+/// ensures found { [IfSome](crate::contracts::logic#IfSome) result (λ parts. bytes.now ≡ parts.0.now ++ separator ∷ parts.1.now) }
+/// ensures first { [IfSome](crate::contracts::logic#IfSome) result (λ parts. [All](crate::contracts::logic#All) (λ byte. byte ≢ separator) parts.0.now) }
+/// ensures none { [IfNone](crate::contracts::logic#IfNone) result ([All](crate::contracts::logic#All) (λ byte. byte ≢ separator) bytes.now) }
+/// </code>
 ///
 /// </details>
 #[inline]
@@ -80,21 +78,19 @@ impl Handle {
     ///
     /// <details><summary>Contract</summary>
     ///
-    /// In the words of the folder `specs/` of crate `ent_handle`:
-    ///
-    /// ```text
+    /// <code style="display: block; tab-size: 4; white-space: pre-wrap">// In the words of [contracts](crate::contracts):
     /// // The text is that of the handle that is read.
-    /// ensures found { IfOk result (λ h. IsHandle h × (bytes.now ≡ handle_text h)) }
+    /// ensures found { [IfOk](crate::contracts::logic#IfOk) result (λ h. [IsHandle](crate::contracts::ent_handle::handle#IsHandle) h × (bytes.now ≡ [handle_text](crate::contracts::ent_handle::text#handle_text) h)) }
     /// // The text of each handle is read as that handle.
-    /// ensures only { (h : HandleValue) → IsHandle h → bytes.now ≡ handle_text h → result ≡ Ok h }
-    ///
-    /// ensures shape { IsErrOf result ParseHandleError.Shape ↔ (¬ HasHandleForm bytes.now) }
-    /// ensures range { IsErrOf result ParseHandleError.Range ↔ (HasHandleForm bytes.now
-    ///     × ((h : HandleValue) → IsHandle h → bytes.now ≢ handle_text h)) }
-    ///
+    /// ensures only { (h : [HandleValue](crate::contracts::ent_handle::handle#Handle)) → [IsHandle](crate::contracts::ent_handle::handle#IsHandle) h → bytes.now ≡ [handle_text](crate::contracts::ent_handle::text#handle_text) h → result ≡ Ok h }
+    /// &#32;
+    /// ensures shape { [IsErrOf](crate::contracts::logic#IsErrOf) result ParseHandleError.Shape ↔ (¬ [HasHandleForm](crate::contracts::ent_handle::text#HasHandleForm) bytes.now) }
+    /// ensures range { [IsErrOf](crate::contracts::logic#IsErrOf) result ParseHandleError.Range ↔ ([HasHandleForm](crate::contracts::ent_handle::text#HasHandleForm) bytes.now
+    /// &#9;× ((h : [HandleValue](crate::contracts::ent_handle::handle#Handle)) → [IsHandle](crate::contracts::ent_handle::handle#IsHandle) h → bytes.now ≢ [handle_text](crate::contracts::ent_handle::text#handle_text) h)) }
+    /// &#32;
     /// // The whole result, as a function of the text.
-    /// ensures exact { result ≡ handle_of bytes.now }
-    /// ```
+    /// ensures exact { result ≡ [handle_of](crate::contracts::ent_handle::text#handle_of) bytes.now }
+    /// </code>
     ///
     /// </details>
     #[inline]
@@ -135,15 +131,13 @@ impl Handle {
     ///
     /// <details><summary>Contract</summary>
     ///
-    /// In the words of the folder `specs/` of crate `ent_handle`:
-    ///
-    /// ```text
-    /// ensures ok { OnOk result (out.new.items ≡ out.old.items ++ handle_text self.now) }
-    /// ensures err { OnErr result (out.new.items ≡ out.old.items) }
-    /// ensures full { OnErr result
-    ///     (vec_capacity out.old < vec_len out.old + length (handle_text self.now)) }
-    /// ensures capacity { vec_capacity out.old ≤ vec_capacity out.new }
-    /// ```
+    /// <code style="display: block; tab-size: 4; white-space: pre-wrap">// In the words of [contracts](crate::contracts):
+    /// ensures ok { [OnOk](crate::contracts::logic#OnOk) result (out.new.items ≡ out.old.items ++ [handle_text](crate::contracts::ent_handle::text#handle_text) self.now) }
+    /// ensures err { [OnErr](crate::contracts::logic#OnErr) result (out.new.items ≡ out.old.items) }
+    /// ensures full { [OnErr](crate::contracts::logic#OnErr) result
+    /// &#9;([vec_capacity](crate::contracts::logic#vec_capacity) out.old \< [vec_len](crate::contracts::logic#vec_len) out.old + [length](crate::contracts::logic#length) ([handle_text](crate::contracts::ent_handle::text#handle_text) self.now)) }
+    /// ensures capacity { [vec_capacity](crate::contracts::logic#vec_capacity) out.old ≤ [vec_capacity](crate::contracts::logic#vec_capacity) out.new }
+    /// </code>
     ///
     /// </details>
     #[inline]

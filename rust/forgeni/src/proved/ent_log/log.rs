@@ -54,11 +54,9 @@ impl<C> Log<C> {
     ///
     /// <details><summary>Contract</summary>
     ///
-    /// In the words of the folder `specs/` of crate `ent_log`:
-    ///
-    /// ```text
-    /// ensures { result ≡ [] }
-    /// ```
+    /// <code style="display: block; tab-size: 4; white-space: pre-wrap">// In the words of [contracts](crate::contracts):
+    /// ensures { result ≡ \[\] }
+    /// </code>
     ///
     /// </details>
     #[must_use]
@@ -87,11 +85,9 @@ impl<C> Log<C> {
     ///
     /// <details><summary>Contract</summary>
     ///
-    /// In the words of the folder `specs/` of crate `ent_log`:
-    ///
-    /// ```text
+    /// <code style="display: block; tab-size: 4; white-space: pre-wrap">// In the words of [contracts](crate::contracts):
     /// ensures { result.now ≡ self.now }
-    /// ```
+    /// </code>
     ///
     /// </details>
     #[must_use]
@@ -114,11 +110,9 @@ impl<C> Log<C> {
     ///
     /// <details><summary>Contract</summary>
     ///
-    /// In the words of the folder `specs/` of crate `ent_log`:
-    ///
-    /// ```text
-    /// ensures { result ≡ length self.now }
-    /// ```
+    /// <code style="display: block; tab-size: 4; white-space: pre-wrap">// In the words of [contracts](crate::contracts):
+    /// ensures { result ≡ [length](crate::contracts::logic#length) self.now }
+    /// </code>
     ///
     /// </details>
     #[must_use]
@@ -139,11 +133,9 @@ impl<C> Log<C> {
     ///
     /// <details><summary>Contract</summary>
     ///
-    /// In the words of the folder `specs/` of crate `ent_log`:
-    ///
-    /// ```text
-    /// ensures { IsTrue result ↔ (self.now ≡ []) }
-    /// ```
+    /// <code style="display: block; tab-size: 4; white-space: pre-wrap">// In the words of [contracts](crate::contracts):
+    /// ensures { [IsTrue](crate::contracts::logic#IsTrue) result ↔ (self.now ≡ \[\]) }
+    /// </code>
     ///
     /// </details>
     #[must_use]
@@ -169,11 +161,9 @@ impl<C> Log<C> {
     ///
     /// <details><summary>Contract</summary>
     ///
-    /// In the words of the folder `specs/` of crate `ent_log`:
-    ///
-    /// ```text
-    /// ensures { result ≡ length (refused_in self.now) }
-    /// ```
+    /// <code style="display: block; tab-size: 4; white-space: pre-wrap">// In the words of [contracts](crate::contracts):
+    /// ensures { result ≡ [length](crate::contracts::logic#length) ([refused_in](crate::contracts::ent_log::logs#refused_in) self.now) }
+    /// </code>
     ///
     /// </details>
     #[must_use]
@@ -215,17 +205,15 @@ impl<C> Log<C> {
     ///
     /// <details><summary>Contract</summary>
     ///
-    /// In the words of the folder `specs/` of crate `ent_log`:
-    ///
-    /// ```text
-    /// ensures ok { IfOk result (λ handle. self.new ≡ self.old ++ Spawn handle ∷ []) }
-    /// ensures refused { IfErr result (λ error. self.new ≡ self.old ++ refused_by error) }
-    ///
+    /// <code style="display: block; tab-size: 4; white-space: pre-wrap">// In the words of [contracts](crate::contracts):
+    /// ensures ok { [IfOk](crate::contracts::logic#IfOk) result (λ handle. self.new ≡ self.old ++ Spawn handle ∷ \[\]) }
+    /// ensures refused { [IfErr](crate::contracts::logic#IfErr) result (λ error. self.new ≡ self.old ++ [refused_by](crate::contracts::ent_log::spawning#refused_by) error) }
+    /// &#32;
     /// // Anything but Memory is the result of one reservation.
-    /// ensures replies { (reply : Result HandleValue Refusal) → result ≡ returned reply
-    ///     → S.may_reserve source.old reply source.new }
-    /// ensures memory { IsErrOf result ReserveError.Memory → source.new ≡ source.old }
-    /// ```
+    /// ensures replies { (reply : [Result](crate::contracts::logic#Result) [HandleValue](crate::contracts::ent_handle::handle#Handle) Refusal) → result ≡ [returned](crate::contracts::ent_log::spawning#returned) reply
+    /// &#9;→ S.may_reserve source.old reply source.new }
+    /// ensures memory { [IsErrOf](crate::contracts::logic#IsErrOf) result ReserveError.Memory → source.new ≡ source.old }
+    /// </code>
     ///
     /// </details>
     #[inline]
@@ -333,12 +321,10 @@ impl<C> Log<C> {
     ///
     /// <details><summary>Contract</summary>
     ///
-    /// In the words of the folder `specs/` of crate `ent_log`:
-    ///
-    /// ```text
-    /// ensures ok { OnOk result (self.new ≡ self.old ++ Command command ∷ []) }
-    /// ensures err { OnErr result (self.new ≡ self.old) }
-    /// ```
+    /// <code style="display: block; tab-size: 4; white-space: pre-wrap">// In the words of [contracts](crate::contracts):
+    /// ensures ok { [OnOk](crate::contracts::logic#OnOk) result (self.new ≡ self.old ++ Command command ∷ \[\]) }
+    /// ensures err { [OnErr](crate::contracts::logic#OnErr) result (self.new ≡ self.old) }
+    /// </code>
     ///
     /// </details>
     #[inline]
@@ -365,11 +351,9 @@ impl<C> Log<C> {
     ///
     /// <details><summary>Contract</summary>
     ///
-    /// In the words of the folder `specs/` of crate `ent_log`:
-    ///
-    /// ```text
-    /// ensures { self.new ≡ [] }
-    /// ```
+    /// <code style="display: block; tab-size: 4; white-space: pre-wrap">// In the words of [contracts](crate::contracts):
+    /// ensures { self.new ≡ \[\] }
+    /// </code>
     ///
     /// </details>
     #[inline]

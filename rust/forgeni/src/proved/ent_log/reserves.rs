@@ -46,11 +46,9 @@ pub trait Reserves {
     ///
     /// <details><summary>Contract</summary>
     ///
-    /// In the words of the folder `specs/` of crate `ent_log`:
-    ///
-    /// ```text
+    /// <code style="display: block; tab-size: 4; white-space: pre-wrap">// In the words of [contracts](crate::contracts):
     /// ensures { may_reserve self.old result self.new }
-    /// ```
+    /// </code>
     ///
     /// </details>
     fn reserve_one(&mut self) -> Result<Handle, Refused>;

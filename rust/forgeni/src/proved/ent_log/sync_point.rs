@@ -102,31 +102,29 @@ impl<C> SyncPoint<C> {
     ///
     /// <details><summary>Contract</summary>
     ///
-    /// In the words of the folder `specs/` of crate `ent_log`:
-    ///
-    /// ```text
-    /// ensures entries { IfOk result (λ point. point ≡ entries_of logs.old.items) }
-    /// ensures emptied { OnOk result (logs.new.items ≡ []) }
-    /// ensures flushed { OnOk result
-    ///     (entities.new.allocator ≡ after_flush entities.old.allocator) }
+    /// <code style="display: block; tab-size: 4; white-space: pre-wrap">// In the words of [contracts](crate::contracts):
+    /// ensures entries { [IfOk](crate::contracts::logic#IfOk) result (λ point. point ≡ [entries_of](crate::contracts::ent_log::logs#entries_of) logs.old.items) }
+    /// ensures emptied { [OnOk](crate::contracts::logic#OnOk) result (logs.new.items ≡ \[\]) }
+    /// ensures flushed { [OnOk](crate::contracts::logic#OnOk) result
+    /// &#9;(entities.new.allocator ≡ [after_flush](crate::contracts::ent_alloc::sequential#after_flush) entities.old.allocator) }
     /// ensures rows { entities.new.rows ≡ entities.old.rows }
-    /// ensures born { OnOk result
-    ///     (out.new.items ≡ out.old.items ++ born entities.old.allocator) }
-    /// ensures alive { OnOk result
-    ///     (All (IsLive entities.new.allocator) (spawned_in (entries_of logs.old.items))) }
-    ///
-    /// // Each handle of a spawn is reserved, or the error says which is the first that isn't.
-    /// ensures reserved { OnOk result (first_unreserved entities.old.allocator
-    ///     (spawned_in (entries_of logs.old.items)) ≡ None) }
-    /// ensures not_reserved { IfErr result (λ error. unreserved_of error
-    ///     ≡ first_unreserved entities.old.allocator (spawned_in (entries_of logs.old.items))) }
-    /// ensures memory { IfErr result (λ error. error ≡ NoMemory
-    ///     → (0 < made_at_flush entities.old.allocator)
-    ///     ⊎ (vec_capacity out.old < vec_len out.old + length entities.old.allocator.taken)) }
-    /// ensures kept { OnErr result (logs.new.items ≡ logs.old.items) }
-    /// ensures err { OnErr result (entities.new ≡ entities.old) }
-    /// ensures unchanged { OnErr result (out.new.items ≡ out.old.items) }
-    /// ```
+    /// ensures born { [OnOk](crate::contracts::logic#OnOk) result
+    /// &#9;(out.new.items ≡ out.old.items ++ [born](crate::contracts::ent_alloc::sequential#born) entities.old.allocator) }
+    /// ensures alive { [OnOk](crate::contracts::logic#OnOk) result
+    /// &#9;([All](crate::contracts::logic#All) ([IsLive](crate::contracts::ent_alloc::sound#IsLive) entities.new.allocator) ([spawned_in](crate::contracts::ent_log::logs#spawned_in) ([entries_of](crate::contracts::ent_log::logs#entries_of) logs.old.items))) }
+    /// &#32;
+    /// // Each handle of a spawn is reserved, or the error says which is the first that isn\'t.
+    /// ensures reserved { [OnOk](crate::contracts::logic#OnOk) result ([first_unreserved](crate::contracts::ent_log::logs#first_unreserved) entities.old.allocator
+    /// &#9;([spawned_in](crate::contracts::ent_log::logs#spawned_in) ([entries_of](crate::contracts::ent_log::logs#entries_of) logs.old.items)) ≡ [None](crate::contracts::logic#None)) }
+    /// ensures not_reserved { [IfErr](crate::contracts::logic#IfErr) result (λ error. [unreserved_of](crate::contracts::ent_log::beginning#unreserved_of) error
+    /// &#9;≡ [first_unreserved](crate::contracts::ent_log::logs#first_unreserved) entities.old.allocator ([spawned_in](crate::contracts::ent_log::logs#spawned_in) ([entries_of](crate::contracts::ent_log::logs#entries_of) logs.old.items))) }
+    /// ensures memory { [IfErr](crate::contracts::logic#IfErr) result (λ error. error ≡ NoMemory
+    /// &#9;→ (0 \< [made_at_flush](crate::contracts::ent_alloc::sequential#made_at_flush) entities.old.allocator)
+    /// &#9;⊎ ([vec_capacity](crate::contracts::logic#vec_capacity) out.old \< [vec_len](crate::contracts::logic#vec_len) out.old + [length](crate::contracts::logic#length) entities.old.allocator.taken)) }
+    /// ensures kept { [OnErr](crate::contracts::logic#OnErr) result (logs.new.items ≡ logs.old.items) }
+    /// ensures err { [OnErr](crate::contracts::logic#OnErr) result (entities.new ≡ entities.old) }
+    /// ensures unchanged { [OnErr](crate::contracts::logic#OnErr) result (out.new.items ≡ out.old.items) }
+    /// </code>
     ///
     /// </details>
     #[inline]
@@ -221,16 +219,14 @@ impl<C> SyncPoint<C> {
     ///
     /// <details><summary>Contract</summary>
     ///
-    /// In the words of the folder `specs/` of crate `ent_log`:
-    ///
-    /// ```text
+    /// <code style="display: block; tab-size: 4; white-space: pre-wrap">// In the words of [contracts](crate::contracts):
     /// requires { F.IsAlwaysCallable run }
-    /// ensures all { OnOk result
-    ///     (TakesAll F.step run entities.old self.old entities.new) }
-    /// ensures done { OnOk result (self.new ≡ []) }
-    /// ensures fails { IfErr result (λ error.
-    ///     FailsAt F.step run entities.old self.old error self.new entities.new) }
-    /// ```
+    /// ensures all { [OnOk](crate::contracts::logic#OnOk) result
+    /// &#9;([TakesAll](crate::contracts::ent_log::handing_on#TakesAll) F.step run entities.old self.old entities.new) }
+    /// ensures done { [OnOk](crate::contracts::logic#OnOk) result (self.new ≡ \[\]) }
+    /// ensures fails { [IfErr](crate::contracts::logic#IfErr) result (λ error.
+    /// &#9;[FailsAt](crate::contracts::ent_log::handing_on#FailsAt) F.step run entities.old self.old error self.new entities.new) }
+    /// </code>
     ///
     /// </details>
     #[inline]
@@ -268,13 +264,11 @@ impl<C> SyncPoint<C> {
     ///
     /// <details><summary>Contract</summary>
     ///
-    /// In the words of the folder `specs/` of crate `ent_log`:
-    ///
-    /// ```text
-    /// ensures first { IfSome result (λ entry. self.old ≡ entry ∷ self.new) }
-    /// ensures none { IfNone result (self.old ≡ []) }
-    /// ensures done { IfNone result (self.new ≡ []) }
-    /// ```
+    /// <code style="display: block; tab-size: 4; white-space: pre-wrap">// In the words of [contracts](crate::contracts):
+    /// ensures first { [IfSome](crate::contracts::logic#IfSome) result (λ entry. self.old ≡ entry ∷ self.new) }
+    /// ensures none { [IfNone](crate::contracts::logic#IfNone) result (self.old ≡ \[\]) }
+    /// ensures done { [IfNone](crate::contracts::logic#IfNone) result (self.new ≡ \[\]) }
+    /// </code>
     ///
     /// </details>
     #[inline]

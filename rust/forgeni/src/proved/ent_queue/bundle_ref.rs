@@ -31,11 +31,9 @@ impl<'a> BundleRef<'a> {
     ///
     /// <details><summary>Contract</summary>
     ///
-    /// In the words of the folder `specs/` of crate `ent_queue`:
-    ///
-    /// ```text
-    /// ensures { result ≡ length self.now }
-    /// ```
+    /// <code style="display: block; tab-size: 4; white-space: pre-wrap">// In the words of [contracts](crate::contracts):
+    /// ensures { result ≡ [length](crate::contracts::logic#length) self.now }
+    /// </code>
     ///
     /// </details>
     #[inline]
@@ -47,11 +45,9 @@ impl<'a> BundleRef<'a> {
     ///
     /// <details><summary>Contract</summary>
     ///
-    /// In the words of the folder `specs/` of crate `ent_queue`:
-    ///
-    /// ```text
-    /// ensures { IsTrue result ↔ (self.now ≡ []) }
-    /// ```
+    /// <code style="display: block; tab-size: 4; white-space: pre-wrap">// In the words of [contracts](crate::contracts):
+    /// ensures { [IsTrue](crate::contracts::logic#IsTrue) result ↔ (self.now ≡ \[\]) }
+    /// </code>
     ///
     /// </details>
     #[inline]
@@ -63,12 +59,10 @@ impl<'a> BundleRef<'a> {
     ///
     /// <details><summary>Contract</summary>
     ///
-    /// In the words of the folder `specs/` of crate `ent_queue`:
-    ///
-    /// ```text
+    /// <code style="display: block; tab-size: 4; white-space: pre-wrap">// In the words of [contracts](crate::contracts):
     /// ensures items { result ≡ self.now }
-    /// ensures rising { T (is_sorted component_cmp self.now) }
-    /// ```
+    /// ensures rising { [T](crate::contracts::logic#T) ([is_sorted](crate::contracts::logic#FinMap.is_sorted) [component_cmp](crate::contracts::ent_handle::component#component_cmp) self.now) }
+    /// </code>
     ///
     /// </details>
     #[inline]

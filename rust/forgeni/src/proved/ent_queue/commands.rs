@@ -84,11 +84,9 @@ impl<'a, O, S: Source> SystemCommands<'a, O, S> {
     ///
     /// <details><summary>Contract</summary>
     ///
-    /// In the words of the folder `specs/` of crate `ent_queue`:
-    ///
-    /// ```text
-    /// ensures { result ≡ set.contains (S.start (source_of self.now)).live handle }
-    /// ```
+    /// <code style="display: block; tab-size: 4; white-space: pre-wrap">// In the words of [contracts](crate::contracts):
+    /// ensures { result ≡ [set.contains](crate::contracts::logic#FinSet.contains) (S.start (source_of self.now)).live handle }
+    /// </code>
     ///
     /// </details>
     #[must_use]
@@ -117,13 +115,11 @@ impl<'a, O, S: Source> SystemCommands<'a, O, S> {
     ///
     /// <details><summary>Contract</summary>
     ///
-    /// In the words of the folder `specs/` of crate `ent_queue`:
-    ///
-    /// ```text
-    /// ensures value { result ≡ map.get (S.rows (source_of self.now)) handle }
-    /// ensures alive { OnSome result
-    ///     (set.contains (S.start (source_of self.now)).live handle ≡ true) }
-    /// ```
+    /// <code style="display: block; tab-size: 4; white-space: pre-wrap">// In the words of [contracts](crate::contracts):
+    /// ensures value { result ≡ [map.get](crate::contracts::logic#FinMap.get) (S.rows (source_of self.now)) handle }
+    /// ensures alive { [OnSome](crate::contracts::logic#OnSome) result
+    /// &#9;([set.contains](crate::contracts::logic#FinSet.contains) (S.start (source_of self.now)).live handle ≡ [true](crate::contracts::logic#true)) }
+    /// </code>
     ///
     /// </details>
     #[must_use]
@@ -138,12 +134,10 @@ impl<O, S: Source> SystemCommands<'_, O, S> {
     ///
     /// <details><summary>Contract</summary>
     ///
-    /// In the words of the folder `specs/` of crate `ent_queue`:
-    ///
-    /// ```text
+    /// <code style="display: block; tab-size: 4; white-space: pre-wrap">// In the words of [contracts](crate::contracts):
     /// ensures reserver { self.exit.0.now ≡ self.entry.reserver.now }
     /// ensures output { result ≡ self.entry.output }
-    /// ```
+    /// </code>
     ///
     /// </details>
     #[inline]

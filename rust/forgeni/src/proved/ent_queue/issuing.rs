@@ -37,23 +37,21 @@ impl<S: Source> SystemCommands<'_, IssuedCommands, S> {
     ///
     /// <details><summary>Contract</summary>
     ///
-    /// In the words of the folder `specs/` of crate `ent_queue`:
-    ///
-    /// ```text
-    /// requires { IsReady S.serves self.old }
-    /// ensures extends { Extends Issues S.serves S.may_reply self.old self.new }
-    /// ensures ok { IfOk result (λ handle.
-    ///     output_of self.new ≡ output_of self.old ++ Spawn handle bundle.now ∷ []) }
-    /// ensures refused { IfErr result (λ fault.
-    ///     output_of self.new ≡ output_of self.old ++ refused_by 1 fault) }
-    /// ensures memory { IsErrOf result ReserveError.Memory
-    ///     → reserver_of self.new ≡ reserver_of self.old }
-    ///
+    /// <code style="display: block; tab-size: 4; white-space: pre-wrap">// In the words of [contracts](crate::contracts):
+    /// requires { [IsReady](crate::contracts::ent_queue::commands#IsReady) S.serves self.old }
+    /// ensures extends { [Extends](crate::contracts::ent_queue::commands#Extends) [Issues](crate::contracts::ent_queue::issuing#Issues) S.serves S.may_reply self.old self.new }
+    /// ensures ok { [IfOk](crate::contracts::logic#IfOk) result (λ handle.
+    /// &#9;[output_of](crate::contracts::ent_queue::commands#output_of) self.new ≡ [output_of](crate::contracts::ent_queue::commands#output_of) self.old ++ [Spawn](crate::contracts::ent_queue::command#Spawn) handle bundle.now ∷ \[\]) }
+    /// ensures refused { [IfErr](crate::contracts::logic#IfErr) result (λ fault.
+    /// &#9;[output_of](crate::contracts::ent_queue::commands#output_of) self.new ≡ [output_of](crate::contracts::ent_queue::commands#output_of) self.old ++ [refused_by](crate::contracts::ent_queue::reserving#refused_by) 1 fault) }
+    /// ensures memory { [IsErrOf](crate::contracts::logic#IsErrOf) result ReserveError.Memory
+    /// &#9;→ [reserver_of](crate::contracts::ent_queue::commands#reserver_of) self.new ≡ [reserver_of](crate::contracts::ent_queue::commands#reserver_of) self.old }
+    /// &#32;
     /// // Anything but Memory is the result of a reservation.
-    /// ensures replies { (reply : Result HandleValue Refusal) → result ≡ queued reply
-    ///     → S.may_reply (source_of self.old) (reserver_of self.old) (reserver_of self.new) 1
-    ///     (listed_alone reply) }
-    /// ```
+    /// ensures replies { (reply : [Result](crate::contracts::logic#Result) [HandleValue](crate::contracts::ent_handle::handle#Handle) Refusal) → result ≡ [queued](crate::contracts::ent_queue::reserving#queued) reply
+    /// &#9;→ S.may_reply ([source_of](crate::contracts::ent_queue::commands#source_of) self.old) ([reserver_of](crate::contracts::ent_queue::commands#reserver_of) self.old) ([reserver_of](crate::contracts::ent_queue::commands#reserver_of) self.new) 1
+    /// &#9;([listed_alone](crate::contracts::ent_alloc::sequential#listed_alone) reply) }
+    /// </code>
     ///
     /// </details>
     #[inline]
@@ -89,23 +87,21 @@ impl<S: Source> SystemCommands<'_, IssuedCommands, S> {
     ///
     /// <details><summary>Contract</summary>
     ///
-    /// In the words of the folder `specs/` of crate `ent_queue`:
-    ///
-    /// ```text
-    /// requires { IsReady S.serves self.old }
-    /// ensures extends { Extends Issues S.serves S.may_reply self.old self.new }
-    /// ensures ok { IfOk result (λ handle. output_of self.new
-    ///     ≡ output_of self.old ++ Spawn handle (bundle_of components.now) ∷ []) }
-    /// ensures refused { IfErr result (λ fault.
-    ///     output_of self.new ≡ output_of self.old ++ refused_by 1 fault) }
-    /// ensures memory { IsErrOf result ReserveError.Memory
-    ///     → reserver_of self.new ≡ reserver_of self.old }
-    ///
+    /// <code style="display: block; tab-size: 4; white-space: pre-wrap">// In the words of [contracts](crate::contracts):
+    /// requires { [IsReady](crate::contracts::ent_queue::commands#IsReady) S.serves self.old }
+    /// ensures extends { [Extends](crate::contracts::ent_queue::commands#Extends) [Issues](crate::contracts::ent_queue::issuing#Issues) S.serves S.may_reply self.old self.new }
+    /// ensures ok { [IfOk](crate::contracts::logic#IfOk) result (λ handle. [output_of](crate::contracts::ent_queue::commands#output_of) self.new
+    /// &#9;≡ [output_of](crate::contracts::ent_queue::commands#output_of) self.old ++ [Spawn](crate::contracts::ent_queue::command#Spawn) handle ([bundle_of](crate::contracts::ent_storage::bundle#bundle_of) components.now) ∷ \[\]) }
+    /// ensures refused { [IfErr](crate::contracts::logic#IfErr) result (λ fault.
+    /// &#9;[output_of](crate::contracts::ent_queue::commands#output_of) self.new ≡ [output_of](crate::contracts::ent_queue::commands#output_of) self.old ++ [refused_by](crate::contracts::ent_queue::reserving#refused_by) 1 fault) }
+    /// ensures memory { [IsErrOf](crate::contracts::logic#IsErrOf) result ReserveError.Memory
+    /// &#9;→ [reserver_of](crate::contracts::ent_queue::commands#reserver_of) self.new ≡ [reserver_of](crate::contracts::ent_queue::commands#reserver_of) self.old }
+    /// &#32;
     /// // Anything but Memory is the result of a reservation.
-    /// ensures replies { (reply : Result HandleValue Refusal) → result ≡ queued reply
-    ///     → S.may_reply (source_of self.old) (reserver_of self.old) (reserver_of self.new) 1
-    ///     (listed_alone reply) }
-    /// ```
+    /// ensures replies { (reply : [Result](crate::contracts::logic#Result) [HandleValue](crate::contracts::ent_handle::handle#Handle) Refusal) → result ≡ [queued](crate::contracts::ent_queue::reserving#queued) reply
+    /// &#9;→ S.may_reply ([source_of](crate::contracts::ent_queue::commands#source_of) self.old) ([reserver_of](crate::contracts::ent_queue::commands#reserver_of) self.old) ([reserver_of](crate::contracts::ent_queue::commands#reserver_of) self.new) 1
+    /// &#9;([listed_alone](crate::contracts::ent_alloc::sequential#listed_alone) reply) }
+    /// </code>
     ///
     /// </details>
     #[inline]
@@ -140,25 +136,23 @@ impl<S: Source> SystemCommands<'_, IssuedCommands, S> {
     ///
     /// <details><summary>Contract</summary>
     ///
-    /// In the words of the folder `specs/` of crate `ent_queue`:
-    ///
-    /// ```text
-    /// requires { IsReady S.serves self.old }
-    /// ensures extends { Extends Issues S.serves S.may_reply self.old self.new }
-    /// ensures ok { IfOk result (λ handles.
-    ///     output_of self.new ≡ output_of self.old ++ SpawnMany handles.items bundle.now ∷ []) }
-    /// ensures length { IfOk result (λ handles. length handles.items ≡ n) }
-    /// ensures refused { IfErr result (λ fault.
-    ///     output_of self.new ≡ output_of self.old ++ refused_by n fault) }
-    /// ensures memory { IsErrOf result ReserveError.Memory
-    ///     → reserver_of self.new ≡ reserver_of self.old }
-    ///
+    /// <code style="display: block; tab-size: 4; white-space: pre-wrap">// In the words of [contracts](crate::contracts):
+    /// requires { [IsReady](crate::contracts::ent_queue::commands#IsReady) S.serves self.old }
+    /// ensures extends { [Extends](crate::contracts::ent_queue::commands#Extends) [Issues](crate::contracts::ent_queue::issuing#Issues) S.serves S.may_reply self.old self.new }
+    /// ensures ok { [IfOk](crate::contracts::logic#IfOk) result (λ handles.
+    /// &#9;[output_of](crate::contracts::ent_queue::commands#output_of) self.new ≡ [output_of](crate::contracts::ent_queue::commands#output_of) self.old ++ [SpawnMany](crate::contracts::ent_queue::command#SpawnMany) handles.items bundle.now ∷ \[\]) }
+    /// ensures length { [IfOk](crate::contracts::logic#IfOk) result (λ handles. [length](crate::contracts::logic#length) handles.items ≡ n) }
+    /// ensures refused { [IfErr](crate::contracts::logic#IfErr) result (λ fault.
+    /// &#9;[output_of](crate::contracts::ent_queue::commands#output_of) self.new ≡ [output_of](crate::contracts::ent_queue::commands#output_of) self.old ++ [refused_by](crate::contracts::ent_queue::reserving#refused_by) n fault) }
+    /// ensures memory { [IsErrOf](crate::contracts::logic#IsErrOf) result ReserveError.Memory
+    /// &#9;→ [reserver_of](crate::contracts::ent_queue::commands#reserver_of) self.new ≡ [reserver_of](crate::contracts::ent_queue::commands#reserver_of) self.old }
+    /// &#32;
     /// // Anything but Memory is the result of a reservation.
-    /// ensures replies { (reply : Result (List HandleValue) Refusal)
-    ///     → as_list result ≡ queued reply
-    ///     → S.may_reply (source_of self.old) (reserver_of self.old) (reserver_of self.new) n
-    ///     reply }
-    /// ```
+    /// ensures replies { (reply : [Result](crate::contracts::logic#Result) ([List](crate::contracts::logic#List) [HandleValue](crate::contracts::ent_handle::handle#Handle)) Refusal)
+    /// &#9;→ [as_list](crate::contracts::ent_queue::reserving#as_list) result ≡ [queued](crate::contracts::ent_queue::reserving#queued) reply
+    /// &#9;→ S.may_reply ([source_of](crate::contracts::ent_queue::commands#source_of) self.old) ([reserver_of](crate::contracts::ent_queue::commands#reserver_of) self.old) ([reserver_of](crate::contracts::ent_queue::commands#reserver_of) self.new) n
+    /// &#9;reply }
+    /// </code>
     ///
     /// </details>
     #[inline]
@@ -194,25 +188,23 @@ impl<S: Source> SystemCommands<'_, IssuedCommands, S> {
     ///
     /// <details><summary>Contract</summary>
     ///
-    /// In the words of the folder `specs/` of crate `ent_queue`:
-    ///
-    /// ```text
-    /// requires { IsReady S.serves self.old }
-    /// ensures extends { Extends Issues S.serves S.may_reply self.old self.new }
-    /// ensures ok { IfOk result (λ handles. output_of self.new
-    ///     ≡ output_of self.old ++ SpawnMany handles.items (bundle_of components.now) ∷ []) }
-    /// ensures length { IfOk result (λ handles. length handles.items ≡ n) }
-    /// ensures refused { IfErr result (λ fault.
-    ///     output_of self.new ≡ output_of self.old ++ refused_by n fault) }
-    /// ensures memory { IsErrOf result ReserveError.Memory
-    ///     → reserver_of self.new ≡ reserver_of self.old }
-    ///
+    /// <code style="display: block; tab-size: 4; white-space: pre-wrap">// In the words of [contracts](crate::contracts):
+    /// requires { [IsReady](crate::contracts::ent_queue::commands#IsReady) S.serves self.old }
+    /// ensures extends { [Extends](crate::contracts::ent_queue::commands#Extends) [Issues](crate::contracts::ent_queue::issuing#Issues) S.serves S.may_reply self.old self.new }
+    /// ensures ok { [IfOk](crate::contracts::logic#IfOk) result (λ handles. [output_of](crate::contracts::ent_queue::commands#output_of) self.new
+    /// &#9;≡ [output_of](crate::contracts::ent_queue::commands#output_of) self.old ++ [SpawnMany](crate::contracts::ent_queue::command#SpawnMany) handles.items ([bundle_of](crate::contracts::ent_storage::bundle#bundle_of) components.now) ∷ \[\]) }
+    /// ensures length { [IfOk](crate::contracts::logic#IfOk) result (λ handles. [length](crate::contracts::logic#length) handles.items ≡ n) }
+    /// ensures refused { [IfErr](crate::contracts::logic#IfErr) result (λ fault.
+    /// &#9;[output_of](crate::contracts::ent_queue::commands#output_of) self.new ≡ [output_of](crate::contracts::ent_queue::commands#output_of) self.old ++ [refused_by](crate::contracts::ent_queue::reserving#refused_by) n fault) }
+    /// ensures memory { [IsErrOf](crate::contracts::logic#IsErrOf) result ReserveError.Memory
+    /// &#9;→ [reserver_of](crate::contracts::ent_queue::commands#reserver_of) self.new ≡ [reserver_of](crate::contracts::ent_queue::commands#reserver_of) self.old }
+    /// &#32;
     /// // Anything but Memory is the result of a reservation.
-    /// ensures replies { (reply : Result (List HandleValue) Refusal)
-    ///     → as_list result ≡ queued reply
-    ///     → S.may_reply (source_of self.old) (reserver_of self.old) (reserver_of self.new) n
-    ///     reply }
-    /// ```
+    /// ensures replies { (reply : [Result](crate::contracts::logic#Result) ([List](crate::contracts::logic#List) [HandleValue](crate::contracts::ent_handle::handle#Handle)) Refusal)
+    /// &#9;→ [as_list](crate::contracts::ent_queue::reserving#as_list) result ≡ [queued](crate::contracts::ent_queue::reserving#queued) reply
+    /// &#9;→ S.may_reply ([source_of](crate::contracts::ent_queue::commands#source_of) self.old) ([reserver_of](crate::contracts::ent_queue::commands#reserver_of) self.old) ([reserver_of](crate::contracts::ent_queue::commands#reserver_of) self.new) n
+    /// &#9;reply }
+    /// </code>
     ///
     /// </details>
     #[inline]
@@ -248,16 +240,14 @@ impl<S: Source> SystemCommands<'_, IssuedCommands, S> {
     ///
     /// <details><summary>Contract</summary>
     ///
-    /// In the words of the folder `specs/` of crate `ent_queue`:
-    ///
-    /// ```text
-    /// requires { IsReady S.serves self.old }
-    /// ensures extends { Extends Issues S.serves S.may_reply self.old self.new }
-    /// ensures reserver { reserver_of self.new ≡ reserver_of self.old }
-    /// ensures ok { OnOk result
-    ///     (output_of self.new ≡ output_of self.old ++ Insert handle bundle.now ∷ []) }
-    /// ensures err { OnErr result (output_of self.new ≡ output_of self.old) }
-    /// ```
+    /// <code style="display: block; tab-size: 4; white-space: pre-wrap">// In the words of [contracts](crate::contracts):
+    /// requires { [IsReady](crate::contracts::ent_queue::commands#IsReady) S.serves self.old }
+    /// ensures extends { [Extends](crate::contracts::ent_queue::commands#Extends) [Issues](crate::contracts::ent_queue::issuing#Issues) S.serves S.may_reply self.old self.new }
+    /// ensures reserver { [reserver_of](crate::contracts::ent_queue::commands#reserver_of) self.new ≡ [reserver_of](crate::contracts::ent_queue::commands#reserver_of) self.old }
+    /// ensures ok { [OnOk](crate::contracts::logic#OnOk) result
+    /// &#9;([output_of](crate::contracts::ent_queue::commands#output_of) self.new ≡ [output_of](crate::contracts::ent_queue::commands#output_of) self.old ++ [Insert](crate::contracts::ent_queue::command#Insert) handle bundle.now ∷ \[\]) }
+    /// ensures err { [OnErr](crate::contracts::logic#OnErr) result ([output_of](crate::contracts::ent_queue::commands#output_of) self.new ≡ [output_of](crate::contracts::ent_queue::commands#output_of) self.old) }
+    /// </code>
     ///
     /// </details>
     #[inline]
@@ -295,16 +285,14 @@ impl<S: Source> SystemCommands<'_, IssuedCommands, S> {
     ///
     /// <details><summary>Contract</summary>
     ///
-    /// In the words of the folder `specs/` of crate `ent_queue`:
-    ///
-    /// ```text
-    /// requires { IsReady S.serves self.old }
-    /// ensures extends { Extends Issues S.serves S.may_reply self.old self.new }
-    /// ensures reserver { reserver_of self.new ≡ reserver_of self.old }
-    /// ensures ok { OnOk result (output_of self.new
-    ///     ≡ output_of self.old ++ Insert handle (bundle_of components.now) ∷ []) }
-    /// ensures err { OnErr result (output_of self.new ≡ output_of self.old) }
-    /// ```
+    /// <code style="display: block; tab-size: 4; white-space: pre-wrap">// In the words of [contracts](crate::contracts):
+    /// requires { [IsReady](crate::contracts::ent_queue::commands#IsReady) S.serves self.old }
+    /// ensures extends { [Extends](crate::contracts::ent_queue::commands#Extends) [Issues](crate::contracts::ent_queue::issuing#Issues) S.serves S.may_reply self.old self.new }
+    /// ensures reserver { [reserver_of](crate::contracts::ent_queue::commands#reserver_of) self.new ≡ [reserver_of](crate::contracts::ent_queue::commands#reserver_of) self.old }
+    /// ensures ok { [OnOk](crate::contracts::logic#OnOk) result ([output_of](crate::contracts::ent_queue::commands#output_of) self.new
+    /// &#9;≡ [output_of](crate::contracts::ent_queue::commands#output_of) self.old ++ [Insert](crate::contracts::ent_queue::command#Insert) handle ([bundle_of](crate::contracts::ent_storage::bundle#bundle_of) components.now) ∷ \[\]) }
+    /// ensures err { [OnErr](crate::contracts::logic#OnErr) result ([output_of](crate::contracts::ent_queue::commands#output_of) self.new ≡ [output_of](crate::contracts::ent_queue::commands#output_of) self.old) }
+    /// </code>
     ///
     /// </details>
     #[inline]
@@ -337,15 +325,13 @@ impl<S: Source> SystemCommands<'_, IssuedCommands, S> {
     ///
     /// <details><summary>Contract</summary>
     ///
-    /// In the words of the folder `specs/` of crate `ent_queue`:
-    ///
-    /// ```text
-    /// requires { IsReady S.serves self.old }
-    /// ensures extends { Extends Issues S.serves S.may_reply self.old self.new }
-    /// ensures reserver { reserver_of self.new ≡ reserver_of self.old }
-    /// ensures ok { OnOk result (output_of self.new ≡ output_of self.old ++ Remove handle id ∷ []) }
-    /// ensures err { OnErr result (output_of self.new ≡ output_of self.old) }
-    /// ```
+    /// <code style="display: block; tab-size: 4; white-space: pre-wrap">// In the words of [contracts](crate::contracts):
+    /// requires { [IsReady](crate::contracts::ent_queue::commands#IsReady) S.serves self.old }
+    /// ensures extends { [Extends](crate::contracts::ent_queue::commands#Extends) [Issues](crate::contracts::ent_queue::issuing#Issues) S.serves S.may_reply self.old self.new }
+    /// ensures reserver { [reserver_of](crate::contracts::ent_queue::commands#reserver_of) self.new ≡ [reserver_of](crate::contracts::ent_queue::commands#reserver_of) self.old }
+    /// ensures ok { [OnOk](crate::contracts::logic#OnOk) result ([output_of](crate::contracts::ent_queue::commands#output_of) self.new ≡ [output_of](crate::contracts::ent_queue::commands#output_of) self.old ++ [Remove](crate::contracts::ent_queue::command#Remove) handle id ∷ \[\]) }
+    /// ensures err { [OnErr](crate::contracts::logic#OnErr) result ([output_of](crate::contracts::ent_queue::commands#output_of) self.new ≡ [output_of](crate::contracts::ent_queue::commands#output_of) self.old) }
+    /// </code>
     ///
     /// </details>
     #[inline]
@@ -379,15 +365,13 @@ impl<S: Source> SystemCommands<'_, IssuedCommands, S> {
     ///
     /// <details><summary>Contract</summary>
     ///
-    /// In the words of the folder `specs/` of crate `ent_queue`:
-    ///
-    /// ```text
-    /// requires { IsReady S.serves self.old }
-    /// ensures extends { Extends Issues S.serves S.may_reply self.old self.new }
-    /// ensures reserver { reserver_of self.new ≡ reserver_of self.old }
-    /// ensures ok { OnOk result (output_of self.new ≡ output_of self.old ++ Despawn handle ∷ []) }
-    /// ensures err { OnErr result (output_of self.new ≡ output_of self.old) }
-    /// ```
+    /// <code style="display: block; tab-size: 4; white-space: pre-wrap">// In the words of [contracts](crate::contracts):
+    /// requires { [IsReady](crate::contracts::ent_queue::commands#IsReady) S.serves self.old }
+    /// ensures extends { [Extends](crate::contracts::ent_queue::commands#Extends) [Issues](crate::contracts::ent_queue::issuing#Issues) S.serves S.may_reply self.old self.new }
+    /// ensures reserver { [reserver_of](crate::contracts::ent_queue::commands#reserver_of) self.new ≡ [reserver_of](crate::contracts::ent_queue::commands#reserver_of) self.old }
+    /// ensures ok { [OnOk](crate::contracts::logic#OnOk) result ([output_of](crate::contracts::ent_queue::commands#output_of) self.new ≡ [output_of](crate::contracts::ent_queue::commands#output_of) self.old ++ [Despawn](crate::contracts::ent_queue::command#Despawn) handle ∷ \[\]) }
+    /// ensures err { [OnErr](crate::contracts::logic#OnErr) result ([output_of](crate::contracts::ent_queue::commands#output_of) self.new ≡ [output_of](crate::contracts::ent_queue::commands#output_of) self.old) }
+    /// </code>
     ///
     /// </details>
     #[inline]

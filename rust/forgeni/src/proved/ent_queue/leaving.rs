@@ -26,11 +26,9 @@ impl<O> SystemCommands<'_, O, Blocks> {
     ///
     /// <details><summary>Contract</summary>
     ///
-    /// In the words of the folder `specs/` of crate `ent_queue`:
-    ///
-    /// ```text
-    /// ensures { result ≡ left_of (reserver_of self.now).block }
-    /// ```
+    /// <code style="display: block; tab-size: 4; white-space: pre-wrap">// In the words of [contracts](crate::contracts):
+    /// ensures { result ≡ [left_of](crate::contracts::ent_blocks::drawing#left_of) ([reserver_of](crate::contracts::ent_queue::commands#reserver_of) self.now).block }
+    /// </code>
     ///
     /// </details>
     #[must_use]

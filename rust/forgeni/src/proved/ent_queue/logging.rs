@@ -30,11 +30,9 @@ impl<C, S: Source> SystemCommands<'_, Log<C>, S> {
     ///
     /// <details><summary>Contract</summary>
     ///
-    /// In the words of the folder `specs/` of crate `ent_queue`:
-    ///
-    /// ```text
-    /// ensures { result.now ≡ output_of self.now }
-    /// ```
+    /// <code style="display: block; tab-size: 4; white-space: pre-wrap">// In the words of [contracts](crate::contracts):
+    /// ensures { result.now ≡ [output_of](crate::contracts::ent_queue::commands#output_of) self.now }
+    /// </code>
     ///
     /// </details>
     #[must_use]
@@ -72,23 +70,21 @@ impl<C, S: Source> SystemCommands<'_, Log<C>, S> {
     ///
     /// <details><summary>Contract</summary>
     ///
-    /// In the words of the folder `specs/` of crate `ent_queue`:
-    ///
-    /// ```text
-    /// requires { IsReady S.serves self.old }
-    /// ensures extends { Extends Logs S.serves S.may_reply self.old self.new }
-    /// ensures ok { IfOk result (λ handle.
-    ///     output_of self.new ≡ output_of self.old ++ Spawn handle ∷ []) }
-    /// ensures refused { IfErr result (λ error.
-    ///     output_of self.new ≡ output_of self.old ++ refused_by error) }
-    ///
+    /// <code style="display: block; tab-size: 4; white-space: pre-wrap">// In the words of [contracts](crate::contracts):
+    /// requires { [IsReady](crate::contracts::ent_queue::commands#IsReady) S.serves self.old }
+    /// ensures extends { [Extends](crate::contracts::ent_queue::commands#Extends) [Logs](crate::contracts::ent_queue::logging#Logs) S.serves S.may_reply self.old self.new }
+    /// ensures ok { [IfOk](crate::contracts::logic#IfOk) result (λ handle.
+    /// &#9;[output_of](crate::contracts::ent_queue::commands#output_of) self.new ≡ [output_of](crate::contracts::ent_queue::commands#output_of) self.old ++ Spawn handle ∷ \[\]) }
+    /// ensures refused { [IfErr](crate::contracts::logic#IfErr) result (λ error.
+    /// &#9;[output_of](crate::contracts::ent_queue::commands#output_of) self.new ≡ [output_of](crate::contracts::ent_queue::commands#output_of) self.old ++ [refused_by](crate::contracts::ent_log::spawning#refused_by) error) }
+    /// &#32;
     /// // Anything but Memory is the result of a reservation.
-    /// ensures replies { (reply : Result HandleValue Refusal) → result ≡ returned reply
-    ///     → S.may_reply (source_of self.old) (reserver_of self.old) (reserver_of self.new) 1
-    ///     (listed_alone reply) }
-    /// ensures memory { IsErrOf result ReserveError.Memory
-    ///     → reserver_of self.new ≡ reserver_of self.old }
-    /// ```
+    /// ensures replies { (reply : [Result](crate::contracts::logic#Result) [HandleValue](crate::contracts::ent_handle::handle#Handle) Refusal) → result ≡ [returned](crate::contracts::ent_log::spawning#returned) reply
+    /// &#9;→ S.may_reply ([source_of](crate::contracts::ent_queue::commands#source_of) self.old) ([reserver_of](crate::contracts::ent_queue::commands#reserver_of) self.old) ([reserver_of](crate::contracts::ent_queue::commands#reserver_of) self.new) 1
+    /// &#9;([listed_alone](crate::contracts::ent_alloc::sequential#listed_alone) reply) }
+    /// ensures memory { [IsErrOf](crate::contracts::logic#IsErrOf) result ReserveError.Memory
+    /// &#9;→ [reserver_of](crate::contracts::ent_queue::commands#reserver_of) self.new ≡ [reserver_of](crate::contracts::ent_queue::commands#reserver_of) self.old }
+    /// </code>
     ///
     /// </details>
     #[inline]
@@ -118,15 +114,13 @@ impl<C, S: Source> SystemCommands<'_, Log<C>, S> {
     ///
     /// <details><summary>Contract</summary>
     ///
-    /// In the words of the folder `specs/` of crate `ent_queue`:
-    ///
-    /// ```text
-    /// requires { IsReady S.serves self.old }
-    /// ensures extends { Extends Logs S.serves S.may_reply self.old self.new }
-    /// ensures reserver { reserver_of self.new ≡ reserver_of self.old }
-    /// ensures ok { OnOk result (output_of self.new ≡ output_of self.old ++ Command command ∷ []) }
-    /// ensures err { OnErr result (output_of self.new ≡ output_of self.old) }
-    /// ```
+    /// <code style="display: block; tab-size: 4; white-space: pre-wrap">// In the words of [contracts](crate::contracts):
+    /// requires { [IsReady](crate::contracts::ent_queue::commands#IsReady) S.serves self.old }
+    /// ensures extends { [Extends](crate::contracts::ent_queue::commands#Extends) [Logs](crate::contracts::ent_queue::logging#Logs) S.serves S.may_reply self.old self.new }
+    /// ensures reserver { [reserver_of](crate::contracts::ent_queue::commands#reserver_of) self.new ≡ [reserver_of](crate::contracts::ent_queue::commands#reserver_of) self.old }
+    /// ensures ok { [OnOk](crate::contracts::logic#OnOk) result ([output_of](crate::contracts::ent_queue::commands#output_of) self.new ≡ [output_of](crate::contracts::ent_queue::commands#output_of) self.old ++ Command command ∷ \[\]) }
+    /// ensures err { [OnErr](crate::contracts::logic#OnErr) result ([output_of](crate::contracts::ent_queue::commands#output_of) self.new ≡ [output_of](crate::contracts::ent_queue::commands#output_of) self.old) }
+    /// </code>
     ///
     /// </details>
     #[inline]

@@ -9,11 +9,9 @@ pub trait Output {
     ///
     /// <details><summary>Contract</summary>
     ///
-    /// In the words of the folder `specs/` of crate `ent_queue`:
-    ///
-    /// ```text
+    /// <code style="display: block; tab-size: 4; white-space: pre-wrap">// In the words of [contracts](crate::contracts):
     /// ensures { result ≡ empty }
-    /// ```
+    /// </code>
     ///
     /// </details>
     fn unfilled() -> Self;

@@ -37,11 +37,9 @@ impl IssuedCommands {
     ///
     /// <details><summary>Contract</summary>
     ///
-    /// In the words of the folder `specs/` of crate `ent_queue`:
-    ///
-    /// ```text
-    /// ensures { result ≡ length self.now }
-    /// ```
+    /// <code style="display: block; tab-size: 4; white-space: pre-wrap">// In the words of [contracts](crate::contracts):
+    /// ensures { result ≡ [length](crate::contracts::logic#length) self.now }
+    /// </code>
     ///
     /// </details>
     #[inline]
@@ -53,11 +51,9 @@ impl IssuedCommands {
     ///
     /// <details><summary>Contract</summary>
     ///
-    /// In the words of the folder `specs/` of crate `ent_queue`:
-    ///
-    /// ```text
-    /// ensures { IsTrue result ↔ (self.now ≡ []) }
-    /// ```
+    /// <code style="display: block; tab-size: 4; white-space: pre-wrap">// In the words of [contracts](crate::contracts):
+    /// ensures { [IsTrue](crate::contracts::logic#IsTrue) result ↔ (self.now ≡ \[\]) }
+    /// </code>
     ///
     /// </details>
     #[inline]

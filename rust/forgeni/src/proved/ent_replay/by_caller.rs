@@ -13,11 +13,9 @@ impl<V: Copy> ByCaller<V> {
     ///
     /// <details><summary>Contract</summary>
     ///
-    /// In the words of the folder `specs/` of crate `ent_replay`:
-    ///
-    /// ```text
-    /// ensures { result ≡ map.empty }
-    /// ```
+    /// <code style="display: block; tab-size: 4; white-space: pre-wrap">// In the words of [contracts](crate::contracts):
+    /// ensures { result ≡ [map.empty](crate::contracts::logic#FinMap.empty) }
+    /// </code>
     ///
     /// </details>
     #[inline]
@@ -31,11 +29,9 @@ impl<V: Copy> ByCaller<V> {
     ///
     /// <details><summary>Contract</summary>
     ///
-    /// In the words of the folder `specs/` of crate `ent_replay`:
-    ///
-    /// ```text
-    /// ensures { IsTrue result ↔ (self.now ≡ map.empty) }
-    /// ```
+    /// <code style="display: block; tab-size: 4; white-space: pre-wrap">// In the words of [contracts](crate::contracts):
+    /// ensures { [IsTrue](crate::contracts::logic#IsTrue) result ↔ (self.now ≡ [map.empty](crate::contracts::logic#FinMap.empty)) }
+    /// </code>
     ///
     /// </details>
     #[inline]
@@ -47,11 +43,9 @@ impl<V: Copy> ByCaller<V> {
     ///
     /// <details><summary>Contract</summary>
     ///
-    /// In the words of the folder `specs/` of crate `ent_replay`:
-    ///
-    /// ```text
-    /// ensures { result ≡ map.get self.now caller }
-    /// ```
+    /// <code style="display: block; tab-size: 4; white-space: pre-wrap">// In the words of [contracts](crate::contracts):
+    /// ensures { result ≡ [map.get](crate::contracts::logic#FinMap.get) self.now caller }
+    /// </code>
     ///
     /// </details>
     #[inline]
@@ -67,12 +61,10 @@ impl<V: Copy> ByCaller<V> {
     ///
     /// <details><summary>Contract</summary>
     ///
-    /// In the words of the folder `specs/` of crate `ent_replay`:
-    ///
-    /// ```text
-    /// ensures ok { OnOk result (self.new ≡ map.insert self.old caller value) }
-    /// ensures err { OnErr result (self.new ≡ self.old) }
-    /// ```
+    /// <code style="display: block; tab-size: 4; white-space: pre-wrap">// In the words of [contracts](crate::contracts):
+    /// ensures ok { [OnOk](crate::contracts::logic#OnOk) result (self.new ≡ [map.insert](crate::contracts::logic#FinMap.insert) self.old caller value) }
+    /// ensures err { [OnErr](crate::contracts::logic#OnErr) result (self.new ≡ self.old) }
+    /// </code>
     ///
     /// </details>
     #[inline]
@@ -96,11 +88,9 @@ impl<V: Copy> ByCaller<V> {
     ///
     /// <details><summary>Contract</summary>
     ///
-    /// In the words of the folder `specs/` of crate `ent_replay`:
-    ///
-    /// ```text
-    /// ensures { self.new ≡ map.remove self.old caller }
-    /// ```
+    /// <code style="display: block; tab-size: 4; white-space: pre-wrap">// In the words of [contracts](crate::contracts):
+    /// ensures { self.new ≡ [map.remove](crate::contracts::logic#FinMap.remove) self.old caller }
+    /// </code>
     ///
     /// </details>
     #[inline]
@@ -112,11 +102,9 @@ impl<V: Copy> ByCaller<V> {
     ///
     /// <details><summary>Contract</summary>
     ///
-    /// In the words of the folder `specs/` of crate `ent_replay`:
-    ///
-    /// ```text
-    /// ensures { self.new ≡ map.empty }
-    /// ```
+    /// <code style="display: block; tab-size: 4; white-space: pre-wrap">// In the words of [contracts](crate::contracts):
+    /// ensures { self.new ≡ [map.empty](crate::contracts::logic#FinMap.empty) }
+    /// </code>
     ///
     /// </details>
     #[inline]

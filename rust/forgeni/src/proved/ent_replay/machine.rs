@@ -43,11 +43,9 @@ impl Machine {
     ///
     /// <details><summary>Contract</summary>
     ///
-    /// In the words of the folder `specs/` of crate `ent_replay`:
-    ///
-    /// ```text
-    /// ensures { result ≡ Ok (starting limits) }
-    /// ```
+    /// <code style="display: block; tab-size: 4; white-space: pre-wrap">// In the words of [contracts](crate::contracts):
+    /// ensures { result ≡ [Ok](crate::contracts::logic#Ok) ([starting](crate::contracts::ent_replay::schedule#starting) limits) }
+    /// </code>
     ///
     /// </details>
     #[inline]
@@ -110,22 +108,20 @@ impl Machine {
     ///
     /// <details><summary>Contract</summary>
     ///
-    /// In the words of the folder `specs/` of crate `ent_replay`:
-    ///
-    /// ```text
-    /// ensures outcomes { IfOk result (λ outcomes.
-    ///     outcomes.items ≡ outcomes_of self.old events.now) }
-    /// ensures state { OnOk result (self.new ≡ after_events self.old events.now) }
-    /// ensures history { IfOk result (λ outcomes. IsAtRest self.old
-    ///     → StandInHistory (new_phase self.old) self.old events.now outcomes.items) }
-    /// ensures given_once { IfOk result (λ outcomes.
-    ///     AreGivenOnce (given_by_all outcomes.items)) }
-    ///
-    /// ensures cut { IfErr result (λ memory. memory.done < length events.now) }
-    /// ensures cut_state { IfErr result (λ memory.
-    ///     self.new ≡ after_events self.old (take memory.done events.now)) }
-    /// ensures grows { IfErr result (λ memory. RunsOutAt self.old events.now memory.done) }
-    /// ```
+    /// <code style="display: block; tab-size: 4; white-space: pre-wrap">// In the words of [contracts](crate::contracts):
+    /// ensures outcomes { [IfOk](crate::contracts::logic#IfOk) result (λ outcomes.
+    /// &#9;outcomes.items ≡ [outcomes_of](crate::contracts::ent_replay::schedule#outcomes_of) self.old events.now) }
+    /// ensures state { [OnOk](crate::contracts::logic#OnOk) result (self.new ≡ [after_events](crate::contracts::ent_replay::schedule#after_events) self.old events.now) }
+    /// ensures history { [IfOk](crate::contracts::logic#IfOk) result (λ outcomes. [IsAtRest](crate::contracts::ent_replay::histories#IsAtRest) self.old
+    /// &#9;→ [StandInHistory](crate::contracts::ent_replay::histories#StandInHistory) ([new_phase](crate::contracts::ent_replay::histories#new_phase) self.old) self.old events.now outcomes.items) }
+    /// ensures given_once { [IfOk](crate::contracts::logic#IfOk) result (λ outcomes.
+    /// &#9;[AreGivenOnce](crate::contracts::ent_alloc::history#AreGivenOnce) ([given_by_all](crate::contracts::ent_replay::histories#given_by_all) outcomes.items)) }
+    /// &#32;
+    /// ensures cut { [IfErr](crate::contracts::logic#IfErr) result (λ memory. memory.done \< [length](crate::contracts::logic#length) events.now) }
+    /// ensures cut_state { [IfErr](crate::contracts::logic#IfErr) result (λ memory.
+    /// &#9;self.new ≡ [after_events](crate::contracts::ent_replay::schedule#after_events) self.old ([take](crate::contracts::logic#take) memory.done events.now)) }
+    /// ensures grows { [IfErr](crate::contracts::logic#IfErr) result (λ memory. [RunsOutAt](crate::contracts::ent_replay::schedule#RunsOutAt) self.old events.now memory.done) }
+    /// </code>
     ///
     /// </details>
     #[inline]

@@ -118,20 +118,18 @@ fn read_event(line: &[u8]) -> Result<Event, Cause>
 ///
 /// <details><summary>Contract</summary>
 ///
-/// In the words of the folder `specs/` of crate `ent_replay`:
-///
-/// ```text
+/// <code style="display: block; tab-size: 4; white-space: pre-wrap">// In the words of [contracts](crate::contracts):
 /// // The events are spelled by the text.
-/// ensures found { IfOk result (λ events. AreEvents events.items × Spells events.items text.now) }
+/// ensures found { [IfOk](crate::contracts::logic#IfOk) result (λ events. [AreEvents](crate::contracts::ent_replay::schedule_text#AreEvents) events.items × [Spells](crate::contracts::ent_replay::schedule_text#Spells) events.items text.now) }
 /// // A spelled schedule fails only if memory runs out.
-/// ensures only { (events : List Event)
-///     → AreEvents events → Spells events text.now → ReadsAsSchedule result (Ok events) }
+/// ensures only { (events : [List](crate::contracts::logic#List) Event)
+/// &#9;→ [AreEvents](crate::contracts::ent_replay::schedule_text#AreEvents) events → [Spells](crate::contracts::ent_replay::schedule_text#Spells) events text.now → [ReadsAsSchedule](crate::contracts::ent_replay::schedule_text#ReadsAsSchedule) result ([Ok](crate::contracts::logic#Ok) events) }
 /// // A refused text has events up to the line that is named.
-/// ensures refused { IfErr result (ExplainsFault text.now) }
-///
+/// ensures refused { [IfErr](crate::contracts::logic#IfErr) result ([ExplainsFault](crate::contracts::ent_replay::schedule_text#ExplainsFault) text.now) }
+/// &#32;
 /// // All of it, as a function of the text.
-/// ensures exact { ReadsAsSchedule result (schedule_of text.now) }
-/// ```
+/// ensures exact { [ReadsAsSchedule](crate::contracts::ent_replay::schedule_text#ReadsAsSchedule) result ([schedule_of](crate::contracts::ent_replay::schedule_text#schedule_of) text.now) }
+/// </code>
 ///
 /// </details>
 #[inline]

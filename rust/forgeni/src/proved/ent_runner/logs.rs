@@ -43,34 +43,32 @@ const SYSTEMS: usize = 65_536;
 ///
 /// <details><summary>Contract</summary>
 ///
-/// In the words of the folder `specs/` of crate `ent_runner`:
-///
-/// ```text
-/// ensures ok { IfOk result (λ logs. HaveLogged S.may_log systems.now workers
-///     entities.old.allocator logs.items entities.new.allocator) }
+/// <code style="display: block; tab-size: 4; white-space: pre-wrap">// In the words of [contracts](crate::contracts):
+/// ensures ok { [IfOk](crate::contracts::logic#IfOk) result (λ logs. [HaveLogged](crate::contracts::ent_runner::logs#HaveLogged) S.may_log systems.now workers
+/// &#9;entities.old.allocator logs.items entities.new.allocator) }
 /// ensures rows { entities.new.rows ≡ entities.old.rows }
-///
+/// &#32;
 /// // The handles of all spawns are reserved.
-/// ensures reserved { IfOk result (λ logs. first_unreserved entities.new.allocator
-///     (spawned_in (entries_of logs.items)) ≡ None) }
-///
-/// ensures needs_flush { IsErrOf result LogError.NeedsFlush
-///     ↔ (0 < entities.old.allocator.asked) }
-/// ensures no_crew { IsErrOf result LogError.Workers
-///     ↔ ((entities.old.allocator.asked ≡ 0) × ((workers ≡ 0) ⊎ (64 < workers))) }
-/// ensures too_many { IsErrOf result LogError.Systems
-///     ↔ ((entities.old.allocator.asked ≡ 0) × (0 < workers) × (workers ≤ 64)
-///     × (2 ^ 16 < length systems.now)) }
-/// ensures memory_some { IsErrOf result LogError.Memory → 0 < length systems.now }
-/// ensures nothing { IfErr result (λ error. error ≢ LogError.Lost
-///     → entities.new ≡ entities.old) }
-///
+/// ensures reserved { [IfOk](crate::contracts::logic#IfOk) result (λ logs. [first_unreserved](crate::contracts::ent_log::logs#first_unreserved) entities.new.allocator
+/// &#9;([spawned_in](crate::contracts::ent_log::logs#spawned_in) ([entries_of](crate::contracts::ent_log::logs#entries_of) logs.items)) ≡ [None](crate::contracts::logic#None)) }
+/// &#32;
+/// ensures needs_flush { [IsErrOf](crate::contracts::logic#IsErrOf) result LogError.NeedsFlush
+/// &#9;↔ (0 \< entities.old.allocator.asked) }
+/// ensures no_crew { [IsErrOf](crate::contracts::logic#IsErrOf) result LogError.Workers
+/// &#9;↔ ((entities.old.allocator.asked ≡ 0) × ((workers ≡ 0) ⊎ (64 \< workers))) }
+/// ensures too_many { [IsErrOf](crate::contracts::logic#IsErrOf) result LogError.Systems
+/// &#9;↔ ((entities.old.allocator.asked ≡ 0) × (0 \< workers) × (workers ≤ 64)
+/// &#9;× (2 ^ 16 \< [length](crate::contracts::logic#length) systems.now)) }
+/// ensures memory_some { [IsErrOf](crate::contracts::logic#IsErrOf) result LogError.Memory → 0 \< [length](crate::contracts::logic#length) systems.now }
+/// ensures nothing { [IfErr](crate::contracts::logic#IfErr) result (λ error. error ≢ LogError.Lost
+/// &#9;→ entities.new ≡ entities.old) }
+/// &#32;
 /// // What is left of a run that was broken off.
-/// ensures lost { IsErrOf result LogError.Lost → IsBrokenOff S.may_log S.may_leave systems.now
-///     workers entities.old.allocator entities.new.allocator }
-/// ensures lost_some { IsErrOf result LogError.Lost → 0 < length systems.now }
-/// ensures unborn { result ≢ Err LogError.Unborn }
-/// ```
+/// ensures lost { [IsErrOf](crate::contracts::logic#IsErrOf) result LogError.Lost → [IsBrokenOff](crate::contracts::ent_runner::logs#IsBrokenOff) S.may_log S.may_leave systems.now
+/// &#9;workers entities.old.allocator entities.new.allocator }
+/// ensures lost_some { [IsErrOf](crate::contracts::logic#IsErrOf) result LogError.Lost → 0 \< [length](crate::contracts::logic#length) systems.now }
+/// ensures unborn { result ≢ [Err](crate::contracts::logic#Err) LogError.Unborn }
+/// </code>
 ///
 /// </details>
 #[inline]

@@ -24,11 +24,9 @@ impl ScriptCause {
     ///
     /// <details><summary>Contract</summary>
     ///
-    /// In the words of the folder `specs/` of crate `ent_script`:
-    ///
-    /// ```text
+    /// <code style="display: block; tab-size: 4; white-space: pre-wrap">// In the words of [contracts](crate::contracts):
     /// ensures { result.now ≡ script_cause_text self }
-    /// ```
+    /// </code>
     ///
     /// </details>
     #[inline]
@@ -75,11 +73,9 @@ impl Cause {
     ///
     /// <details><summary>Contract</summary>
     ///
-    /// In the words of the folder `specs/` of crate `ent_script`:
-    ///
-    /// ```text
+    /// <code style="display: block; tab-size: 4; white-space: pre-wrap">// In the words of [contracts](crate::contracts):
     /// ensures { result.now ≡ operation_cause_text self }
-    /// ```
+    /// </code>
     ///
     /// </details>
     #[inline]

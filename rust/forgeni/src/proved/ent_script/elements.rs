@@ -11,11 +11,9 @@ use crate::kit::programs::serde_json::{Map, Value};
 ///
 /// <details><summary>Contract</summary>
 ///
-/// In the words of the folder `specs/` of crate `ent_script`:
-///
-/// ```text
+/// <code style="display: block; tab-size: 4; white-space: pre-wrap">// In the words of [contracts](crate::contracts):
 /// ensures { option_map (λ list. map view list.now.items) result ≡ elements (view value.now) }
-/// ```
+/// </code>
 ///
 /// </details>
 #[inline]
@@ -27,12 +25,10 @@ pub fn elements(value: &Value) -> Option<&Vec<Value>> {
 ///
 /// <details><summary>Contract</summary>
 ///
-/// In the words of the folder `specs/` of crate `ent_script`:
-///
-/// ```text
+/// <code style="display: block; tab-size: 4; white-space: pre-wrap">// In the words of [contracts](crate::contracts):
 /// ensures { option_map (λ found. map (λ m. (string_bytes m.0, view m.1)) found.now.entries) result
-///     ≡ members (view value.now) }
-/// ```
+/// &#9;≡ members (view value.now) }
+/// </code>
 ///
 /// </details>
 #[inline]
@@ -44,11 +40,9 @@ pub fn members(value: &Value) -> Option<&Map<String, Value>> {
 ///
 /// <details><summary>Contract</summary>
 ///
-/// In the words of the folder `specs/` of crate `ent_script`:
-///
-/// ```text
+/// <code style="display: block; tab-size: 4; white-space: pre-wrap">// In the words of [contracts](crate::contracts):
 /// ensures { result ≡ list_any (λ name. bytes_eq key.now name.now) allowed.now }
-/// ```
+/// </code>
 ///
 /// </details>
 #[inline]
@@ -91,11 +85,9 @@ pub(super) fn whole_within(value: &Value, low: u32, high: u32) -> Option<u32>
 ///
 /// <details><summary>Contract</summary>
 ///
-/// In the words of the folder `specs/` of crate `ent_script`:
-///
-/// ```text
+/// <code style="display: block; tab-size: 4; white-space: pre-wrap">// In the words of [contracts](crate::contracts):
 /// ensures { option_map (λ text. text.now) result ≡ as_name (view value.now) }
-/// ```
+/// </code>
 ///
 /// </details>
 #[inline]

@@ -21,11 +21,9 @@ impl Frame {
     ///
     /// <details><summary>Contract</summary>
     ///
-    /// In the words of the folder `specs/` of crate `ent_script`:
-    ///
-    /// ```text
+    /// <code style="display: block; tab-size: 4; white-space: pre-wrap">// In the words of [contracts](crate::contracts):
     /// ensures { result.now ≡ self.now }
-    /// ```
+    /// </code>
     ///
     /// </details>
     #[inline]

@@ -224,12 +224,10 @@ fn script_in(
 ///
 /// <details><summary>Contract</summary>
 ///
-/// In the words of the folder `specs/` of crate `ent_script`:
-///
-/// ```text
+/// <code style="display: block; tab-size: 4; white-space: pre-wrap">// In the words of [contracts](crate::contracts):
 /// ensures exact { ReadsAs result (script_of_text text.now) }
 /// ensures ranges { IfOk result IsScript }
-/// ```
+/// </code>
 ///
 /// </details>
 #[inline]

@@ -34,11 +34,9 @@ impl Script {
     ///
     /// <details><summary>Contract</summary>
     ///
-    /// In the words of the folder `specs/` of crate `ent_script`:
-    ///
-    /// ```text
+    /// <code style="display: block; tab-size: 4; white-space: pre-wrap">// In the words of [contracts](crate::contracts):
     /// ensures { result ≡ self.now.limits }
-    /// ```
+    /// </code>
     ///
     /// </details>
     #[inline]
@@ -50,11 +48,9 @@ impl Script {
     ///
     /// <details><summary>Contract</summary>
     ///
-    /// In the words of the folder `specs/` of crate `ent_script`:
-    ///
-    /// ```text
+    /// <code style="display: block; tab-size: 4; white-space: pre-wrap">// In the words of [contracts](crate::contracts):
     /// ensures { map string_bytes result.now ≡ self.now.components }
-    /// ```
+    /// </code>
     ///
     /// </details>
     #[inline]
@@ -66,11 +62,9 @@ impl Script {
     ///
     /// <details><summary>Contract</summary>
     ///
-    /// In the words of the folder `specs/` of crate `ent_script`:
-    ///
-    /// ```text
+    /// <code style="display: block; tab-size: 4; white-space: pre-wrap">// In the words of [contracts](crate::contracts):
     /// ensures { result.now ≡ self.now.frames }
-    /// ```
+    /// </code>
     ///
     /// </details>
     #[inline]
@@ -84,13 +78,11 @@ impl Script {
     ///
     /// <details><summary>Contract</summary>
     ///
-    /// In the words of the folder `specs/` of crate `ent_script`:
-    ///
-    /// ```text
+    /// <code style="display: block; tab-size: 4; white-space: pre-wrap">// In the words of [contracts](crate::contracts):
     /// ensures limits { result.0 ≡ self.limits }
     /// ensures components { map string_bytes result.1.items ≡ self.components }
     /// ensures frames { result.2.items ≡ self.frames }
-    /// ```
+    /// </code>
     ///
     /// </details>
     #[inline]

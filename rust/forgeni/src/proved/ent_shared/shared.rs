@@ -51,11 +51,9 @@ impl SharedSource {
     ///
     /// <details><summary>Contract</summary>
     ///
-    /// In the words of the folder `specs/` of crate `ent_shared`:
-    ///
-    /// ```text
+    /// <code style="display: block; tab-size: 4; white-space: pre-wrap">// In the words of [contracts](crate::contracts):
     /// ensures { result ≡ self.now.count }
-    /// ```
+    /// </code>
     ///
     /// </details>
     #[inline]
@@ -67,12 +65,10 @@ impl SharedSource {
     ///
     /// <details><summary>Contract</summary>
     ///
-    /// In the words of the folder `specs/` of crate `ent_shared`:
-    ///
-    /// ```text
+    /// <code style="display: block; tab-size: 4; white-space: pre-wrap">// In the words of [contracts](crate::contracts):
     /// ensures start { result.now.allocator ≡ self.now.start }
     /// ensures rows { result.now.rows ≡ self.now.rows }
-    /// ```
+    /// </code>
     ///
     /// </details>
     #[inline]
@@ -84,11 +80,9 @@ impl SharedSource {
     ///
     /// <details><summary>Contract</summary>
     ///
-    /// In the words of the folder `specs/` of crate `ent_shared`:
-    ///
-    /// ```text
-    /// ensures { result ≡ set.contains self.now.start.live handle }
-    /// ```
+    /// <code style="display: block; tab-size: 4; white-space: pre-wrap">// In the words of [contracts](crate::contracts):
+    /// ensures { result ≡ [set.contains](crate::contracts::logic#FinSet.contains) self.now.start.live handle }
+    /// </code>
     ///
     /// </details>
     #[inline]
@@ -100,11 +94,9 @@ impl SharedSource {
     ///
     /// <details><summary>Contract</summary>
     ///
-    /// In the words of the folder `specs/` of crate `ent_shared`:
-    ///
-    /// ```text
-    /// ensures { result ≡ set.len self.now.start.live }
-    /// ```
+    /// <code style="display: block; tab-size: 4; white-space: pre-wrap">// In the words of [contracts](crate::contracts):
+    /// ensures { result ≡ [set.len](crate::contracts::logic#FinSet.len) self.now.start.live }
+    /// </code>
     ///
     /// </details>
     #[inline]
@@ -116,11 +108,9 @@ impl SharedSource {
     ///
     /// <details><summary>Contract</summary>
     ///
-    /// In the words of the folder `specs/` of crate `ent_shared`:
-    ///
-    /// ```text
-    /// ensures { IsTrue result ↔ (set.len self.now.start.live ≡ 0) }
-    /// ```
+    /// <code style="display: block; tab-size: 4; white-space: pre-wrap">// In the words of [contracts](crate::contracts):
+    /// ensures { [IsTrue](crate::contracts::logic#IsTrue) result ↔ ([set.len](crate::contracts::logic#FinSet.len) self.now.start.live ≡ 0) }
+    /// </code>
     ///
     /// </details>
     #[inline]
@@ -132,13 +122,11 @@ impl SharedSource {
     ///
     /// <details><summary>Contract</summary>
     ///
-    /// In the words of the folder `specs/` of crate `ent_shared`:
-    ///
-    /// ```text
-    /// ensures living { set.from_list result ≡ self.now.start.live }
-    /// ensures rising { AllPairs (λ g h. g.index < h.index) result }
-    /// ensures count { length result ≡ set.len self.now.start.live }
-    /// ```
+    /// <code style="display: block; tab-size: 4; white-space: pre-wrap">// In the words of [contracts](crate::contracts):
+    /// ensures living { [set.from_list](crate::contracts::logic#FinSet.from_list) result ≡ self.now.start.live }
+    /// ensures rising { [AllPairs](crate::contracts::logic#AllPairs) (λ g h. g.index \< h.index) result }
+    /// ensures count { [length](crate::contracts::logic#length) result ≡ [set.len](crate::contracts::logic#FinSet.len) self.now.start.live }
+    /// </code>
     ///
     /// </details>
     #[inline]
@@ -150,11 +138,9 @@ impl SharedSource {
     ///
     /// <details><summary>Contract</summary>
     ///
-    /// In the words of the folder `specs/` of crate `ent_shared`:
-    ///
-    /// ```text
-    /// ensures { result ≡ length self.now.start.pool }
-    /// ```
+    /// <code style="display: block; tab-size: 4; white-space: pre-wrap">// In the words of [contracts](crate::contracts):
+    /// ensures { result ≡ [length](crate::contracts::logic#length) self.now.start.pool }
+    /// </code>
     ///
     /// </details>
     #[inline]
@@ -168,12 +154,10 @@ impl SharedSource {
     ///
     /// <details><summary>Contract</summary>
     ///
-    /// In the words of the folder `specs/` of crate `ent_shared`:
-    ///
-    /// ```text
-    /// ensures value { result ≡ map.get self.now.rows handle }
-    /// ensures alive { OnSome result (set.contains self.now.start.live handle ≡ true) }
-    /// ```
+    /// <code style="display: block; tab-size: 4; white-space: pre-wrap">// In the words of [contracts](crate::contracts):
+    /// ensures value { result ≡ [map.get](crate::contracts::logic#FinMap.get) self.now.rows handle }
+    /// ensures alive { [OnSome](crate::contracts::logic#OnSome) result ([set.contains](crate::contracts::logic#FinSet.contains) self.now.start.live handle ≡ [true](crate::contracts::logic#true)) }
+    /// </code>
     ///
     /// </details>
     #[inline]

@@ -27,11 +27,9 @@ impl<const INLINE: usize> InlineBundle<INLINE> {
     ///
     /// <details><summary>Contract</summary>
     ///
-    /// In the words of the folder `specs/` of crate `ent_storage`:
-    ///
-    /// ```text
-    /// ensures { result ≡ [] }
-    /// ```
+    /// <code style="display: block; tab-size: 4; white-space: pre-wrap">// In the words of [contracts](crate::contracts):
+    /// ensures { result ≡ \[\] }
+    /// </code>
     ///
     /// </details>
     #[must_use]
@@ -50,12 +48,10 @@ impl<const INLINE: usize> InlineBundle<INLINE> {
     ///
     /// <details><summary>Contract</summary>
     ///
-    /// In the words of the folder `specs/` of crate `ent_storage`:
-    ///
-    /// ```text
-    /// ensures ok { IfOk result (λ bundle. bundle ≡ []) }
-    /// ensures memory { OnErr result (INLINE < count) }
-    /// ```
+    /// <code style="display: block; tab-size: 4; white-space: pre-wrap">// In the words of [contracts](crate::contracts):
+    /// ensures ok { [IfOk](crate::contracts::logic#IfOk) result (λ bundle. bundle ≡ \[\]) }
+    /// ensures memory { [OnErr](crate::contracts::logic#OnErr) result (INLINE \< count) }
+    /// </code>
     ///
     /// </details>
     #[inline]
@@ -74,14 +70,12 @@ impl<const INLINE: usize> InlineBundle<INLINE> {
     ///
     /// <details><summary>Contract</summary>
     ///
-    /// In the words of the folder `specs/` of crate `ent_storage`:
-    ///
-    /// ```text
-    /// ensures ok { IfOk result (λ bundle. bundle ≡ bundle_of items.now) }
-    /// ensures last { IfOk result (λ bundle. (id : Id) →
-    ///     find component_cmp id bundle ≡ find component_cmp id (reverse items.now)) }
-    /// ensures memory { OnErr result (INLINE < length (bundle_of items.now)) }
-    /// ```
+    /// <code style="display: block; tab-size: 4; white-space: pre-wrap">// In the words of [contracts](crate::contracts):
+    /// ensures ok { [IfOk](crate::contracts::logic#IfOk) result (λ bundle. bundle ≡ [bundle_of](crate::contracts::ent_storage::bundle#bundle_of) items.now) }
+    /// ensures last { [IfOk](crate::contracts::logic#IfOk) result (λ bundle. (id : Id) →
+    /// &#9;[find](crate::contracts::logic#FinMap.find) [component_cmp](crate::contracts::ent_handle::component#component_cmp) id bundle ≡ [find](crate::contracts::logic#FinMap.find) [component_cmp](crate::contracts::ent_handle::component#component_cmp) id ([reverse](crate::contracts::logic#reverse) items.now)) }
+    /// ensures memory { [OnErr](crate::contracts::logic#OnErr) result (INLINE \< [length](crate::contracts::logic#length) ([bundle_of](crate::contracts::ent_storage::bundle#bundle_of) items.now)) }
+    /// </code>
     ///
     /// </details>
     #[inline(always)]
@@ -102,14 +96,12 @@ impl<const INLINE: usize> InlineBundle<INLINE> {
     ///
     /// <details><summary>Contract</summary>
     ///
-    /// In the words of the folder `specs/` of crate `ent_storage`:
-    ///
-    /// ```text
-    /// ensures ok { OnOk result (self.new ≡ put component_cmp id value self.old) }
-    /// ensures memory { OnErr result
-    ///     ((INLINE ≤ length self.old) × (find component_cmp id self.old ≡ None)) }
-    /// ensures err { OnErr result (self.new ≡ self.old) }
-    /// ```
+    /// <code style="display: block; tab-size: 4; white-space: pre-wrap">// In the words of [contracts](crate::contracts):
+    /// ensures ok { [OnOk](crate::contracts::logic#OnOk) result (self.new ≡ [put](crate::contracts::logic#FinMap.put) [component_cmp](crate::contracts::ent_handle::component#component_cmp) id value self.old) }
+    /// ensures memory { [OnErr](crate::contracts::logic#OnErr) result
+    /// &#9;((INLINE ≤ [length](crate::contracts::logic#length) self.old) × ([find](crate::contracts::logic#FinMap.find) [component_cmp](crate::contracts::ent_handle::component#component_cmp) id self.old ≡ [None](crate::contracts::logic#None))) }
+    /// ensures err { [OnErr](crate::contracts::logic#OnErr) result (self.new ≡ self.old) }
+    /// </code>
     ///
     /// </details>
     #[inline(always)]
@@ -125,12 +117,10 @@ impl<const INLINE: usize> InlineBundle<INLINE> {
     ///
     /// <details><summary>Contract</summary>
     ///
-    /// In the words of the folder `specs/` of crate `ent_storage`:
-    ///
-    /// ```text
+    /// <code style="display: block; tab-size: 4; white-space: pre-wrap">// In the words of [contracts](crate::contracts):
     /// ensures items { result.now ≡ self.now }
-    /// ensures is { IsBundle self.now }
-    /// ```
+    /// ensures is { [IsBundle](crate::contracts::ent_storage::bundle#IsBundle) self.now }
+    /// </code>
     ///
     /// </details>
     #[must_use]

@@ -10,11 +10,9 @@ use crate::kit::alloc::AllocError;
 ///
 /// <details><summary>Contract</summary>
 ///
-/// In the words of the folder `specs/` of crate `ent_storage`:
-///
-/// ```text
-/// ensures { IfOk result (λ copies. AllZip IsCopy columns.now copies.items) }
-/// ```
+/// <code style="display: block; tab-size: 4; white-space: pre-wrap">// In the words of [contracts](crate::contracts):
+/// ensures { [IfOk](crate::contracts::logic#IfOk) result (λ copies. [AllZip](crate::contracts::logic#AllZip) [IsCopy](crate::contracts::ent_storage::copies#IsCopy) columns.now copies.items) }
+/// </code>
 ///
 /// </details>
 #[inline]
@@ -118,11 +116,9 @@ fn take_over_one(columns: &mut [SparseSet], number: usize, source: &[SparseSet])
 ///
 /// <details><summary>Contract</summary>
 ///
-/// In the words of the folder `specs/` of crate `ent_storage`:
-///
-/// ```text
-/// ensures { result ≡ value_at columns.now place id }
-/// ```
+/// <code style="display: block; tab-size: 4; white-space: pre-wrap">// In the words of [contracts](crate::contracts):
+/// ensures { result ≡ [value_at](crate::contracts::ent_storage::living#value_at) columns.now place id }
+/// </code>
 ///
 /// </details>
 #[inline]
@@ -291,18 +287,16 @@ fn set(columns: &mut [SparseSet], place: usize, item: (ComponentId, i64))
 ///
 /// <details><summary>Contract</summary>
 ///
-/// In the words of the folder `specs/` of crate `ent_storage`:
-///
-/// ```text
-/// ensures value { result ≡ value_at columns.old place id }
-/// ensures here { components_at columns.new place
-///     ≡ map.remove (components_at columns.old place) id }
-/// ensures others { (other : ℕ) (id : ComponentId) → other ≢ place
-///     → value_at columns.new other id ≡ value_at columns.old other id }
-/// ensures rest { (number : ℕ) → column_at columns.old number ≡ no_column
-///     → column_at columns.new number ≡ no_column }
-/// ensures len { length columns.new ≡ length columns.old }
-/// ```
+/// <code style="display: block; tab-size: 4; white-space: pre-wrap">// In the words of [contracts](crate::contracts):
+/// ensures value { result ≡ [value_at](crate::contracts::ent_storage::living#value_at) columns.old place id }
+/// ensures here { [components_at](crate::contracts::ent_storage::living#components_at) columns.new place
+/// &#9;≡ [map.remove](crate::contracts::logic#FinMap.remove) ([components_at](crate::contracts::ent_storage::living#components_at) columns.old place) id }
+/// ensures others { (other : [ℕ](crate::contracts::logic#ℕ)) (id : ComponentId) → other ≢ place
+/// &#9;→ [value_at](crate::contracts::ent_storage::living#value_at) columns.new other id ≡ [value_at](crate::contracts::ent_storage::living#value_at) columns.old other id }
+/// ensures rest { (number : [ℕ](crate::contracts::logic#ℕ)) → [column_at](crate::contracts::ent_storage::living#column_at) columns.old number ≡ [no_column](crate::contracts::ent_storage::sparse_set#no_column)
+/// &#9;→ [column_at](crate::contracts::ent_storage::living#column_at) columns.new number ≡ [no_column](crate::contracts::ent_storage::sparse_set#no_column) }
+/// ensures len { [length](crate::contracts::logic#length) columns.new ≡ [length](crate::contracts::logic#length) columns.old }
+/// </code>
 ///
 /// </details>
 #[inline(always)]

@@ -112,11 +112,9 @@ impl<T> HandleMap<T> {
     ///
     /// <details><summary>Contract</summary>
     ///
-    /// In the words of the folder `specs/` of crate `ent_storage`:
-    ///
-    /// ```text
-    /// ensures { result ≡ record { values = map.empty; slots = 0; room = 0; limit = no_limit } }
-    /// ```
+    /// <code style="display: block; tab-size: 4; white-space: pre-wrap">// In the words of [contracts](crate::contracts):
+    /// ensures { result ≡ record { values = [map.empty](crate::contracts::logic#FinMap.empty); slots = 0; room = 0; limit = [no_limit](crate::contracts::ent_storage::handle_map#no_limit) } }
+    /// </code>
     ///
     /// </details>
     #[must_use]
@@ -143,11 +141,9 @@ impl<T> HandleMap<T> {
     ///
     /// <details><summary>Contract</summary>
     ///
-    /// In the words of the folder `specs/` of crate `ent_storage`:
-    ///
-    /// ```text
-    /// ensures { result ≡ record { values = map.empty; slots = 0; room = 0; limit = limit } }
-    /// ```
+    /// <code style="display: block; tab-size: 4; white-space: pre-wrap">// In the words of [contracts](crate::contracts):
+    /// ensures { result ≡ record { values = [map.empty](crate::contracts::logic#FinMap.empty); slots = 0; room = 0; limit = limit } }
+    /// </code>
     ///
     /// </details>
     #[must_use]
@@ -183,15 +179,13 @@ impl<T> HandleMap<T> {
     ///
     /// <details><summary>Contract</summary>
     ///
-    /// In the words of the folder `specs/` of crate `ent_storage`:
-    ///
-    /// ```text
-    /// ensures empty { IfOk result (λ m. m.values ≡ map.empty) }
-    /// ensures slots { IfOk result (λ m. m.slots ≡ 0) }
-    /// ensures room { IfOk result (λ m. m.room ≡ slots) }
-    /// ensures limit { IfOk result (λ m. m.limit ≡ no_limit) }
-    /// ensures memory { OnErr result (0 < slots) }
-    /// ```
+    /// <code style="display: block; tab-size: 4; white-space: pre-wrap">// In the words of [contracts](crate::contracts):
+    /// ensures empty { [IfOk](crate::contracts::logic#IfOk) result (λ m. m.values ≡ [map.empty](crate::contracts::logic#FinMap.empty)) }
+    /// ensures slots { [IfOk](crate::contracts::logic#IfOk) result (λ m. m.slots ≡ 0) }
+    /// ensures room { [IfOk](crate::contracts::logic#IfOk) result (λ m. m.room ≡ slots) }
+    /// ensures limit { [IfOk](crate::contracts::logic#IfOk) result (λ m. m.limit ≡ [no_limit](crate::contracts::ent_storage::handle_map#no_limit)) }
+    /// ensures memory { [OnErr](crate::contracts::logic#OnErr) result (0 \< slots) }
+    /// </code>
     ///
     /// </details>
     #[inline]
@@ -239,24 +233,22 @@ impl<T> HandleMap<T> {
     ///
     /// <details><summary>Contract</summary>
     ///
-    /// In the words of the folder `specs/` of crate `ent_storage`:
-    ///
-    /// ```text
-    /// ensures ok { OnOk result (self.new.values
-    ///     ≡ map.insert (without_slot self.old.values handle.index) handle value) }
-    /// ensures before { IfOk result (λ before. before ≡ map.get self.old.values handle) }
-    /// ensures slots { OnOk result (self.new.slots ≡ max self.old.slots (handle.index + 1)) }
+    /// <code style="display: block; tab-size: 4; white-space: pre-wrap">// In the words of [contracts](crate::contracts):
+    /// ensures ok { [OnOk](crate::contracts::logic#OnOk) result (self.new.values
+    /// &#9;≡ [map.insert](crate::contracts::logic#FinMap.insert) ([without_slot](crate::contracts::ent_storage::handle_map#without_slot) self.old.values handle.index) handle value) }
+    /// ensures before { [IfOk](crate::contracts::logic#IfOk) result (λ before. before ≡ [map.get](crate::contracts::logic#FinMap.get) self.old.values handle) }
+    /// ensures slots { [OnOk](crate::contracts::logic#OnOk) result (self.new.slots ≡ [max](crate::contracts::logic#max) self.old.slots (handle.index + 1)) }
     /// ensures room { self.old.room ≤ self.new.room }
     /// ensures kept { self.new.limit ≡ self.old.limit }
-    ///
-    /// ensures limit { (error_of result ≡ Some InsertError.Limit)
-    ///     ↔ IsBeyond self.old.limit handle }
-    /// ensures later { (error_of result ≡ Some InsertError.Later)
-    ///     ↔ (¬ (IsBeyond self.old.limit handle) × HasLater self.old.values handle) }
-    /// ensures memory { error_of result ≡ Some InsertError.Memory → self.old.room ≤ handle.index }
-    /// ensures back { IfErr result (λ refused. refused.value ≡ value) }
-    /// ensures err { OnErr result (self.new ≡ self.old) }
-    /// ```
+    /// &#32;
+    /// ensures limit { ([error_of](crate::contracts::ent_storage::handle_map#error_of) result ≡ [Some](crate::contracts::logic#Some) InsertError.Limit)
+    /// &#9;↔ [IsBeyond](crate::contracts::ent_storage::handle_map#IsBeyond) self.old.limit handle }
+    /// ensures later { ([error_of](crate::contracts::ent_storage::handle_map#error_of) result ≡ [Some](crate::contracts::logic#Some) InsertError.Later)
+    /// &#9;↔ (¬ ([IsBeyond](crate::contracts::ent_storage::handle_map#IsBeyond) self.old.limit handle) × [HasLater](crate::contracts::ent_storage::handle_map#HasLater) self.old.values handle) }
+    /// ensures memory { [error_of](crate::contracts::ent_storage::handle_map#error_of) result ≡ [Some](crate::contracts::logic#Some) InsertError.Memory → self.old.room ≤ handle.index }
+    /// ensures back { [IfErr](crate::contracts::logic#IfErr) result (λ refused. refused.value ≡ value) }
+    /// ensures err { [OnErr](crate::contracts::logic#OnErr) result (self.new ≡ self.old) }
+    /// </code>
     ///
     /// </details>
     #[inline]
@@ -299,11 +291,9 @@ impl<T> HandleMap<T> {
     ///
     /// <details><summary>Contract</summary>
     ///
-    /// In the words of the folder `specs/` of crate `ent_storage`:
-    ///
-    /// ```text
-    /// ensures { option_copied result ≡ map.get self.now.values handle }
-    /// ```
+    /// <code style="display: block; tab-size: 4; white-space: pre-wrap">// In the words of [contracts](crate::contracts):
+    /// ensures { [option_copied](crate::contracts::logic#option_copied) result ≡ [map.get](crate::contracts::logic#FinMap.get) self.now.values handle }
+    /// </code>
     ///
     /// </details>
     #[must_use]
@@ -332,12 +322,10 @@ impl<T> HandleMap<T> {
     ///
     /// <details><summary>Contract</summary>
     ///
-    /// In the words of the folder `specs/` of crate `ent_storage`:
-    ///
-    /// ```text
-    /// ensures* writes_back { sem 𝓛 (lends_get T.row self.entry handle result) }
-    /// ensures value { option_copied_mut result ≡ map.get self.old.values handle }
-    /// ```
+    /// <code style="display: block; tab-size: 4; white-space: pre-wrap">// In the words of [contracts](crate::contracts):
+    /// ensures\* writes_back { [sem](crate::contracts::logic#sem) 𝓛 (lends_get T.row self.entry handle result) }
+    /// ensures value { [option_copied_mut](crate::contracts::logic#option_copied_mut) result ≡ [map.get](crate::contracts::logic#FinMap.get) self.old.values handle }
+    /// </code>
     ///
     /// </details>
     #[must_use]
@@ -366,13 +354,11 @@ impl<T> HandleMap<T> {
     ///
     /// <details><summary>Contract</summary>
     ///
-    /// In the words of the folder `specs/` of crate `ent_storage`:
-    ///
-    /// ```text
-    /// ensures value { result ≡ map.get self.old.values handle }
+    /// <code style="display: block; tab-size: 4; white-space: pre-wrap">// In the words of [contracts](crate::contracts):
+    /// ensures value { result ≡ [map.get](crate::contracts::logic#FinMap.get) self.old.values handle }
     /// ensures map { self.new
-    ///     ≡ record self.old { values = map.remove self.old.values handle } }
-    /// ```
+    /// &#9;≡ record self.old { values = [map.remove](crate::contracts::logic#FinMap.remove) self.old.values handle } }
+    /// </code>
     ///
     /// </details>
     #[inline]
@@ -399,11 +385,9 @@ impl<T> HandleMap<T> {
     ///
     /// <details><summary>Contract</summary>
     ///
-    /// In the words of the folder `specs/` of crate `ent_storage`:
-    ///
-    /// ```text
-    /// ensures { result ≡ map.contains_key self.now.values handle }
-    /// ```
+    /// <code style="display: block; tab-size: 4; white-space: pre-wrap">// In the words of [contracts](crate::contracts):
+    /// ensures { result ≡ [map.contains_key](crate::contracts::logic#FinMap.contains_key) self.now.values handle }
+    /// </code>
     ///
     /// </details>
     #[must_use]
@@ -437,14 +421,12 @@ impl<T> HandleMap<T> {
     ///
     /// <details><summary>Contract</summary>
     ///
-    /// In the words of the folder `specs/` of crate `ent_storage`:
-    ///
-    /// ```text
+    /// <code style="display: block; tab-size: 4; white-space: pre-wrap">// In the words of [contracts](crate::contracts):
     /// ensures handle { entry_handle result ≡ handle }
-    /// ensures value { entry_value result ≡ map.get self.old.values handle }
+    /// ensures value { entry_value result ≡ [map.get](crate::contracts::logic#FinMap.get) self.old.values handle }
     /// ensures map { entry_map result ≡ self.old }
     /// ensures same_map { (entry_ref result).ghost_name ≡ self.entry.ghost_name }
-    /// ```
+    /// </code>
     ///
     /// </details>
     #[must_use]
@@ -476,13 +458,11 @@ impl<T> HandleMap<T> {
     ///
     /// <details><summary>Contract</summary>
     ///
-    /// In the words of the folder `specs/` of crate `ent_storage`:
-    ///
-    /// ```text
-    /// ensures entries { result ≡ map.entries self.now.values }
-    /// ensures rising { AllPairs (λ a b. a.0.index < b.0.index) result }
-    /// ensures count { length result ≡ map.len self.now.values }
-    /// ```
+    /// <code style="display: block; tab-size: 4; white-space: pre-wrap">// In the words of [contracts](crate::contracts):
+    /// ensures entries { result ≡ [map.entries](crate::contracts::logic#FinMap.entries) self.now.values }
+    /// ensures rising { [AllPairs](crate::contracts::logic#AllPairs) (λ a b. a.0.index \< b.0.index) result }
+    /// ensures count { [length](crate::contracts::logic#length) result ≡ [map.len](crate::contracts::logic#FinMap.len) self.now.values }
+    /// </code>
     ///
     /// </details>
     #[inline]
@@ -506,11 +486,9 @@ impl<T> HandleMap<T> {
     ///
     /// <details><summary>Contract</summary>
     ///
-    /// In the words of the folder `specs/` of crate `ent_storage`:
-    ///
-    /// ```text
-    /// ensures { result ≡ map.keys self.now.values }
-    /// ```
+    /// <code style="display: block; tab-size: 4; white-space: pre-wrap">// In the words of [contracts](crate::contracts):
+    /// ensures { result ≡ [map.keys](crate::contracts::logic#FinMap.keys) self.now.values }
+    /// </code>
     ///
     /// </details>
     #[inline]
@@ -532,11 +510,9 @@ impl<T> HandleMap<T> {
     ///
     /// <details><summary>Contract</summary>
     ///
-    /// In the words of the folder `specs/` of crate `ent_storage`:
-    ///
-    /// ```text
-    /// ensures { result ≡ map.values self.now.values }
-    /// ```
+    /// <code style="display: block; tab-size: 4; white-space: pre-wrap">// In the words of [contracts](crate::contracts):
+    /// ensures { result ≡ [map.values](crate::contracts::logic#FinMap.values) self.now.values }
+    /// </code>
     ///
     /// </details>
     #[inline]
@@ -571,14 +547,12 @@ impl<T> HandleMap<T> {
     ///
     /// <details><summary>Contract</summary>
     ///
-    /// In the words of the folder `specs/` of crate `ent_storage`:
-    ///
-    /// ```text
+    /// <code style="display: block; tab-size: 4; white-space: pre-wrap">// In the words of [contracts](crate::contracts):
     /// requires { F.IsAlwaysCallable keep }
-    /// ensures retained { Retains F.step keep (map.entries self.old.values)
-    ///     (map.entries self.new.values) }
+    /// ensures retained { [Retains](crate::contracts::ent_storage::retained#Retains) F.step keep ([map.entries](crate::contracts::logic#FinMap.entries) self.old.values)
+    /// &#9;([map.entries](crate::contracts::logic#FinMap.entries) self.new.values) }
     /// ensures kept { self.new ≡ record self.old { values = self.new.values } }
-    /// ```
+    /// </code>
     ///
     /// </details>
     #[inline]
@@ -603,11 +577,9 @@ impl<T> HandleMap<T> {
     ///
     /// <details><summary>Contract</summary>
     ///
-    /// In the words of the folder `specs/` of crate `ent_storage`:
-    ///
-    /// ```text
-    /// ensures { self.new ≡ record self.old { values = map.empty; slots = 0 } }
-    /// ```
+    /// <code style="display: block; tab-size: 4; white-space: pre-wrap">// In the words of [contracts](crate::contracts):
+    /// ensures { self.new ≡ record self.old { values = [map.empty](crate::contracts::logic#FinMap.empty); slots = 0 } }
+    /// </code>
     ///
     /// </details>
     #[inline]
@@ -633,12 +605,10 @@ impl<T> HandleMap<T> {
     ///
     /// <details><summary>Contract</summary>
     ///
-    /// In the words of the folder `specs/` of crate `ent_storage`:
-    ///
-    /// ```text
-    /// ensures entries { IfOk result (λ all. all.items ≡ map.entries self.values) }
-    /// ensures memory { OnErr result (0 < map.len self.values) }
-    /// ```
+    /// <code style="display: block; tab-size: 4; white-space: pre-wrap">// In the words of [contracts](crate::contracts):
+    /// ensures entries { [IfOk](crate::contracts::logic#IfOk) result (λ all. all.items ≡ [map.entries](crate::contracts::logic#FinMap.entries) self.values) }
+    /// ensures memory { [OnErr](crate::contracts::logic#OnErr) result (0 \< [map.len](crate::contracts::logic#FinMap.len) self.values) }
+    /// </code>
     ///
     /// </details>
     #[inline]
@@ -666,11 +636,9 @@ impl<T> HandleMap<T> {
     ///
     /// <details><summary>Contract</summary>
     ///
-    /// In the words of the folder `specs/` of crate `ent_storage`:
-    ///
-    /// ```text
-    /// ensures { result ≡ map.len self.now.values }
-    /// ```
+    /// <code style="display: block; tab-size: 4; white-space: pre-wrap">// In the words of [contracts](crate::contracts):
+    /// ensures { result ≡ [map.len](crate::contracts::logic#FinMap.len) self.now.values }
+    /// </code>
     ///
     /// </details>
     #[must_use]
@@ -694,11 +662,9 @@ impl<T> HandleMap<T> {
     ///
     /// <details><summary>Contract</summary>
     ///
-    /// In the words of the folder `specs/` of crate `ent_storage`:
-    ///
-    /// ```text
-    /// ensures { IsTrue result ↔ (map.len self.now.values ≡ 0) }
-    /// ```
+    /// <code style="display: block; tab-size: 4; white-space: pre-wrap">// In the words of [contracts](crate::contracts):
+    /// ensures { [IsTrue](crate::contracts::logic#IsTrue) result ↔ ([map.len](crate::contracts::logic#FinMap.len) self.now.values ≡ 0) }
+    /// </code>
     ///
     /// </details>
     #[must_use]
@@ -724,14 +690,12 @@ impl<T> HandleMap<T> {
     ///
     /// <details><summary>Contract</summary>
     ///
-    /// In the words of the folder `specs/` of crate `ent_storage`:
-    ///
-    /// ```text
+    /// <code style="display: block; tab-size: 4; white-space: pre-wrap">// In the words of [contracts](crate::contracts):
     /// ensures value { result ≡ self.now.slots }
     /// ensures room { self.now.slots ≤ self.now.room }
-    /// ensures values { (handle : Handle) → IsSome (map.get self.now.values handle)
-    ///     → handle.index < self.now.slots }
-    /// ```
+    /// ensures values { (handle : [Handle](crate::contracts::ent_handle::handle#Handle)) → [IsSome](crate::contracts::logic#IsSome) ([map.get](crate::contracts::logic#FinMap.get) self.now.values handle)
+    /// &#9;→ handle.index \< self.now.slots }
+    /// </code>
     ///
     /// </details>
     #[must_use]
@@ -753,11 +717,9 @@ impl<T> HandleMap<T> {
     ///
     /// <details><summary>Contract</summary>
     ///
-    /// In the words of the folder `specs/` of crate `ent_storage`:
-    ///
-    /// ```text
+    /// <code style="display: block; tab-size: 4; white-space: pre-wrap">// In the words of [contracts](crate::contracts):
     /// ensures { result ≡ self.now.limit }
-    /// ```
+    /// </code>
     ///
     /// </details>
     #[must_use]
@@ -783,11 +745,9 @@ impl<T> HandleMap<T> {
     ///
     /// <details><summary>Contract</summary>
     ///
-    /// In the words of the folder `specs/` of crate `ent_storage`:
-    ///
-    /// ```text
+    /// <code style="display: block; tab-size: 4; white-space: pre-wrap">// In the words of [contracts](crate::contracts):
     /// ensures { self.new ≡ record self.old { limit = limit } }
-    /// ```
+    /// </code>
     ///
     /// </details>
     #[inline]
@@ -811,11 +771,9 @@ impl<T> HandleMap<T> {
     ///
     /// <details><summary>Contract</summary>
     ///
-    /// In the words of the folder `specs/` of crate `ent_storage`:
-    ///
-    /// ```text
+    /// <code style="display: block; tab-size: 4; white-space: pre-wrap">// In the words of [contracts](crate::contracts):
     /// ensures { result ≡ self.now.room }
-    /// ```
+    /// </code>
     ///
     /// </details>
     #[must_use]
@@ -843,16 +801,14 @@ impl<T> HandleMap<T> {
     ///
     /// <details><summary>Contract</summary>
     ///
-    /// In the words of the folder `specs/` of crate `ent_storage`:
-    ///
-    /// ```text
-    /// ensures room { OnOk result (self.old.slots + additional ≤ self.new.room) }
+    /// <code style="display: block; tab-size: 4; white-space: pre-wrap">// In the words of [contracts](crate::contracts):
+    /// ensures room { [OnOk](crate::contracts::logic#OnOk) result (self.old.slots + additional ≤ self.new.room) }
     /// ensures kept { self.new ≡ record self.old { room = self.new.room } }
     /// ensures grows { self.old.room ≤ self.new.room }
     /// ensures in_place { self.old.slots + additional ≤ self.old.room → self.new ≡ self.old }
-    /// ensures memory { OnErr result (self.old.room < self.old.slots + additional) }
-    /// ensures err { OnErr result (self.new ≡ self.old) }
-    /// ```
+    /// ensures memory { [OnErr](crate::contracts::logic#OnErr) result (self.old.room \< self.old.slots + additional) }
+    /// ensures err { [OnErr](crate::contracts::logic#OnErr) result (self.new ≡ self.old) }
+    /// </code>
     ///
     /// </details>
     #[inline]
@@ -878,14 +834,12 @@ impl<T> HandleMap<T> {
     ///
     /// <details><summary>Contract</summary>
     ///
-    /// In the words of the folder `specs/` of crate `ent_storage`:
-    ///
-    /// ```text
+    /// <code style="display: block; tab-size: 4; white-space: pre-wrap">// In the words of [contracts](crate::contracts):
     /// ensures kept { self.new ≡ record self.old { room = self.new.room } }
     /// ensures shrinks { self.new.room ≤ self.old.room }
     /// ensures fits { self.old.slots ≤ self.new.room }
     /// ensures frees { self.old.slots ≡ 0 → self.new.room ≡ 0 }
-    /// ```
+    /// </code>
     ///
     /// </details>
     #[inline]
@@ -929,16 +883,14 @@ impl<T: Clone> HandleMap<T> {
     ///
     /// <details><summary>Contract</summary>
     ///
-    /// In the words of the folder `specs/` of crate `ent_storage`:
-    ///
-    /// ```text
-    /// ensures keys { IfOk result (λ m. map.keys m.values ≡ map.keys self.now.values) }
-    /// ensures clones { IfOk result (λ m.
-    ///     AllZip T.is_clone (map.values self.now.values) (map.values m.values)) }
-    /// ensures slots { IfOk result (λ m. m.slots ≡ self.now.slots) }
-    /// ensures limit { IfOk result (λ m. m.limit ≡ self.now.limit) }
-    /// ensures memory { OnErr result (0 < self.now.slots) }
-    /// ```
+    /// <code style="display: block; tab-size: 4; white-space: pre-wrap">// In the words of [contracts](crate::contracts):
+    /// ensures keys { [IfOk](crate::contracts::logic#IfOk) result (λ m. [map.keys](crate::contracts::logic#FinMap.keys) m.values ≡ [map.keys](crate::contracts::logic#FinMap.keys) self.now.values) }
+    /// ensures clones { [IfOk](crate::contracts::logic#IfOk) result (λ m.
+    /// &#9;[AllZip](crate::contracts::logic#AllZip) T.is_clone ([map.values](crate::contracts::logic#FinMap.values) self.now.values) ([map.values](crate::contracts::logic#FinMap.values) m.values)) }
+    /// ensures slots { [IfOk](crate::contracts::logic#IfOk) result (λ m. m.slots ≡ self.now.slots) }
+    /// ensures limit { [IfOk](crate::contracts::logic#IfOk) result (λ m. m.limit ≡ self.now.limit) }
+    /// ensures memory { [OnErr](crate::contracts::logic#OnErr) result (0 \< self.now.slots) }
+    /// </code>
     ///
     /// </details>
     #[inline]
@@ -986,25 +938,23 @@ impl<T: Clone> HandleMap<T> {
     ///
     /// <details><summary>Contract</summary>
     ///
-    /// In the words of the folder `specs/` of crate `ent_storage`:
-    ///
-    /// ```text
-    /// ensures keys { OnOk result (map.keys self.new.values ≡ map.keys source.now.values) }
-    /// ensures clones { OnOk result
-    ///     (AllZip T.is_clone (map.values source.now.values) (map.values self.new.values)) }
-    /// ensures slots { OnOk result (self.new.slots ≡ source.now.slots) }
-    /// ensures limit { OnOk result (self.new.limit ≡ source.now.limit) }
+    /// <code style="display: block; tab-size: 4; white-space: pre-wrap">// In the words of [contracts](crate::contracts):
+    /// ensures keys { [OnOk](crate::contracts::logic#OnOk) result ([map.keys](crate::contracts::logic#FinMap.keys) self.new.values ≡ [map.keys](crate::contracts::logic#FinMap.keys) source.now.values) }
+    /// ensures clones { [OnOk](crate::contracts::logic#OnOk) result
+    /// &#9;([AllZip](crate::contracts::logic#AllZip) T.is_clone ([map.values](crate::contracts::logic#FinMap.values) source.now.values) ([map.values](crate::contracts::logic#FinMap.values) self.new.values)) }
+    /// ensures slots { [OnOk](crate::contracts::logic#OnOk) result (self.new.slots ≡ source.now.slots) }
+    /// ensures limit { [OnOk](crate::contracts::logic#OnOk) result (self.new.limit ≡ source.now.limit) }
     /// ensures room { self.old.room ≤ self.new.room }
-    ///
-    /// ensures memory { OnErr result (0 < source.now.slots) }
-    /// ensures refused { OnErr result (self.old.room < source.now.slots → self.new ≡ self.old) }
-    /// ensures emptied { OnErr result (source.now.slots ≤ self.old.room
-    ///     → self.new ≡ record self.old {
-    ///       values = map.empty;
-    ///       slots = 0;
-    ///       room = self.new.room;
-    ///     }) }
-    /// ```
+    /// &#32;
+    /// ensures memory { [OnErr](crate::contracts::logic#OnErr) result (0 \< source.now.slots) }
+    /// ensures refused { [OnErr](crate::contracts::logic#OnErr) result (self.old.room \< source.now.slots → self.new ≡ self.old) }
+    /// ensures emptied { [OnErr](crate::contracts::logic#OnErr) result (source.now.slots ≤ self.old.room
+    /// &#9;→ self.new ≡ record self.old {
+    /// &#9;&#32;&#32;values = [map.empty](crate::contracts::logic#FinMap.empty);
+    /// &#9;&#32;&#32;slots = 0;
+    /// &#9;&#32;&#32;room = self.new.room;
+    /// &#9;}) }
+    /// </code>
     ///
     /// </details>
     #[inline]

@@ -170,14 +170,12 @@ impl Storage {
     ///
     /// <details><summary>Contract</summary>
     ///
-    /// In the words of the folder `specs/` of crate `ent_storage`:
-    ///
-    /// ```text
-    /// ensures value { result ≡ width self.now.entities self.now.places }
+    /// <code style="display: block; tab-size: 4; white-space: pre-wrap">// In the words of [contracts](crate::contracts):
+    /// ensures value { result ≡ [width](crate::contracts::ent_storage::image#width) self.now.entities self.now.places }
     /// ensures most { result ≤ 256 }
-    /// ensures within { (h : HandleValue) (id : Component) (v : ℤ)
-    ///     → value_of self.now.entities h id ≡ Some v → id.0 < result }
-    /// ```
+    /// ensures within { (h : [HandleValue](crate::contracts::ent_handle::handle#Handle)) (id : Component) (v : [ℤ](crate::contracts::logic#ℤ))
+    /// &#9;→ [value_of](crate::contracts::ent_storage::entity_map#value_of) self.now.entities h id ≡ [Some](crate::contracts::logic#Some) v → id.0 \< result }
+    /// </code>
     ///
     /// </details>
     #[inline]

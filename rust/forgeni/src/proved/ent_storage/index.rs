@@ -33,11 +33,9 @@ impl Index {
     ///
     /// <details><summary>Contract</summary>
     ///
-    /// In the words of the folder `specs/` of crate `ent_storage`:
-    ///
-    /// ```text
-    /// ensures { result ≡ record { by_handle = map.empty; room = 0 } }
-    /// ```
+    /// <code style="display: block; tab-size: 4; white-space: pre-wrap">// In the words of [contracts](crate::contracts):
+    /// ensures { result ≡ record { by_handle = [map.empty](crate::contracts::logic#FinMap.empty); room = 0 } }
+    /// </code>
     ///
     /// </details>
     #[inline]
@@ -51,12 +49,10 @@ impl Index {
     ///
     /// <details><summary>Contract</summary>
     ///
-    /// In the words of the folder `specs/` of crate `ent_storage`:
-    ///
-    /// ```text
-    /// ensures by_handle { IfOk result (λ copy. copy.by_handle ≡ self.now.by_handle) }
-    /// ensures room { IfOk result (λ copy. self.now.room ≤ copy.room) }
-    /// ```
+    /// <code style="display: block; tab-size: 4; white-space: pre-wrap">// In the words of [contracts](crate::contracts):
+    /// ensures by_handle { [IfOk](crate::contracts::logic#IfOk) result (λ copy. copy.by_handle ≡ self.now.by_handle) }
+    /// ensures room { [IfOk](crate::contracts::logic#IfOk) result (λ copy. self.now.room ≤ copy.room) }
+    /// </code>
     ///
     /// </details>
     #[inline]
@@ -89,11 +85,9 @@ impl Index {
     ///
     /// <details><summary>Contract</summary>
     ///
-    /// In the words of the folder `specs/` of crate `ent_storage`:
-    ///
-    /// ```text
-    /// ensures { result ≡ map.get (counted living.now.entities self.now.by_handle) handle }
-    /// ```
+    /// <code style="display: block; tab-size: 4; white-space: pre-wrap">// In the words of [contracts](crate::contracts):
+    /// ensures { result ≡ [map.get](crate::contracts::logic#FinMap.get) ([counted](crate::contracts::ent_storage::indexed#counted) living.now.entities self.now.by_handle) handle }
+    /// </code>
     ///
     /// </details>
     #[inline(always)]
@@ -189,12 +183,10 @@ impl Index {
     ///
     /// <details><summary>Contract</summary>
     ///
-    /// In the words of the folder `specs/` of crate `ent_storage`:
-    ///
-    /// ```text
-    /// ensures kept { Keeps handle self.old.by_handle self.new.by_handle }
+    /// <code style="display: block; tab-size: 4; white-space: pre-wrap">// In the words of [contracts](crate::contracts):
+    /// ensures kept { [Keeps](crate::contracts::ent_storage::indexed#Keeps) handle self.old.by_handle self.new.by_handle }
     /// ensures room { self.new.room ≡ self.old.room }
-    /// ```
+    /// </code>
     ///
     /// </details>
     #[inline(always)]
@@ -208,11 +200,9 @@ impl Index {
     ///
     /// <details><summary>Contract</summary>
     ///
-    /// In the words of the folder `specs/` of crate `ent_storage`:
-    ///
-    /// ```text
+    /// <code style="display: block; tab-size: 4; white-space: pre-wrap">// In the words of [contracts](crate::contracts):
     /// ensures { result ≡ self.now.room }
-    /// ```
+    /// </code>
     ///
     /// </details>
     #[inline]
@@ -240,15 +230,13 @@ impl Index {
     ///
     /// <details><summary>Contract</summary>
     ///
-    /// In the words of the folder `specs/` of crate `ent_storage`:
-    ///
-    /// ```text
+    /// <code style="display: block; tab-size: 4; white-space: pre-wrap">// In the words of [contracts](crate::contracts):
     /// ensures by_handle { self.new.by_handle ≡ self.old.by_handle }
-    /// ensures ok { OnOk result (count ≤ self.new.room) }
-    /// ensures err { OnErr result (self.new.room ≡ self.old.room) }
+    /// ensures ok { [OnOk](crate::contracts::logic#OnOk) result (count ≤ self.new.room) }
+    /// ensures err { [OnErr](crate::contracts::logic#OnErr) result (self.new.room ≡ self.old.room) }
     /// ensures grows { self.old.room ≤ self.new.room }
-    /// ensures succeeds { count ≤ self.old.room → IsOk result }
-    /// ```
+    /// ensures succeeds { count ≤ self.old.room → [IsOk](crate::contracts::logic#IsOk) result }
+    /// </code>
     ///
     /// </details>
     #[inline]

@@ -15,11 +15,9 @@ impl Key {
     ///
     /// <details><summary>Contract</summary>
     ///
-    /// In the words of the folder `specs/` of crate `ent_storage`:
-    ///
-    /// ```text
+    /// <code style="display: block; tab-size: 4; white-space: pre-wrap">// In the words of [contracts](crate::contracts):
     /// ensures { result ≡ handle }
-    /// ```
+    /// </code>
     ///
     /// </details>
     #[inline]
@@ -34,11 +32,9 @@ impl Key {
     ///
     /// <details><summary>Contract</summary>
     ///
-    /// In the words of the folder `specs/` of crate `ent_storage`:
-    ///
-    /// ```text
+    /// <code style="display: block; tab-size: 4; white-space: pre-wrap">// In the words of [contracts](crate::contracts):
     /// ensures { result ≡ self }
-    /// ```
+    /// </code>
     ///
     /// </details>
     #[inline]
@@ -50,11 +46,9 @@ impl Key {
     ///
     /// <details><summary>Contract</summary>
     ///
-    /// In the words of the folder `specs/` of crate `ent_storage`:
-    ///
-    /// ```text
+    /// <code style="display: block; tab-size: 4; white-space: pre-wrap">// In the words of [contracts](crate::contracts):
     /// ensures { result ≡ self.index }
-    /// ```
+    /// </code>
     ///
     /// </details>
     #[inline]
@@ -75,11 +69,9 @@ impl Key {
     ///
     /// <details><summary>Contract</summary>
     ///
-    /// In the words of the folder `specs/` of crate `ent_storage`:
-    ///
-    /// ```text
-    /// ensures { IsTrue result ↔ (handle_cmp self handle ≡ Equal) }
-    /// ```
+    /// <code style="display: block; tab-size: 4; white-space: pre-wrap">// In the words of [contracts](crate::contracts):
+    /// ensures { [IsTrue](crate::contracts::logic#IsTrue) result ↔ ([handle_cmp](crate::contracts::ent_handle::handle#handle_cmp) self handle ≡ Equal) }
+    /// </code>
     ///
     /// </details>
     #[inline]
@@ -91,11 +83,9 @@ impl Key {
     ///
     /// <details><summary>Contract</summary>
     ///
-    /// In the words of the folder `specs/` of crate `ent_storage`:
-    ///
-    /// ```text
-    /// ensures { IsTrue result ↔ (handle_cmp self handle ≡ Less) }
-    /// ```
+    /// <code style="display: block; tab-size: 4; white-space: pre-wrap">// In the words of [contracts](crate::contracts):
+    /// ensures { [IsTrue](crate::contracts::logic#IsTrue) result ↔ ([handle_cmp](crate::contracts::ent_handle::handle#handle_cmp) self handle ≡ Less) }
+    /// </code>
     ///
     /// </details>
     #[inline]
@@ -108,11 +98,9 @@ impl Key {
     ///
     /// <details><summary>Contract</summary>
     ///
-    /// In the words of the folder `specs/` of crate `ent_storage`:
-    ///
-    /// ```text
-    /// ensures { IsTrue result ↔ (handle_cmp self handle ≡ Greater) }
-    /// ```
+    /// <code style="display: block; tab-size: 4; white-space: pre-wrap">// In the words of [contracts](crate::contracts):
+    /// ensures { [IsTrue](crate::contracts::logic#IsTrue) result ↔ ([handle_cmp](crate::contracts::ent_handle::handle#handle_cmp) self handle ≡ Greater) }
+    /// </code>
     ///
     /// </details>
     #[inline]

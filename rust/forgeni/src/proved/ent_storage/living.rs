@@ -36,11 +36,9 @@ impl Living {
     ///
     /// <details><summary>Contract</summary>
     ///
-    /// In the words of the folder `specs/` of crate `ent_storage`:
-    ///
-    /// ```text
-    /// ensures { result ≡ record { entities = []; room = 0 } }
-    /// ```
+    /// <code style="display: block; tab-size: 4; white-space: pre-wrap">// In the words of [contracts](crate::contracts):
+    /// ensures { result ≡ record { entities = \[\]; room = 0 } }
+    /// </code>
     ///
     /// </details>
     #[inline]
@@ -56,12 +54,10 @@ impl Living {
     ///
     /// <details><summary>Contract</summary>
     ///
-    /// In the words of the folder `specs/` of crate `ent_storage`:
-    ///
-    /// ```text
-    /// ensures entities { IfOk result (λ copy. copy.entities ≡ self.now.entities) }
-    /// ensures room { IfOk result (λ copy. self.now.room ≤ copy.room) }
-    /// ```
+    /// <code style="display: block; tab-size: 4; white-space: pre-wrap">// In the words of [contracts](crate::contracts):
+    /// ensures entities { [IfOk](crate::contracts::logic#IfOk) result (λ copy. copy.entities ≡ self.now.entities) }
+    /// ensures room { [IfOk](crate::contracts::logic#IfOk) result (λ copy. self.now.room ≤ copy.room) }
+    /// </code>
     ///
     /// </details>
     #[inline]
@@ -106,11 +102,9 @@ impl Living {
     ///
     /// <details><summary>Contract</summary>
     ///
-    /// In the words of the folder `specs/` of crate `ent_storage`:
-    ///
-    /// ```text
-    /// ensures { result ≡ length self.now.entities }
-    /// ```
+    /// <code style="display: block; tab-size: 4; white-space: pre-wrap">// In the words of [contracts](crate::contracts):
+    /// ensures { result ≡ [length](crate::contracts::logic#length) self.now.entities }
+    /// </code>
     ///
     /// </details>
     #[inline]
@@ -122,11 +116,9 @@ impl Living {
     ///
     /// <details><summary>Contract</summary>
     ///
-    /// In the words of the folder `specs/` of crate `ent_storage`:
-    ///
-    /// ```text
-    /// ensures { result ≡ (length self.now.entities == 0) }
-    /// ```
+    /// <code style="display: block; tab-size: 4; white-space: pre-wrap">// In the words of [contracts](crate::contracts):
+    /// ensures { result ≡ ([length](crate::contracts::logic#length) self.now.entities == 0) }
+    /// </code>
     ///
     /// </details>
     #[inline]
@@ -138,11 +130,9 @@ impl Living {
     ///
     /// <details><summary>Contract</summary>
     ///
-    /// In the words of the folder `specs/` of crate `ent_storage`:
-    ///
-    /// ```text
+    /// <code style="display: block; tab-size: 4; white-space: pre-wrap">// In the words of [contracts](crate::contracts):
     /// ensures { result ≡ self.now.room }
-    /// ```
+    /// </code>
     ///
     /// </details>
     #[inline]
@@ -154,16 +144,14 @@ impl Living {
     ///
     /// <details><summary>Contract</summary>
     ///
-    /// In the words of the folder `specs/` of crate `ent_storage`:
-    ///
-    /// ```text
+    /// <code style="display: block; tab-size: 4; white-space: pre-wrap">// In the words of [contracts](crate::contracts):
     /// ensures entities { self.new.entities ≡ self.old.entities }
-    /// ensures ok { OnOk result (length self.new.entities + additional ≤ self.new.room) }
+    /// ensures ok { [OnOk](crate::contracts::logic#OnOk) result ([length](crate::contracts::logic#length) self.new.entities + additional ≤ self.new.room) }
     /// ensures grows { self.old.room ≤ self.new.room }
-    /// ensures succeeds { length self.old.entities + additional ≤ self.old.room → IsOk result }
-    /// ensures full { OnErr result (self.old.room < length self.old.entities + additional) }
-    /// ensures err { OnErr result (self.new.room ≡ self.old.room) }
-    /// ```
+    /// ensures succeeds { [length](crate::contracts::logic#length) self.old.entities + additional ≤ self.old.room → [IsOk](crate::contracts::logic#IsOk) result }
+    /// ensures full { [OnErr](crate::contracts::logic#OnErr) result (self.old.room \< [length](crate::contracts::logic#length) self.old.entities + additional) }
+    /// ensures err { [OnErr](crate::contracts::logic#OnErr) result (self.new.room ≡ self.old.room) }
+    /// </code>
     ///
     /// </details>
     #[inline]
@@ -204,13 +192,11 @@ impl Living {
     ///
     /// <details><summary>Contract</summary>
     ///
-    /// In the words of the folder `specs/` of crate `ent_storage`:
-    ///
-    /// ```text
+    /// <code style="display: block; tab-size: 4; white-space: pre-wrap">// In the words of [contracts](crate::contracts):
     /// ensures none { result ≡ 0 }
-    /// ensures within { All (λ entity. (id : Component) (v : ℤ)
-    ///     → finite.get entity.components id ≡ Some v → id.0 < 256) self.now.entities }
-    /// ```
+    /// ensures within { [All](crate::contracts::logic#All) (λ entity. (id : Component) (v : [ℤ](crate::contracts::logic#ℤ))
+    /// &#9;→ [finite.get](crate::contracts::logic#FinMap.get) entity.components id ≡ [Some](crate::contracts::logic#Some) v → id.0 \< 256) self.now.entities }
+    /// </code>
     ///
     /// </details>
     #[inline]
@@ -295,13 +281,11 @@ impl Living {
     ///
     /// <details><summary>Contract</summary>
     ///
-    /// In the words of the folder `specs/` of crate `ent_storage`:
-    ///
-    /// ```text
-    /// ensures ok { IfOk result (λ births. births.items
-    ///     ≡ map (λ entity. (entity.birth, entity.handle)) self.now.entities) }
-    /// ensures memory { OnErr result (0 < length self.now.entities) }
-    /// ```
+    /// <code style="display: block; tab-size: 4; white-space: pre-wrap">// In the words of [contracts](crate::contracts):
+    /// ensures ok { [IfOk](crate::contracts::logic#IfOk) result (λ births. births.items
+    /// &#9;≡ [map](crate::contracts::logic#map) (λ entity. (entity.birth, entity.handle)) self.now.entities) }
+    /// ensures memory { [OnErr](crate::contracts::logic#OnErr) result (0 \< [length](crate::contracts::logic#length) self.now.entities) }
+    /// </code>
     ///
     /// </details>
     #[inline]
@@ -313,12 +297,10 @@ impl Living {
     ///
     /// <details><summary>Contract</summary>
     ///
-    /// In the words of the folder `specs/` of crate `ent_storage`:
-    ///
-    /// ```text
-    /// ensures { IsLeastOf birth
-    ///     (map (λ entity. (entity.birth, entity.handle)) self.now.entities) result }
-    /// ```
+    /// <code style="display: block; tab-size: 4; white-space: pre-wrap">// In the words of [contracts](crate::contracts):
+    /// ensures { [IsLeastOf](crate::contracts::ent_storage::birth_order#IsLeastOf) birth
+    /// &#9;([map](crate::contracts::logic#map) (λ entity. (entity.birth, entity.handle)) self.now.entities) result }
+    /// </code>
     ///
     /// </details>
     #[inline]
@@ -350,15 +332,13 @@ impl Living {
     ///
     /// <details><summary>Contract</summary>
     ///
-    /// In the words of the folder `specs/` of crate `ent_storage`:
-    ///
-    /// ```text
-    /// ensures has { (place : ℕ) (v : ℤ) → Contains result.now (place, v)
-    ///     → IsValueAt self.now.entities place id v }
-    /// ensures all { (place : ℕ) (v : ℤ) → IsValueAt self.now.entities place id v
-    ///     → Contains result.now (place, v) }
-    /// ensures once { AllPairs (λ a b. a.0 ≢ b.0) result.now }
-    /// ```
+    /// <code style="display: block; tab-size: 4; white-space: pre-wrap">// In the words of [contracts](crate::contracts):
+    /// ensures has { (place : [ℕ](crate::contracts::logic#ℕ)) (v : [ℤ](crate::contracts::logic#ℤ)) → [Contains](crate::contracts::logic#Contains) result.now (place, v)
+    /// &#9;→ [IsValueAt](crate::contracts::ent_storage::living#IsValueAt) self.now.entities place id v }
+    /// ensures all { (place : [ℕ](crate::contracts::logic#ℕ)) (v : [ℤ](crate::contracts::logic#ℤ)) → [IsValueAt](crate::contracts::ent_storage::living#IsValueAt) self.now.entities place id v
+    /// &#9;→ [Contains](crate::contracts::logic#Contains) result.now (place, v) }
+    /// ensures once { [AllPairs](crate::contracts::logic#AllPairs) (λ a b. a.0 ≢ b.0) result.now }
+    /// </code>
     ///
     /// </details>
     #[inline]
@@ -390,11 +370,9 @@ fn births(residents: &[Resident]) -> Result<Vec<(Birth, Handle)>, AllocError>
 ///
 /// <details><summary>Contract</summary>
 ///
-/// In the words of the folder `specs/` of crate `ent_storage`:
-///
-/// ```text
-/// ensures { result ≡ has_handle_at living.now.entities key (Some place) }
-/// ```
+/// <code style="display: block; tab-size: 4; white-space: pre-wrap">// In the words of [contracts](crate::contracts):
+/// ensures { result ≡ [has_handle_at](crate::contracts::ent_storage::indexed#has_handle_at) living.now.entities key ([Some](crate::contracts::logic#Some) place) }
+/// </code>
 ///
 /// </details>
 #[inline]

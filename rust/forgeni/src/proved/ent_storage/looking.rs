@@ -28,11 +28,9 @@ impl Storage {
     ///
     /// <details><summary>Contract</summary>
     ///
-    /// In the words of the folder `specs/` of crate `ent_storage`:
-    ///
-    /// ```text
-    /// ensures { result ≡ value_of self.now.entities handle id }
-    /// ```
+    /// <code style="display: block; tab-size: 4; white-space: pre-wrap">// In the words of [contracts](crate::contracts):
+    /// ensures { result ≡ [value_of](crate::contracts::ent_storage::entity_map#value_of) self.now.entities handle id }
+    /// </code>
     ///
     /// </details>
     #[must_use]
@@ -56,11 +54,9 @@ impl Storage {
     ///
     /// <details><summary>Contract</summary>
     ///
-    /// In the words of the folder `specs/` of crate `ent_storage`:
-    ///
-    /// ```text
-    /// ensures { result ≡ map.contains_key self.now.entities handle }
-    /// ```
+    /// <code style="display: block; tab-size: 4; white-space: pre-wrap">// In the words of [contracts](crate::contracts):
+    /// ensures { result ≡ [map.contains_key](crate::contracts::logic#FinMap.contains_key) self.now.entities handle }
+    /// </code>
     ///
     /// </details>
     #[must_use]
@@ -84,11 +80,9 @@ impl Storage {
     ///
     /// <details><summary>Contract</summary>
     ///
-    /// In the words of the folder `specs/` of crate `ent_storage`:
-    ///
-    /// ```text
-    /// ensures { result ≡ birth_of self.now.entities handle }
-    /// ```
+    /// <code style="display: block; tab-size: 4; white-space: pre-wrap">// In the words of [contracts](crate::contracts):
+    /// ensures { result ≡ [birth_of](crate::contracts::ent_storage::entity_map#birth_of) self.now.entities handle }
+    /// </code>
     ///
     /// </details>
     #[must_use]
@@ -114,11 +108,9 @@ impl Storage {
     ///
     /// <details><summary>Contract</summary>
     ///
-    /// In the words of the folder `specs/` of crate `ent_storage`:
-    ///
-    /// ```text
-    /// ensures { result ≡ option_map map.entries (components_of self.now.entities handle) }
-    /// ```
+    /// <code style="display: block; tab-size: 4; white-space: pre-wrap">// In the words of [contracts](crate::contracts):
+    /// ensures { result ≡ [option_map](crate::contracts::logic#option_map) [map.entries](crate::contracts::logic#FinMap.entries) ([components_of](crate::contracts::ent_storage::entity_map#components_of) self.now.entities handle) }
+    /// </code>
     ///
     /// </details>
     #[must_use]
@@ -148,13 +140,11 @@ impl Storage {
     ///
     /// <details><summary>Contract</summary>
     ///
-    /// In the words of the folder `specs/` of crate `ent_storage`:
-    ///
-    /// ```text
-    /// ensures has { (place : ℕ) (value : ℤ) → Contains result.now (place, value)
-    ///     ↔ (value_at_place self.now place id ≡ Some value) }
-    /// ensures once { AllPairs (λ a b. a.0 ≢ b.0) result.now }
-    /// ```
+    /// <code style="display: block; tab-size: 4; white-space: pre-wrap">// In the words of [contracts](crate::contracts):
+    /// ensures has { (place : [ℕ](crate::contracts::logic#ℕ)) (value : [ℤ](crate::contracts::logic#ℤ)) → [Contains](crate::contracts::logic#Contains) result.now (place, value)
+    /// &#9;↔ ([value_at_place](crate::contracts::ent_storage::entity_map#value_at_place) self.now place id ≡ [Some](crate::contracts::logic#Some) value) }
+    /// ensures once { [AllPairs](crate::contracts::logic#AllPairs) (λ a b. a.0 ≢ b.0) result.now }
+    /// </code>
     ///
     /// </details>
     #[must_use]
@@ -187,13 +177,11 @@ impl Storage {
     ///
     /// <details><summary>Contract</summary>
     ///
-    /// In the words of the folder `specs/` of crate `ent_storage`:
-    ///
-    /// ```text
-    /// ensures ok { IfOk result (λ handles. ListsWith id self.now.entities handles.items) }
-    /// ensures memory { OnErr result
-    ///     ((handle : Handle) × IsSome (value_of self.now.entities handle id)) }
-    /// ```
+    /// <code style="display: block; tab-size: 4; white-space: pre-wrap">// In the words of [contracts](crate::contracts):
+    /// ensures ok { [IfOk](crate::contracts::logic#IfOk) result (λ handles. [ListsWith](crate::contracts::ent_storage::birth_order#ListsWith) id self.now.entities handles.items) }
+    /// ensures memory { [OnErr](crate::contracts::logic#OnErr) result
+    /// &#9;((handle : [Handle](crate::contracts::ent_handle::handle#Handle)) × [IsSome](crate::contracts::logic#IsSome) ([value_of](crate::contracts::ent_storage::entity_map#value_of) self.now.entities handle id)) }
+    /// </code>
     ///
     /// </details>
     #[inline]
@@ -221,12 +209,10 @@ impl Storage {
     ///
     /// <details><summary>Contract</summary>
     ///
-    /// In the words of the folder `specs/` of crate `ent_storage`:
-    ///
-    /// ```text
-    /// ensures ok { IfOk result (λ handles. ListsAll self.now.entities handles.items) }
-    /// ensures memory { OnErr result (self.now.entities ≢ map.empty) }
-    /// ```
+    /// <code style="display: block; tab-size: 4; white-space: pre-wrap">// In the words of [contracts](crate::contracts):
+    /// ensures ok { [IfOk](crate::contracts::logic#IfOk) result (λ handles. [ListsAll](crate::contracts::ent_storage::birth_order#ListsAll) self.now.entities handles.items) }
+    /// ensures memory { [OnErr](crate::contracts::logic#OnErr) result (self.now.entities ≢ [map.empty](crate::contracts::logic#FinMap.empty)) }
+    /// </code>
     ///
     /// </details>
     #[inline]
@@ -254,17 +240,15 @@ impl Storage {
     ///
     /// <details><summary>Contract</summary>
     ///
-    /// In the words of the folder `specs/` of crate `ent_storage`:
-    ///
-    /// ```text
-    /// ensures found { IfSome result (λ handle.
-    ///     birth_of self.now.entities handle ≡ Some birth) }
-    /// ensures least { IfSome result (λ handle. (other : Handle)
-    ///     → birth_of self.now.entities other ≡ Some birth
-    ///     → handle_cmp handle other ≢ Greater) }
-    /// ensures none { IfNone result ((handle : Handle)
-    ///     → birth_of self.now.entities handle ≢ Some birth) }
-    /// ```
+    /// <code style="display: block; tab-size: 4; white-space: pre-wrap">// In the words of [contracts](crate::contracts):
+    /// ensures found { [IfSome](crate::contracts::logic#IfSome) result (λ handle.
+    /// &#9;[birth_of](crate::contracts::ent_storage::entity_map#birth_of) self.now.entities handle ≡ [Some](crate::contracts::logic#Some) birth) }
+    /// ensures least { [IfSome](crate::contracts::logic#IfSome) result (λ handle. (other : [Handle](crate::contracts::ent_handle::handle#Handle))
+    /// &#9;→ [birth_of](crate::contracts::ent_storage::entity_map#birth_of) self.now.entities other ≡ [Some](crate::contracts::logic#Some) birth
+    /// &#9;→ [handle_cmp](crate::contracts::ent_handle::handle#handle_cmp) handle other ≢ Greater) }
+    /// ensures none { [IfNone](crate::contracts::logic#IfNone) result ((handle : [Handle](crate::contracts::ent_handle::handle#Handle))
+    /// &#9;→ [birth_of](crate::contracts::ent_storage::entity_map#birth_of) self.now.entities handle ≢ [Some](crate::contracts::logic#Some) birth) }
+    /// </code>
     ///
     /// </details>
     #[must_use]
@@ -292,12 +276,10 @@ impl Storage {
     ///
     /// <details><summary>Contract</summary>
     ///
-    /// In the words of the folder `specs/` of crate `ent_storage`:
-    ///
-    /// ```text
-    /// ensures at { (i : ℕ) → (result ≡ Some i) ↔ (slice_get self.now.places i ≡ Some handle) }
-    /// ensures there { is_some result ≡ map.contains_key self.now.entities handle }
-    /// ```
+    /// <code style="display: block; tab-size: 4; white-space: pre-wrap">// In the words of [contracts](crate::contracts):
+    /// ensures at { (i : [ℕ](crate::contracts::logic#ℕ)) → (result ≡ [Some](crate::contracts::logic#Some) i) ↔ ([slice_get](crate::contracts::logic#slice_get) self.now.places i ≡ [Some](crate::contracts::logic#Some) handle) }
+    /// ensures there { [is_some](crate::contracts::logic#is_some) result ≡ [map.contains_key](crate::contracts::logic#FinMap.contains_key) self.now.entities handle }
+    /// </code>
     ///
     /// </details>
     #[must_use]

@@ -11,12 +11,10 @@ use crate::kit::alloc::AllocError;
 ///
 /// <details><summary>Contract</summary>
 ///
-/// In the words of the folder `specs/` of crate `ent_storage`:
-///
-/// ```text
-/// ensures ok { IfOk result (λ handles. IsInOrder births.items handles.items) }
-/// ensures memory { OnErr result (0 < length births.items) }
-/// ```
+/// <code style="display: block; tab-size: 4; white-space: pre-wrap">// In the words of [contracts](crate::contracts):
+/// ensures ok { [IfOk](crate::contracts::logic#IfOk) result (λ handles. [IsInOrder](crate::contracts::ent_storage::birth_order#IsInOrder) births.items handles.items) }
+/// ensures memory { [OnErr](crate::contracts::logic#OnErr) result (0 \< [length](crate::contracts::logic#length) births.items) }
+/// </code>
 ///
 /// </details>
 #[inline]
@@ -60,12 +58,10 @@ fn handles(births: &[(Birth, Handle)]) -> Result<Vec<Handle>, AllocError>
 ///
 /// <details><summary>Contract</summary>
 ///
-/// In the words of the folder `specs/` of crate `ent_storage`:
-///
-/// ```text
-/// ensures { IsLeastOf birth (map (λ resident. (resident.birth, resident.handle)) residents.now)
-///     result }
-/// ```
+/// <code style="display: block; tab-size: 4; white-space: pre-wrap">// In the words of [contracts](crate::contracts):
+/// ensures { [IsLeastOf](crate::contracts::ent_storage::birth_order#IsLeastOf) birth ([map](crate::contracts::logic#map) (λ resident. (resident.birth, resident.handle)) residents.now)
+/// &#9;result }
+/// </code>
 ///
 /// </details>
 #[inline]

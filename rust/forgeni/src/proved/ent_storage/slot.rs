@@ -41,11 +41,9 @@ fn search(pairs: &[(Key, u32)], handle: Handle) -> Result<usize, usize>
 ///
 /// <details><summary>Contract</summary>
 ///
-/// In the words of the folder `specs/` of crate `ent_storage`:
-///
-/// ```text
-/// ensures { IfSome result (IsAt handle_cmp pairs.now handle) }
-/// ```
+/// <code style="display: block; tab-size: 4; white-space: pre-wrap">// In the words of [contracts](crate::contracts):
+/// ensures { [IfSome](crate::contracts::logic#IfSome) result ([IsAt](crate::contracts::ent_storage::position#IsAt) [handle_cmp](crate::contracts::ent_handle::handle#handle_cmp) pairs.now handle) }
+/// </code>
 ///
 /// </details>
 #[inline(always)]

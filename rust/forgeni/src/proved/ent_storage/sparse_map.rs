@@ -76,11 +76,9 @@ impl<T> SparseMap<T> {
     ///
     /// <details><summary>Contract</summary>
     ///
-    /// In the words of the folder `specs/` of crate `ent_storage`:
-    ///
-    /// ```text
-    /// ensures { result ≡ record { values = map.empty; room = 0; slots = 0; limit = no_limit } }
-    /// ```
+    /// <code style="display: block; tab-size: 4; white-space: pre-wrap">// In the words of [contracts](crate::contracts):
+    /// ensures { result ≡ record { values = [map.empty](crate::contracts::logic#FinMap.empty); room = 0; slots = 0; limit = [no_limit](crate::contracts::ent_storage::handle_map#no_limit) } }
+    /// </code>
     ///
     /// </details>
     #[must_use]
@@ -107,11 +105,9 @@ impl<T> SparseMap<T> {
     ///
     /// <details><summary>Contract</summary>
     ///
-    /// In the words of the folder `specs/` of crate `ent_storage`:
-    ///
-    /// ```text
-    /// ensures { result ≡ record { values = map.empty; room = 0; slots = 0; limit = limit } }
-    /// ```
+    /// <code style="display: block; tab-size: 4; white-space: pre-wrap">// In the words of [contracts](crate::contracts):
+    /// ensures { result ≡ record { values = [map.empty](crate::contracts::logic#FinMap.empty); room = 0; slots = 0; limit = limit } }
+    /// </code>
     ///
     /// </details>
     #[must_use]
@@ -162,31 +158,29 @@ impl<T> SparseMap<T> {
     ///
     /// <details><summary>Contract</summary>
     ///
-    /// In the words of the folder `specs/` of crate `ent_storage`:
-    ///
-    /// ```text
-    /// ensures ok { OnOk result (self.new.values
-    ///     ≡ map.insert (without_slot self.old.values handle.index) handle value) }
-    /// ensures before { IfOk result (λ before. before ≡ map.get self.old.values handle) }
+    /// <code style="display: block; tab-size: 4; white-space: pre-wrap">// In the words of [contracts](crate::contracts):
+    /// ensures ok { [OnOk](crate::contracts::logic#OnOk) result (self.new.values
+    /// &#9;≡ [map.insert](crate::contracts::logic#FinMap.insert) ([without_slot](crate::contracts::ent_storage::handle_map#without_slot) self.old.values handle.index) handle value) }
+    /// ensures before { [IfOk](crate::contracts::logic#IfOk) result (λ before. before ≡ [map.get](crate::contracts::logic#FinMap.get) self.old.values handle) }
     /// ensures slots { self.old.slots ≤ self.new.slots }
     /// ensures slots_within { self.new.slots
-    ///     ≤ max self.old.slots (handle.index + 1 + handle.index / 8) }
+    /// &#9;≤ [max](crate::contracts::logic#max) self.old.slots (handle.index + 1 + handle.index / 8) }
     /// ensures room { self.old.room ≤ self.new.room }
     /// ensures kept { self.new.limit ≡ self.old.limit }
-    ///
-    /// ensures limit { (error_of result ≡ Some InsertError.Limit)
-    ///     ↔ IsBeyond self.old.limit handle }
-    /// ensures later { (error_of result ≡ Some InsertError.Later)
-    ///     ↔ (¬ (IsBeyond self.old.limit handle) × HasLater self.old.values handle) }
-    /// ensures memory { error_of result ≡ Some InsertError.Memory
-    ///     → IsFullFor self.old handle.index }
-    /// ensures memory_for_a_new_slot { error_of result ≡ Some InsertError.Memory
-    ///     → HasNone self.old.values handle.index }
-    /// ensures back { IfErr result (λ refused. refused.value ≡ value) }
-    /// ensures err { OnErr result (self.new.values ≡ self.old.values) }
-    /// ensures unchanged { OnErr result (error_of result ≢ Some InsertError.Memory
-    ///     → self.new ≡ self.old) }
-    /// ```
+    /// &#32;
+    /// ensures limit { ([error_of](crate::contracts::ent_storage::handle_map#error_of) result ≡ [Some](crate::contracts::logic#Some) InsertError.Limit)
+    /// &#9;↔ [IsBeyond](crate::contracts::ent_storage::handle_map#IsBeyond) self.old.limit handle }
+    /// ensures later { ([error_of](crate::contracts::ent_storage::handle_map#error_of) result ≡ [Some](crate::contracts::logic#Some) InsertError.Later)
+    /// &#9;↔ (¬ ([IsBeyond](crate::contracts::ent_storage::handle_map#IsBeyond) self.old.limit handle) × [HasLater](crate::contracts::ent_storage::handle_map#HasLater) self.old.values handle) }
+    /// ensures memory { [error_of](crate::contracts::ent_storage::handle_map#error_of) result ≡ [Some](crate::contracts::logic#Some) InsertError.Memory
+    /// &#9;→ [IsFullFor](crate::contracts::ent_storage::sparse_map#IsFullFor) self.old handle.index }
+    /// ensures memory_for_a_new_slot { [error_of](crate::contracts::ent_storage::handle_map#error_of) result ≡ [Some](crate::contracts::logic#Some) InsertError.Memory
+    /// &#9;→ [HasNone](crate::contracts::ent_storage::sparse_map#HasNone) self.old.values handle.index }
+    /// ensures back { [IfErr](crate::contracts::logic#IfErr) result (λ refused. refused.value ≡ value) }
+    /// ensures err { [OnErr](crate::contracts::logic#OnErr) result (self.new.values ≡ self.old.values) }
+    /// ensures unchanged { [OnErr](crate::contracts::logic#OnErr) result ([error_of](crate::contracts::ent_storage::handle_map#error_of) result ≢ [Some](crate::contracts::logic#Some) InsertError.Memory
+    /// &#9;→ self.new ≡ self.old) }
+    /// </code>
     ///
     /// </details>
     #[inline]
@@ -219,11 +213,9 @@ impl<T> SparseMap<T> {
     ///
     /// <details><summary>Contract</summary>
     ///
-    /// In the words of the folder `specs/` of crate `ent_storage`:
-    ///
-    /// ```text
-    /// ensures { option_copied result ≡ map.get self.now.values handle }
-    /// ```
+    /// <code style="display: block; tab-size: 4; white-space: pre-wrap">// In the words of [contracts](crate::contracts):
+    /// ensures { [option_copied](crate::contracts::logic#option_copied) result ≡ [map.get](crate::contracts::logic#FinMap.get) self.now.values handle }
+    /// </code>
     ///
     /// </details>
     #[must_use]
@@ -252,12 +244,10 @@ impl<T> SparseMap<T> {
     ///
     /// <details><summary>Contract</summary>
     ///
-    /// In the words of the folder `specs/` of crate `ent_storage`:
-    ///
-    /// ```text
-    /// ensures* writes_back { sem 𝓛 (lends_get T.row self.entry handle result) }
-    /// ensures value { option_copied_mut result ≡ map.get self.old.values handle }
-    /// ```
+    /// <code style="display: block; tab-size: 4; white-space: pre-wrap">// In the words of [contracts](crate::contracts):
+    /// ensures\* writes_back { [sem](crate::contracts::logic#sem) 𝓛 (lends_get T.row self.entry handle result) }
+    /// ensures value { [option_copied_mut](crate::contracts::logic#option_copied_mut) result ≡ [map.get](crate::contracts::logic#FinMap.get) self.old.values handle }
+    /// </code>
     ///
     /// </details>
     #[must_use]
@@ -286,13 +276,11 @@ impl<T> SparseMap<T> {
     ///
     /// <details><summary>Contract</summary>
     ///
-    /// In the words of the folder `specs/` of crate `ent_storage`:
-    ///
-    /// ```text
-    /// ensures value { result ≡ map.get self.old.values handle }
+    /// <code style="display: block; tab-size: 4; white-space: pre-wrap">// In the words of [contracts](crate::contracts):
+    /// ensures value { result ≡ [map.get](crate::contracts::logic#FinMap.get) self.old.values handle }
     /// ensures map { self.new
-    ///     ≡ record self.old { values = map.remove self.old.values handle } }
-    /// ```
+    /// &#9;≡ record self.old { values = [map.remove](crate::contracts::logic#FinMap.remove) self.old.values handle } }
+    /// </code>
     ///
     /// </details>
     #[inline]
@@ -317,11 +305,9 @@ impl<T> SparseMap<T> {
     ///
     /// <details><summary>Contract</summary>
     ///
-    /// In the words of the folder `specs/` of crate `ent_storage`:
-    ///
-    /// ```text
-    /// ensures { result ≡ map.contains_key self.now.values handle }
-    /// ```
+    /// <code style="display: block; tab-size: 4; white-space: pre-wrap">// In the words of [contracts](crate::contracts):
+    /// ensures { result ≡ [map.contains_key](crate::contracts::logic#FinMap.contains_key) self.now.values handle }
+    /// </code>
     ///
     /// </details>
     #[must_use]
@@ -355,14 +341,12 @@ impl<T> SparseMap<T> {
     ///
     /// <details><summary>Contract</summary>
     ///
-    /// In the words of the folder `specs/` of crate `ent_storage`:
-    ///
-    /// ```text
+    /// <code style="display: block; tab-size: 4; white-space: pre-wrap">// In the words of [contracts](crate::contracts):
     /// ensures handle { entry_handle result ≡ handle }
-    /// ensures value { entry_value result ≡ map.get self.old.values handle }
+    /// ensures value { entry_value result ≡ [map.get](crate::contracts::logic#FinMap.get) self.old.values handle }
     /// ensures map { entry_map result ≡ self.old }
     /// ensures same_map { (entry_ref result).ghost_name ≡ self.entry.ghost_name }
-    /// ```
+    /// </code>
     ///
     /// </details>
     #[must_use]
@@ -393,11 +377,9 @@ impl<T> SparseMap<T> {
     ///
     /// <details><summary>Contract</summary>
     ///
-    /// In the words of the folder `specs/` of crate `ent_storage`:
-    ///
-    /// ```text
-    /// ensures { AreEntries self.now.values result }
-    /// ```
+    /// <code style="display: block; tab-size: 4; white-space: pre-wrap">// In the words of [contracts](crate::contracts):
+    /// ensures { [AreEntries](crate::contracts::ent_storage::sparse_map#AreEntries) self.now.values result }
+    /// </code>
     ///
     /// </details>
     #[inline]
@@ -423,11 +405,9 @@ impl<T> SparseMap<T> {
     ///
     /// <details><summary>Contract</summary>
     ///
-    /// In the words of the folder `specs/` of crate `ent_storage`:
-    ///
-    /// ```text
-    /// ensures { AreEntries self.now.values result.now }
-    /// ```
+    /// <code style="display: block; tab-size: 4; white-space: pre-wrap">// In the words of [contracts](crate::contracts):
+    /// ensures { [AreEntries](crate::contracts::ent_storage::sparse_map#AreEntries) self.now.values result.now }
+    /// </code>
     ///
     /// </details>
     #[must_use]
@@ -453,11 +433,9 @@ impl<T> SparseMap<T> {
     ///
     /// <details><summary>Contract</summary>
     ///
-    /// In the words of the folder `specs/` of crate `ent_storage`:
-    ///
-    /// ```text
-    /// ensures { self.new ≡ record self.old { values = map.empty } }
-    /// ```
+    /// <code style="display: block; tab-size: 4; white-space: pre-wrap">// In the words of [contracts](crate::contracts):
+    /// ensures { self.new ≡ record self.old { values = [map.empty](crate::contracts::logic#FinMap.empty) } }
+    /// </code>
     ///
     /// </details>
     #[inline]
@@ -480,11 +458,9 @@ impl<T> SparseMap<T> {
     ///
     /// <details><summary>Contract</summary>
     ///
-    /// In the words of the folder `specs/` of crate `ent_storage`:
-    ///
-    /// ```text
-    /// ensures { AreEntries self.values result.items }
-    /// ```
+    /// <code style="display: block; tab-size: 4; white-space: pre-wrap">// In the words of [contracts](crate::contracts):
+    /// ensures { [AreEntries](crate::contracts::ent_storage::sparse_map#AreEntries) self.values result.items }
+    /// </code>
     ///
     /// </details>
     #[must_use]
@@ -511,11 +487,9 @@ impl<T> SparseMap<T> {
     ///
     /// <details><summary>Contract</summary>
     ///
-    /// In the words of the folder `specs/` of crate `ent_storage`:
-    ///
-    /// ```text
-    /// ensures { result ≡ map.len self.now.values }
-    /// ```
+    /// <code style="display: block; tab-size: 4; white-space: pre-wrap">// In the words of [contracts](crate::contracts):
+    /// ensures { result ≡ [map.len](crate::contracts::logic#FinMap.len) self.now.values }
+    /// </code>
     ///
     /// </details>
     #[must_use]
@@ -539,11 +513,9 @@ impl<T> SparseMap<T> {
     ///
     /// <details><summary>Contract</summary>
     ///
-    /// In the words of the folder `specs/` of crate `ent_storage`:
-    ///
-    /// ```text
-    /// ensures { IsTrue result ↔ (map.len self.now.values ≡ 0) }
-    /// ```
+    /// <code style="display: block; tab-size: 4; white-space: pre-wrap">// In the words of [contracts](crate::contracts):
+    /// ensures { [IsTrue](crate::contracts::logic#IsTrue) result ↔ ([map.len](crate::contracts::logic#FinMap.len) self.now.values ≡ 0) }
+    /// </code>
     ///
     /// </details>
     #[must_use]
@@ -566,13 +538,11 @@ impl<T> SparseMap<T> {
     ///
     /// <details><summary>Contract</summary>
     ///
-    /// In the words of the folder `specs/` of crate `ent_storage`:
-    ///
-    /// ```text
+    /// <code style="display: block; tab-size: 4; white-space: pre-wrap">// In the words of [contracts](crate::contracts):
     /// ensures value { result ≡ self.now.slots }
-    /// ensures values { (handle : Handle) → IsSome (map.get self.now.values handle)
-    ///     → handle.index < self.now.slots }
-    /// ```
+    /// ensures values { (handle : [Handle](crate::contracts::ent_handle::handle#Handle)) → [IsSome](crate::contracts::logic#IsSome) ([map.get](crate::contracts::logic#FinMap.get) self.now.values handle)
+    /// &#9;→ handle.index \< self.now.slots }
+    /// </code>
     ///
     /// </details>
     #[must_use]
@@ -593,11 +563,9 @@ impl<T> SparseMap<T> {
     ///
     /// <details><summary>Contract</summary>
     ///
-    /// In the words of the folder `specs/` of crate `ent_storage`:
-    ///
-    /// ```text
+    /// <code style="display: block; tab-size: 4; white-space: pre-wrap">// In the words of [contracts](crate::contracts):
     /// ensures { result ≡ self.now.limit }
-    /// ```
+    /// </code>
     ///
     /// </details>
     #[must_use]
@@ -622,11 +590,9 @@ impl<T> SparseMap<T> {
     ///
     /// <details><summary>Contract</summary>
     ///
-    /// In the words of the folder `specs/` of crate `ent_storage`:
-    ///
-    /// ```text
+    /// <code style="display: block; tab-size: 4; white-space: pre-wrap">// In the words of [contracts](crate::contracts):
     /// ensures { self.new ≡ record self.old { limit = limit } }
-    /// ```
+    /// </code>
     ///
     /// </details>
     #[inline]
@@ -649,11 +615,9 @@ impl<T> SparseMap<T> {
     ///
     /// <details><summary>Contract</summary>
     ///
-    /// In the words of the folder `specs/` of crate `ent_storage`:
-    ///
-    /// ```text
+    /// <code style="display: block; tab-size: 4; white-space: pre-wrap">// In the words of [contracts](crate::contracts):
     /// ensures { result ≡ self.now.room }
-    /// ```
+    /// </code>
     ///
     /// </details>
     #[must_use]
@@ -677,14 +641,12 @@ impl<T> SparseMap<T> {
     ///
     /// <details><summary>Contract</summary>
     ///
-    /// In the words of the folder `specs/` of crate `ent_storage`:
-    ///
-    /// ```text
+    /// <code style="display: block; tab-size: 4; white-space: pre-wrap">// In the words of [contracts](crate::contracts):
     /// ensures kept { self.new ≡ record self.old { room = self.new.room } }
     /// ensures shrinks { self.new.room ≤ self.old.room }
-    /// ensures fits { map.len self.old.values ≤ self.new.room }
-    /// ensures frees { map.len self.old.values ≡ 0 → self.new.room ≡ 0 }
-    /// ```
+    /// ensures fits { [map.len](crate::contracts::logic#FinMap.len) self.old.values ≤ self.new.room }
+    /// ensures frees { [map.len](crate::contracts::logic#FinMap.len) self.old.values ≡ 0 → self.new.room ≡ 0 }
+    /// </code>
     ///
     /// </details>
     #[inline]
@@ -729,15 +691,13 @@ impl<T: Clone> SparseMap<T> {
     ///
     /// <details><summary>Contract</summary>
     ///
-    /// In the words of the folder `specs/` of crate `ent_storage`:
-    ///
-    /// ```text
-    /// ensures clones { IfOk result (λ m. AreCloned T.is_clone self.now.values m.values) }
-    /// ensures slots { IfOk result (λ m. m.slots ≡ self.now.slots) }
-    /// ensures room { IfOk result (λ m. map.len self.now.values ≤ m.room) }
-    /// ensures limit { IfOk result (λ m. m.limit ≡ self.now.limit) }
-    /// ensures memory { OnErr result (0 < self.now.slots) }
-    /// ```
+    /// <code style="display: block; tab-size: 4; white-space: pre-wrap">// In the words of [contracts](crate::contracts):
+    /// ensures clones { [IfOk](crate::contracts::logic#IfOk) result (λ m. [AreCloned](crate::contracts::ent_storage::sparse_map#AreCloned) T.is_clone self.now.values m.values) }
+    /// ensures slots { [IfOk](crate::contracts::logic#IfOk) result (λ m. m.slots ≡ self.now.slots) }
+    /// ensures room { [IfOk](crate::contracts::logic#IfOk) result (λ m. [map.len](crate::contracts::logic#FinMap.len) self.now.values ≤ m.room) }
+    /// ensures limit { [IfOk](crate::contracts::logic#IfOk) result (λ m. m.limit ≡ self.now.limit) }
+    /// ensures memory { [OnErr](crate::contracts::logic#OnErr) result (0 \< self.now.slots) }
+    /// </code>
     ///
     /// </details>
     #[inline]
@@ -785,32 +745,30 @@ impl<T: Clone> SparseMap<T> {
     ///
     /// <details><summary>Contract</summary>
     ///
-    /// In the words of the folder `specs/` of crate `ent_storage`:
-    ///
-    /// ```text
-    /// ensures clones { OnOk result (AreCloned T.is_clone source.now.values self.new.values) }
-    /// ensures slots { OnOk result (self.new.slots ≡ source.now.slots) }
-    /// ensures limit { OnOk result (self.new.limit ≡ source.now.limit) }
-    /// ensures memory { OnErr result (0 < source.now.slots) }
-    /// ensures memory_in_place { OnErr result (source.now.slots ≤ self.old.slots
-    ///     → 0 < map.len source.now.values) }
-    /// ensures refused { OnErr result (self.old.room < map.len source.now.values
-    ///     → self.new ≡ self.old) }
-    /// ensures left { OnErr result ((self.new ≡ self.old)
-    ///     ⊎ (self.new ≡ record self.old {
-    ///       values = map.empty;
-    ///       slots = source.now.slots;
-    ///       room = self.new.room;
-    ///     })) }
-    /// ensures emptied { OnErr result (source.now.slots ≤ self.old.slots
-    ///     → map.len source.now.values ≤ self.old.room → self.new ≡ record self.old {
-    ///       values = map.empty;
-    ///       slots = source.now.slots;
-    ///       room = self.new.room;
-    ///     }) }
-    /// ensures room { OnErr result (self.old.room ≤ self.new.room) }
+    /// <code style="display: block; tab-size: 4; white-space: pre-wrap">// In the words of [contracts](crate::contracts):
+    /// ensures clones { [OnOk](crate::contracts::logic#OnOk) result ([AreCloned](crate::contracts::ent_storage::sparse_map#AreCloned) T.is_clone source.now.values self.new.values) }
+    /// ensures slots { [OnOk](crate::contracts::logic#OnOk) result (self.new.slots ≡ source.now.slots) }
+    /// ensures limit { [OnOk](crate::contracts::logic#OnOk) result (self.new.limit ≡ source.now.limit) }
+    /// ensures memory { [OnErr](crate::contracts::logic#OnErr) result (0 \< source.now.slots) }
+    /// ensures memory_in_place { [OnErr](crate::contracts::logic#OnErr) result (source.now.slots ≤ self.old.slots
+    /// &#9;→ 0 \< [map.len](crate::contracts::logic#FinMap.len) source.now.values) }
+    /// ensures refused { [OnErr](crate::contracts::logic#OnErr) result (self.old.room \< [map.len](crate::contracts::logic#FinMap.len) source.now.values
+    /// &#9;→ self.new ≡ self.old) }
+    /// ensures left { [OnErr](crate::contracts::logic#OnErr) result ((self.new ≡ self.old)
+    /// &#9;⊎ (self.new ≡ record self.old {
+    /// &#9;&#32;&#32;values = [map.empty](crate::contracts::logic#FinMap.empty);
+    /// &#9;&#32;&#32;slots = source.now.slots;
+    /// &#9;&#32;&#32;room = self.new.room;
+    /// &#9;})) }
+    /// ensures emptied { [OnErr](crate::contracts::logic#OnErr) result (source.now.slots ≤ self.old.slots
+    /// &#9;→ [map.len](crate::contracts::logic#FinMap.len) source.now.values ≤ self.old.room → self.new ≡ record self.old {
+    /// &#9;&#32;&#32;values = [map.empty](crate::contracts::logic#FinMap.empty);
+    /// &#9;&#32;&#32;slots = source.now.slots;
+    /// &#9;&#32;&#32;room = self.new.room;
+    /// &#9;}) }
+    /// ensures room { [OnErr](crate::contracts::logic#OnErr) result (self.old.room ≤ self.new.room) }
     /// ensures room_in_place { source.now.slots ≤ self.old.slots → self.old.room ≤ self.new.room }
-    /// ```
+    /// </code>
     ///
     /// </details>
     #[inline]

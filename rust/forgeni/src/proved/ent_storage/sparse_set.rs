@@ -21,11 +21,9 @@ impl SparseSet {
     ///
     /// <details><summary>Contract</summary>
     ///
-    /// In the words of the folder `specs/` of crate `ent_storage`:
-    ///
-    /// ```text
-    /// ensures { result ≡ no_column }
-    /// ```
+    /// <code style="display: block; tab-size: 4; white-space: pre-wrap">// In the words of [contracts](crate::contracts):
+    /// ensures { result ≡ [no_column](crate::contracts::ent_storage::sparse_set#no_column) }
+    /// </code>
     ///
     /// </details>
     #[inline]
@@ -40,11 +38,9 @@ impl SparseSet {
     ///
     /// <details><summary>Contract</summary>
     ///
-    /// In the words of the folder `specs/` of crate `ent_storage`:
-    ///
-    /// ```text
-    /// ensures { IfOk result (IsCopy self.now) }
-    /// ```
+    /// <code style="display: block; tab-size: 4; white-space: pre-wrap">// In the words of [contracts](crate::contracts):
+    /// ensures { [IfOk](crate::contracts::logic#IfOk) result ([IsCopy](crate::contracts::ent_storage::copies#IsCopy) self.now) }
+    /// </code>
     ///
     /// </details>
     #[inline]
@@ -63,14 +59,12 @@ impl SparseSet {
     ///
     /// <details><summary>Contract</summary>
     ///
-    /// In the words of the folder `specs/` of crate `ent_storage`:
-    ///
-    /// ```text
+    /// <code style="display: block; tab-size: 4; white-space: pre-wrap">// In the words of [contracts](crate::contracts):
     /// ensures values { self.new.values ≡ self.old.values }
-    /// ensures ok { OnOk result (HasRoomFor self.new source.now) }
-    /// ensures kept { (other : Column) → HasRoomFor self.old other → HasRoomFor self.new other }
-    /// ensures memory { OnErr result (source.now.values ≢ map.empty) }
-    /// ```
+    /// ensures ok { [OnOk](crate::contracts::logic#OnOk) result ([HasRoomFor](crate::contracts::ent_storage::sparse_set#HasRoomFor) self.new source.now) }
+    /// ensures kept { (other : [Column](crate::contracts::ent_storage::sparse_set#Column)) → [HasRoomFor](crate::contracts::ent_storage::sparse_set#HasRoomFor) self.old other → [HasRoomFor](crate::contracts::ent_storage::sparse_set#HasRoomFor) self.new other }
+    /// ensures memory { [OnErr](crate::contracts::logic#OnErr) result (source.now.values ≢ [map.empty](crate::contracts::logic#FinMap.empty)) }
+    /// </code>
     ///
     /// </details>
     #[inline]
@@ -102,12 +96,10 @@ impl SparseSet {
     ///
     /// <details><summary>Contract</summary>
     ///
-    /// In the words of the folder `specs/` of crate `ent_storage`:
-    ///
-    /// ```text
-    /// ensures values { self.new.values ≡ map.empty }
-    /// ensures none { self.old ≡ no_column → self.new ≡ no_column }
-    /// ```
+    /// <code style="display: block; tab-size: 4; white-space: pre-wrap">// In the words of [contracts](crate::contracts):
+    /// ensures values { self.new.values ≡ [map.empty](crate::contracts::logic#FinMap.empty) }
+    /// ensures none { self.old ≡ [no_column](crate::contracts::ent_storage::sparse_set#no_column) → self.new ≡ [no_column](crate::contracts::ent_storage::sparse_set#no_column) }
+    /// </code>
     ///
     /// </details>
     #[inline]
@@ -119,12 +111,10 @@ impl SparseSet {
     ///
     /// <details><summary>Contract</summary>
     ///
-    /// In the words of the folder `specs/` of crate `ent_storage`:
-    ///
-    /// ```text
-    /// ensures some { IsTrue result → self.now.values ≢ map.empty }
-    /// ensures none { ¬ (IsTrue result) → self.now.values ≡ map.empty }
-    /// ```
+    /// <code style="display: block; tab-size: 4; white-space: pre-wrap">// In the words of [contracts](crate::contracts):
+    /// ensures some { [IsTrue](crate::contracts::logic#IsTrue) result → self.now.values ≢ [map.empty](crate::contracts::logic#FinMap.empty) }
+    /// ensures none { ¬ ([IsTrue](crate::contracts::logic#IsTrue) result) → self.now.values ≡ [map.empty](crate::contracts::logic#FinMap.empty) }
+    /// </code>
     ///
     /// </details>
     #[inline]
@@ -136,16 +126,14 @@ impl SparseSet {
     ///
     /// <details><summary>Contract</summary>
     ///
-    /// In the words of the folder `specs/` of crate `ent_storage`:
-    ///
-    /// ```text
-    /// ensures has { (p : ℕ) (v : ℤ) → Contains result.now (p, v)
-    ///     → map.get self.now.values p ≡ Some v }
-    /// ensures all { (p : ℕ) (v : ℤ) → map.get self.now.values p ≡ Some v
-    ///     → Contains result.now (p, v) }
-    /// ensures once { (j k p : ℕ) (v w : ℤ) → slice_get result.now j ≡ Some (p, v)
-    ///     → slice_get result.now k ≡ Some (p, w) → j ≡ k }
-    /// ```
+    /// <code style="display: block; tab-size: 4; white-space: pre-wrap">// In the words of [contracts](crate::contracts):
+    /// ensures has { (p : [ℕ](crate::contracts::logic#ℕ)) (v : [ℤ](crate::contracts::logic#ℤ)) → [Contains](crate::contracts::logic#Contains) result.now (p, v)
+    /// &#9;→ [map.get](crate::contracts::logic#FinMap.get) self.now.values p ≡ [Some](crate::contracts::logic#Some) v }
+    /// ensures all { (p : [ℕ](crate::contracts::logic#ℕ)) (v : [ℤ](crate::contracts::logic#ℤ)) → [map.get](crate::contracts::logic#FinMap.get) self.now.values p ≡ [Some](crate::contracts::logic#Some) v
+    /// &#9;→ [Contains](crate::contracts::logic#Contains) result.now (p, v) }
+    /// ensures once { (j k p : [ℕ](crate::contracts::logic#ℕ)) (v w : [ℤ](crate::contracts::logic#ℤ)) → [slice_get](crate::contracts::logic#slice_get) result.now j ≡ [Some](crate::contracts::logic#Some) (p, v)
+    /// &#9;→ [slice_get](crate::contracts::logic#slice_get) result.now k ≡ [Some](crate::contracts::logic#Some) (p, w) → j ≡ k }
+    /// </code>
     ///
     /// </details>
     #[inline]
@@ -157,11 +145,9 @@ impl SparseSet {
     ///
     /// <details><summary>Contract</summary>
     ///
-    /// In the words of the folder `specs/` of crate `ent_storage`:
-    ///
-    /// ```text
-    /// ensures { result ≡ map.get self.now.values place }
-    /// ```
+    /// <code style="display: block; tab-size: 4; white-space: pre-wrap">// In the words of [contracts](crate::contracts):
+    /// ensures { result ≡ [map.get](crate::contracts::logic#FinMap.get) self.now.values place }
+    /// </code>
     ///
     /// </details>
     #[inline]
@@ -189,11 +175,9 @@ impl SparseSet {
     ///
     /// <details><summary>Contract</summary>
     ///
-    /// In the words of the folder `specs/` of crate `ent_storage`:
-    ///
-    /// ```text
-    /// ensures { IsTrue result → 0 < self.now.places }
-    /// ```
+    /// <code style="display: block; tab-size: 4; white-space: pre-wrap">// In the words of [contracts](crate::contracts):
+    /// ensures { [IsTrue](crate::contracts::logic#IsTrue) result → 0 \< self.now.places }
+    /// </code>
     ///
     /// </details>
     #[inline]
@@ -205,11 +189,9 @@ impl SparseSet {
     ///
     /// <details><summary>Contract</summary>
     ///
-    /// In the words of the folder `specs/` of crate `ent_storage`:
-    ///
-    /// ```text
-    /// ensures { IsTrue result → HasRoomAt self.now place }
-    /// ```
+    /// <code style="display: block; tab-size: 4; white-space: pre-wrap">// In the words of [contracts](crate::contracts):
+    /// ensures { [IsTrue](crate::contracts::logic#IsTrue) result → [HasRoomAt](crate::contracts::ent_storage::sparse_set#HasRoomAt) self.now place }
+    /// </code>
     ///
     /// </details>
     #[inline]
@@ -222,13 +204,11 @@ impl SparseSet {
     ///
     /// <details><summary>Contract</summary>
     ///
-    /// In the words of the folder `specs/` of crate `ent_storage`:
-    ///
-    /// ```text
+    /// <code style="display: block; tab-size: 4; white-space: pre-wrap">// In the words of [contracts](crate::contracts):
     /// ensures values { self.new.values ≡ self.old.values }
-    /// ensures ok { OnOk result (HasRoomAt self.new place) }
-    /// ensures kept { HasRoomAt self.old place → HasRoomAt self.new place }
-    /// ```
+    /// ensures ok { [OnOk](crate::contracts::logic#OnOk) result ([HasRoomAt](crate::contracts::ent_storage::sparse_set#HasRoomAt) self.new place) }
+    /// ensures kept { [HasRoomAt](crate::contracts::ent_storage::sparse_set#HasRoomAt) self.old place → [HasRoomAt](crate::contracts::ent_storage::sparse_set#HasRoomAt) self.new place }
+    /// </code>
     ///
     /// </details>
     #[inline]
@@ -248,13 +228,11 @@ impl SparseSet {
     ///
     /// <details><summary>Contract</summary>
     ///
-    /// In the words of the folder `specs/` of crate `ent_storage`:
-    ///
-    /// ```text
-    /// ensures value { result ≡ map.get self.old.values place }
-    /// ensures after { self.new.values ≡ map.remove self.old.values place }
-    /// ensures absent { result ≡ None → self.new ≡ self.old }
-    /// ```
+    /// <code style="display: block; tab-size: 4; white-space: pre-wrap">// In the words of [contracts](crate::contracts):
+    /// ensures value { result ≡ [map.get](crate::contracts::logic#FinMap.get) self.old.values place }
+    /// ensures after { self.new.values ≡ [map.remove](crate::contracts::logic#FinMap.remove) self.old.values place }
+    /// ensures absent { result ≡ [None](crate::contracts::logic#None) → self.new ≡ self.old }
+    /// </code>
     ///
     /// </details>
     #[inline(always)]

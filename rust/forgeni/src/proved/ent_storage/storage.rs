@@ -55,13 +55,11 @@ impl Storage {
     ///
     /// <details><summary>Contract</summary>
     ///
-    /// In the words of the folder `specs/` of crate `ent_storage`:
-    ///
-    /// ```text
-    /// ensures entities { result.entities ≡ map.empty }
+    /// <code style="display: block; tab-size: 4; white-space: pre-wrap">// In the words of [contracts](crate::contracts):
+    /// ensures entities { result.entities ≡ [map.empty](crate::contracts::logic#FinMap.empty) }
     /// ensures spare { result.spare ≡ 0 }
-    /// ensures places { result.places ≡ [] }
-    /// ```
+    /// ensures places { result.places ≡ \[\] }
+    /// </code>
     ///
     /// </details>
     #[must_use]
@@ -110,20 +108,18 @@ impl Storage {
     ///
     /// <details><summary>Contract</summary>
     ///
-    /// In the words of the folder `specs/` of crate `ent_storage`:
-    ///
-    /// ```text
-    /// ensures ok { OnOk result
-    ///     (self.new.entities ≡ map.insert self.old.entities handle (newborn birth)) }
-    /// ensures spare { OnOk result (0 < self.old.spare → self.new.spare + 1 ≡ self.old.spare) }
-    /// ensures places { OnOk result (self.new.places ≡ self.old.places ++ handle ∷ []) }
-    ///
-    /// ensures present { IsErrOf result StorageError.Present
-    ///     ↔ IsTrue (map.contains_key self.old.entities handle) }
-    /// ensures memory_without_room { IsErrOf result StorageError.Memory → self.old.spare ≡ 0 }
-    /// ensures never_absent { ¬ (IsErrOf result StorageError.Absent) }
-    /// ensures err { OnErr result (self.new ≡ self.old) }
-    /// ```
+    /// <code style="display: block; tab-size: 4; white-space: pre-wrap">// In the words of [contracts](crate::contracts):
+    /// ensures ok { [OnOk](crate::contracts::logic#OnOk) result
+    /// &#9;(self.new.entities ≡ [map.insert](crate::contracts::logic#FinMap.insert) self.old.entities handle ([newborn](crate::contracts::ent_storage::entity_map#newborn) birth)) }
+    /// ensures spare { [OnOk](crate::contracts::logic#OnOk) result (0 \< self.old.spare → self.new.spare + 1 ≡ self.old.spare) }
+    /// ensures places { [OnOk](crate::contracts::logic#OnOk) result (self.new.places ≡ self.old.places ++ handle ∷ \[\]) }
+    /// &#32;
+    /// ensures present { [IsErrOf](crate::contracts::logic#IsErrOf) result StorageError.Present
+    /// &#9;↔ [IsTrue](crate::contracts::logic#IsTrue) ([map.contains_key](crate::contracts::logic#FinMap.contains_key) self.old.entities handle) }
+    /// ensures memory_without_room { [IsErrOf](crate::contracts::logic#IsErrOf) result StorageError.Memory → self.old.spare ≡ 0 }
+    /// ensures never_absent { ¬ ([IsErrOf](crate::contracts::logic#IsErrOf) result StorageError.Absent) }
+    /// ensures err { [OnErr](crate::contracts::logic#OnErr) result (self.new ≡ self.old) }
+    /// </code>
     ///
     /// </details>
     #[inline(always)]
@@ -162,20 +158,18 @@ impl Storage {
     ///
     /// <details><summary>Contract</summary>
     ///
-    /// In the words of the folder `specs/` of crate `ent_storage`:
-    ///
-    /// ```text
-    /// ensures ok { OnOk result (self.new.entities ≡ map.remove self.old.entities handle) }
-    /// ensures spare { OnOk result (self.new.spare ≡ self.old.spare + 1) }
-    /// ensures places { OnOk result (SomeIndex self.old.places (λ place.
-    ///     (slice_get self.old.places place ≡ Some handle)
-    ///     × AreWithout place self.old.places self.new.places)) }
-    ///
-    /// ensures absent { IsErrOf result StorageError.Absent
-    ///     ↔ (map.get self.old.entities handle ≡ None) }
-    /// ensures only_absent { IfErr result (λ fault. fault ≡ StorageError.Absent) }
-    /// ensures err { OnErr result (self.new ≡ self.old) }
-    /// ```
+    /// <code style="display: block; tab-size: 4; white-space: pre-wrap">// In the words of [contracts](crate::contracts):
+    /// ensures ok { [OnOk](crate::contracts::logic#OnOk) result (self.new.entities ≡ [map.remove](crate::contracts::logic#FinMap.remove) self.old.entities handle) }
+    /// ensures spare { [OnOk](crate::contracts::logic#OnOk) result (self.new.spare ≡ self.old.spare + 1) }
+    /// ensures places { [OnOk](crate::contracts::logic#OnOk) result ([SomeIndex](crate::contracts::logic#SomeIndex) self.old.places (λ place.
+    /// &#9;([slice_get](crate::contracts::logic#slice_get) self.old.places place ≡ [Some](crate::contracts::logic#Some) handle)
+    /// &#9;× [AreWithout](crate::contracts::ent_storage::places#AreWithout) place self.old.places self.new.places)) }
+    /// &#32;
+    /// ensures absent { [IsErrOf](crate::contracts::logic#IsErrOf) result StorageError.Absent
+    /// &#9;↔ ([map.get](crate::contracts::logic#FinMap.get) self.old.entities handle ≡ [None](crate::contracts::logic#None)) }
+    /// ensures only_absent { [IfErr](crate::contracts::logic#IfErr) result (λ fault. fault ≡ StorageError.Absent) }
+    /// ensures err { [OnErr](crate::contracts::logic#OnErr) result (self.new ≡ self.old) }
+    /// </code>
     ///
     /// </details>
     #[inline(always)]
@@ -214,22 +208,20 @@ impl Storage {
     ///
     /// <details><summary>Contract</summary>
     ///
-    /// In the words of the folder `specs/` of crate `ent_storage`:
-    ///
-    /// ```text
-    /// ensures ok { OnOk result (self.new.entities
-    ///     ≡ with_components self.old.entities handle (λ held. with_items held items.now)) }
+    /// <code style="display: block; tab-size: 4; white-space: pre-wrap">// In the words of [contracts](crate::contracts):
+    /// ensures ok { [OnOk](crate::contracts::logic#OnOk) result (self.new.entities
+    /// &#9;≡ [with_components](crate::contracts::ent_storage::entity_map#with_components) self.old.entities handle (λ held. [with_items](crate::contracts::ent_storage::components#with_items) held items.now)) }
     /// ensures spare { self.new.spare ≡ self.old.spare }
     /// ensures places { self.new.places ≡ self.old.places }
-    ///
-    /// ensures absent { IsErrOf result StorageError.Absent
-    ///     ↔ (map.get self.old.entities handle ≡ None) }
-    /// ensures memory_to_grow { IsErrOf result StorageError.Memory
-    ///     → IfSome (components_of self.old.entities handle)
-    ///     (λ held. 0 < missing held items.now) }
-    /// ensures never_present { ¬ (IsErrOf result StorageError.Present) }
-    /// ensures err { OnErr result (self.new ≡ self.old) }
-    /// ```
+    /// &#32;
+    /// ensures absent { [IsErrOf](crate::contracts::logic#IsErrOf) result StorageError.Absent
+    /// &#9;↔ ([map.get](crate::contracts::logic#FinMap.get) self.old.entities handle ≡ [None](crate::contracts::logic#None)) }
+    /// ensures memory_to_grow { [IsErrOf](crate::contracts::logic#IsErrOf) result StorageError.Memory
+    /// &#9;→ [IfSome](crate::contracts::logic#IfSome) ([components_of](crate::contracts::ent_storage::entity_map#components_of) self.old.entities handle)
+    /// &#9;(λ held. 0 \< [missing](crate::contracts::ent_storage::components#missing) held items.now) }
+    /// ensures never_present { ¬ ([IsErrOf](crate::contracts::logic#IsErrOf) result StorageError.Present) }
+    /// ensures err { [OnErr](crate::contracts::logic#OnErr) result (self.new ≡ self.old) }
+    /// </code>
     ///
     /// </details>
     #[inline(always)]
@@ -268,20 +260,18 @@ impl Storage {
     ///
     /// <details><summary>Contract</summary>
     ///
-    /// In the words of the folder `specs/` of crate `ent_storage`:
-    ///
-    /// ```text
-    /// ensures value { IfOk result (λ value. value ≡ value_of self.old.entities handle id) }
-    /// ensures ok { OnOk result (self.new.entities
-    ///     ≡ with_components self.old.entities handle (λ held. map.remove held id)) }
+    /// <code style="display: block; tab-size: 4; white-space: pre-wrap">// In the words of [contracts](crate::contracts):
+    /// ensures value { [IfOk](crate::contracts::logic#IfOk) result (λ value. value ≡ [value_of](crate::contracts::ent_storage::entity_map#value_of) self.old.entities handle id) }
+    /// ensures ok { [OnOk](crate::contracts::logic#OnOk) result (self.new.entities
+    /// &#9;≡ [with_components](crate::contracts::ent_storage::entity_map#with_components) self.old.entities handle (λ held. [map.remove](crate::contracts::logic#FinMap.remove) held id)) }
     /// ensures spare { self.new.spare ≡ self.old.spare }
     /// ensures places { self.new.places ≡ self.old.places }
-    ///
-    /// ensures absent { IsErrOf result StorageError.Absent
-    ///     ↔ (map.get self.old.entities handle ≡ None) }
-    /// ensures only_absent { IfErr result (λ fault. fault ≡ StorageError.Absent) }
-    /// ensures err { OnErr result (self.new ≡ self.old) }
-    /// ```
+    /// &#32;
+    /// ensures absent { [IsErrOf](crate::contracts::logic#IsErrOf) result StorageError.Absent
+    /// &#9;↔ ([map.get](crate::contracts::logic#FinMap.get) self.old.entities handle ≡ [None](crate::contracts::logic#None)) }
+    /// ensures only_absent { [IfErr](crate::contracts::logic#IfErr) result (λ fault. fault ≡ StorageError.Absent) }
+    /// ensures err { [OnErr](crate::contracts::logic#OnErr) result (self.new ≡ self.old) }
+    /// </code>
     ///
     /// </details>
     #[inline]
@@ -311,12 +301,10 @@ impl Storage {
     ///
     /// <details><summary>Contract</summary>
     ///
-    /// In the words of the folder `specs/` of crate `ent_storage`:
-    ///
-    /// ```text
-    /// ensures value { result ≡ map.len self.now.entities }
-    /// ensures places { result ≡ length self.now.places }
-    /// ```
+    /// <code style="display: block; tab-size: 4; white-space: pre-wrap">// In the words of [contracts](crate::contracts):
+    /// ensures value { result ≡ [map.len](crate::contracts::logic#FinMap.len) self.now.entities }
+    /// ensures places { result ≡ [length](crate::contracts::logic#length) self.now.places }
+    /// </code>
     ///
     /// </details>
     #[must_use]
@@ -339,11 +327,9 @@ impl Storage {
     ///
     /// <details><summary>Contract</summary>
     ///
-    /// In the words of the folder `specs/` of crate `ent_storage`:
-    ///
-    /// ```text
-    /// ensures { IsTrue result ↔ (self.now.entities ≡ map.empty) }
-    /// ```
+    /// <code style="display: block; tab-size: 4; white-space: pre-wrap">// In the words of [contracts](crate::contracts):
+    /// ensures { [IsTrue](crate::contracts::logic#IsTrue) result ↔ (self.now.entities ≡ [map.empty](crate::contracts::logic#FinMap.empty)) }
+    /// </code>
     ///
     /// </details>
     #[must_use]
@@ -373,11 +359,9 @@ impl Storage {
     ///
     /// <details><summary>Contract</summary>
     ///
-    /// In the words of the folder `specs/` of crate `ent_storage`:
-    ///
-    /// ```text
+    /// <code style="display: block; tab-size: 4; white-space: pre-wrap">// In the words of [contracts](crate::contracts):
     /// ensures { result ≡ self.now.spare }
-    /// ```
+    /// </code>
     ///
     /// </details>
     #[must_use]
@@ -406,20 +390,18 @@ impl Storage {
     ///
     /// <details><summary>Contract</summary>
     ///
-    /// In the words of the folder `specs/` of crate `ent_storage`:
-    ///
-    /// ```text
+    /// <code style="display: block; tab-size: 4; white-space: pre-wrap">// In the words of [contracts](crate::contracts):
     /// ensures entities { self.new.entities ≡ self.old.entities }
-    /// ensures ok { OnOk result (additional ≤ self.new.spare) }
+    /// ensures ok { [OnOk](crate::contracts::logic#OnOk) result (additional ≤ self.new.spare) }
     /// ensures grows { self.old.spare ≤ self.new.spare }
     /// ensures places { self.new.places ≡ self.old.places }
-    ///
+    /// &#32;
     /// // With room for that many, the call succeeds and changes nothing.
-    /// ensures succeeds { additional ≤ self.old.spare → IsOk result }
+    /// ensures succeeds { additional ≤ self.old.spare → [IsOk](crate::contracts::logic#IsOk) result }
     /// ensures in_place { additional ≤ self.old.spare → self.new ≡ self.old }
-    ///
-    /// ensures err { OnErr result (self.new.spare < additional) }
-    /// ```
+    /// &#32;
+    /// ensures err { [OnErr](crate::contracts::logic#OnErr) result (self.new.spare \< additional) }
+    /// </code>
     ///
     /// </details>
     #[inline]
@@ -463,14 +445,12 @@ impl Storage {
     ///
     /// <details><summary>Contract</summary>
     ///
-    /// In the words of the folder `specs/` of crate `ent_storage`:
-    ///
-    /// ```text
+    /// <code style="display: block; tab-size: 4; white-space: pre-wrap">// In the words of [contracts](crate::contracts):
     /// ensures kept { self.new ≡ record self.old { spare = self.new.spare } }
     /// ensures grows { self.old.spare ≤ self.new.spare }
-    /// ensures succeeds { slots ≤ length self.old.places + self.old.spare → IsOk result }
-    /// ensures err { OnErr result (self.new ≡ self.old) }
-    /// ```
+    /// ensures succeeds { slots ≤ [length](crate::contracts::logic#length) self.old.places + self.old.spare → [IsOk](crate::contracts::logic#IsOk) result }
+    /// ensures err { [OnErr](crate::contracts::logic#OnErr) result (self.new ≡ self.old) }
+    /// </code>
     ///
     /// </details>
     #[inline]
@@ -506,14 +486,12 @@ impl Storage {
     ///
     /// <details><summary>Contract</summary>
     ///
-    /// In the words of the folder `specs/` of crate `ent_storage`:
-    ///
-    /// ```text
-    /// ensures entities { IfOk result (λ copy. copy.entities ≡ self.now.entities) }
-    /// ensures places { IfOk result (λ copy. copy.places ≡ self.now.places) }
-    /// ensures spare { IfOk result (λ copy. self.now.spare ≤ copy.spare) }
-    /// ensures memory { OnErr result (0 < length self.now.places + self.now.spare) }
-    /// ```
+    /// <code style="display: block; tab-size: 4; white-space: pre-wrap">// In the words of [contracts](crate::contracts):
+    /// ensures entities { [IfOk](crate::contracts::logic#IfOk) result (λ copy. copy.entities ≡ self.now.entities) }
+    /// ensures places { [IfOk](crate::contracts::logic#IfOk) result (λ copy. copy.places ≡ self.now.places) }
+    /// ensures spare { [IfOk](crate::contracts::logic#IfOk) result (λ copy. self.now.spare ≤ copy.spare) }
+    /// ensures memory { [OnErr](crate::contracts::logic#OnErr) result (0 \< [length](crate::contracts::logic#length) self.now.places + self.now.spare) }
+    /// </code>
     ///
     /// </details>
     #[inline]
@@ -558,22 +536,20 @@ impl Storage {
     ///
     /// <details><summary>Contract</summary>
     ///
-    /// In the words of the folder `specs/` of crate `ent_storage`:
-    ///
-    /// ```text
-    /// ensures entities { OnOk result (self.new.entities ≡ source.now.entities) }
-    /// ensures places { OnOk result (self.new.places ≡ source.now.places) }
-    /// ensures spare { OnOk result (source.now.spare ≤ self.new.spare) }
-    /// ensures room { length self.old.places + self.old.spare
-    ///     ≤ length self.new.places + self.new.spare }
-    ///
+    /// <code style="display: block; tab-size: 4; white-space: pre-wrap">// In the words of [contracts](crate::contracts):
+    /// ensures entities { [OnOk](crate::contracts::logic#OnOk) result (self.new.entities ≡ source.now.entities) }
+    /// ensures places { [OnOk](crate::contracts::logic#OnOk) result (self.new.places ≡ source.now.places) }
+    /// ensures spare { [OnOk](crate::contracts::logic#OnOk) result (source.now.spare ≤ self.new.spare) }
+    /// ensures room { [length](crate::contracts::logic#length) self.old.places + self.old.spare
+    /// &#9;≤ [length](crate::contracts::logic#length) self.new.places + self.new.spare }
+    /// &#32;
     /// // With as much room as the source, it takes memory only for components.
-    /// ensures memory { OnErr result
-    ///     ((length self.old.places + self.old.spare
-    ///     < length source.now.places + source.now.spare)
-    ///     ⊎ ¬ (AreBare source.now.entities)) }
-    /// ensures err { OnErr result (self.new ≡ record self.old { spare = self.new.spare }) }
-    /// ```
+    /// ensures memory { [OnErr](crate::contracts::logic#OnErr) result
+    /// &#9;(([length](crate::contracts::logic#length) self.old.places + self.old.spare
+    /// &#9;\< [length](crate::contracts::logic#length) source.now.places + source.now.spare)
+    /// &#9;⊎ ¬ ([AreBare](crate::contracts::ent_storage::entity_map#AreBare) source.now.entities)) }
+    /// ensures err { [OnErr](crate::contracts::logic#OnErr) result (self.new ≡ record self.old { spare = self.new.spare }) }
+    /// </code>
     ///
     /// </details>
     #[inline]

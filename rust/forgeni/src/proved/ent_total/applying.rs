@@ -41,22 +41,20 @@ impl World {
     ///
     /// <details><summary>Contract</summary>
     ///
-    /// In the words of the folder `specs/` of crate `ent_total`:
-    ///
-    /// ```text
-    /// ensures applied { IfOk result (λ report.
-    ///     IsSynced queues.queues self.old.world self.new.world report) }
-    /// ensures stopped { IfErr result (λ error. IfStopped error (λ stopped.
-    ///     IsSyncedUntil stopped.stop queues.queues self.old.world self.new.world
-    ///     stopped.so_far)) }
-    /// ensures stays { IfErr result (λ error. queues_in error ≡ queues) }
-    /// ensures other_world { IsErrAnd result IsOtherWorld ↔ (queues.world ≢ self.old.number) }
-    /// ensures reserved { IsErrAnd result IsMemory
-    ///     → 0 < length self.old.world.allocator.taken }
-    /// ensures nothing { IfErr result (λ error. IsUnbegun error → self.new ≡ self.old) }
+    /// <code style="display: block; tab-size: 4; white-space: pre-wrap">// In the words of [contracts](crate::contracts):
+    /// ensures applied { [IfOk](crate::contracts::logic#IfOk) result (λ report.
+    /// &#9;[IsSynced](crate::contracts::ent_total::batch#IsSynced) queues.queues self.old.world self.new.world report) }
+    /// ensures stopped { [IfErr](crate::contracts::logic#IfErr) result (λ error. [IfStopped](crate::contracts::ent_total::applying#IfStopped) error (λ stopped.
+    /// &#9;[IsSyncedUntil](crate::contracts::ent_total::batch#IsSyncedUntil) stopped.stop queues.queues self.old.world self.new.world
+    /// &#9;stopped.so_far)) }
+    /// ensures stays { [IfErr](crate::contracts::logic#IfErr) result (λ error. [queues_in](crate::contracts::ent_total::applying#queues_in) error ≡ queues) }
+    /// ensures other_world { [IsErrAnd](crate::contracts::logic#IsErrAnd) result [IsOtherWorld](crate::contracts::ent_total::applying#IsOtherWorld) ↔ (queues.world ≢ self.old.number) }
+    /// ensures reserved { [IsErrAnd](crate::contracts::logic#IsErrAnd) result [IsMemory](crate::contracts::ent_total::applying#IsMemory)
+    /// &#9;→ 0 \< [length](crate::contracts::logic#length) self.old.world.allocator.taken }
+    /// ensures nothing { [IfErr](crate::contracts::logic#IfErr) result (λ error. [IsUnbegun](crate::contracts::ent_total::applying#IsUnbegun) error → self.new ≡ self.old) }
     /// ensures number { self.new.number ≡ self.old.number }
-    /// ensures counted { IsCounted result self.old.spawned self.new.spawned }
-    /// ```
+    /// ensures counted { [IsCounted](crate::contracts::ent_total::applying#IsCounted) result self.old.spawned self.new.spawned }
+    /// </code>
     ///
     /// </details>
     #[inline]
@@ -146,24 +144,22 @@ impl Stopped {
     ///
     /// <details><summary>Contract</summary>
     ///
-    /// In the words of the folder `specs/` of crate `ent_total`:
-    ///
-    /// ```text
-    /// ensures applied { IfOk result (λ report.
-    ///     IsFinished self.stop self.queues.queues world.old.world world.new.world report) }
-    /// ensures stopped { IfErr result (λ error. IfStoppedAgain error (λ later.
-    ///     IsLeftUntil self.stop later.stop self.queues.queues world.old.world world.new.world
-    ///     later.so_far)) }
-    /// ensures stays { IfErr result (λ error. (stopped_in error).queues ≡ self.queues) }
-    /// ensures other_world { IsErrAnd result IsOfOtherWorld
-    ///     ↔ (self.queues.world ≢ world.old.number) }
-    /// ensures needs_flush { IsErrAnd result IsUnflushed
-    ///     ↔ ((self.queues.world ≡ world.old.number) × (0 < world.old.world.allocator.asked)) }
-    /// ensures nothing { IfErr result (λ error. IsUnmoved error
-    ///     → (stopped_in error ≡ self) × (world.new ≡ world.old)) }
+    /// <code style="display: block; tab-size: 4; white-space: pre-wrap">// In the words of [contracts](crate::contracts):
+    /// ensures applied { [IfOk](crate::contracts::logic#IfOk) result (λ report.
+    /// &#9;[IsFinished](crate::contracts::ent_total::batch#IsFinished) self.stop self.queues.queues world.old.world world.new.world report) }
+    /// ensures stopped { [IfErr](crate::contracts::logic#IfErr) result (λ error. [IfStoppedAgain](crate::contracts::ent_total::applying#IfStoppedAgain) error (λ later.
+    /// &#9;[IsLeftUntil](crate::contracts::ent_total::batch#IsLeftUntil) self.stop later.stop self.queues.queues world.old.world world.new.world
+    /// &#9;later.so_far)) }
+    /// ensures stays { [IfErr](crate::contracts::logic#IfErr) result (λ error. ([stopped_in](crate::contracts::ent_total::applying#stopped_in) error).queues ≡ self.queues) }
+    /// ensures other_world { [IsErrAnd](crate::contracts::logic#IsErrAnd) result [IsOfOtherWorld](crate::contracts::ent_total::applying#IsOfOtherWorld)
+    /// &#9;↔ (self.queues.world ≢ world.old.number) }
+    /// ensures needs_flush { [IsErrAnd](crate::contracts::logic#IsErrAnd) result [IsUnflushed](crate::contracts::ent_total::applying#IsUnflushed)
+    /// &#9;↔ ((self.queues.world ≡ world.old.number) × (0 \< world.old.world.allocator.asked)) }
+    /// ensures nothing { [IfErr](crate::contracts::logic#IfErr) result (λ error. [IsUnmoved](crate::contracts::ent_total::applying#IsUnmoved) error
+    /// &#9;→ ([stopped_in](crate::contracts::ent_total::applying#stopped_in) error ≡ self) × (world.new ≡ world.old)) }
     /// ensures number { world.new.number ≡ world.old.number }
     /// ensures spawned { world.new.spawned ≡ world.old.spawned }
-    /// ```
+    /// </code>
     ///
     /// </details>
     #[inline]

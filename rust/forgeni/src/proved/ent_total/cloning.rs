@@ -13,13 +13,11 @@ use crate::handles::OutOfMemory;
 ///
 /// <details><summary>Contract</summary>
 ///
-/// In the words of the folder `specs/` of crate `ent_total`:
-///
-/// ```text
-/// ensures ok { IfOk result (λ clone. clone ≡ record world.now { number = number }) }
-/// ensures memory { OnErr result ((0 < world.now.world.allocator.made)
-///     ⊎ (world.now.world.entities ≢ map.empty)) }
-/// ```
+/// <code style="display: block; tab-size: 4; white-space: pre-wrap">// In the words of [contracts](crate::contracts):
+/// ensures ok { [IfOk](crate::contracts::logic#IfOk) result (λ clone. clone ≡ record world.now { number = number }) }
+/// ensures memory { [OnErr](crate::contracts::logic#OnErr) result ((0 \< world.now.world.allocator.made)
+/// &#9;⊎ (world.now.world.entities ≢ [map.empty](crate::contracts::logic#FinMap.empty))) }
+/// </code>
 ///
 /// </details>
 #[inline]
@@ -39,14 +37,12 @@ pub fn clone_world(world: &World, number: u64) -> Result<World, OutOfMemory> {
 ///
 /// <details><summary>Contract</summary>
 ///
-/// In the words of the folder `specs/` of crate `ent_total`:
-///
-/// ```text
-/// ensures ok { OnOk result (world.new ≡ record source.now { number = number }) }
-/// ensures err { OnErr result (world.new ≡ world.old) }
-/// ensures memory { OnErr result ((0 < source.now.world.allocator.made)
-///     ⊎ (source.now.world.entities ≢ map.empty)) }
-/// ```
+/// <code style="display: block; tab-size: 4; white-space: pre-wrap">// In the words of [contracts](crate::contracts):
+/// ensures ok { [OnOk](crate::contracts::logic#OnOk) result (world.new ≡ record source.now { number = number }) }
+/// ensures err { [OnErr](crate::contracts::logic#OnErr) result (world.new ≡ world.old) }
+/// ensures memory { [OnErr](crate::contracts::logic#OnErr) result ((0 \< source.now.world.allocator.made)
+/// &#9;⊎ (source.now.world.entities ≢ [map.empty](crate::contracts::logic#FinMap.empty))) }
+/// </code>
 ///
 /// </details>
 #[inline]

@@ -42,31 +42,29 @@ impl Shared {
     ///
     /// <details><summary>Contract</summary>
     ///
-    /// In the words of the folder `specs/` of crate `ent_total`:
-    ///
-    /// ```text
-    /// ensures ended { IfOk result (λ entities. EndsWithAll
-    ///     self.shared (all_returned self reservers.items) entities.allocator) }
-    /// ensures rows { IfOk result (λ entities.
-    ///     (entities.rows ≡ self.shared.rows) × HasRowsOfLiving entities) }
-    ///
+    /// <code style="display: block; tab-size: 4; white-space: pre-wrap">// In the words of [contracts](crate::contracts):
+    /// ensures ended { [IfOk](crate::contracts::logic#IfOk) result (λ entities. [EndsWithAll](crate::contracts::ent_shared::ending#EndsWithAll)
+    /// &#9;self.shared ([all_returned](crate::contracts::ent_total::sharing#all_returned) self reservers.items) entities.allocator) }
+    /// ensures rows { [IfOk](crate::contracts::logic#IfOk) result (λ entities.
+    /// &#9;(entities.rows ≡ self.shared.rows) × [HasRowsOfLiving](crate::contracts::ent_alloc::entities#HasRowsOfLiving) entities) }
+    /// &#32;
     /// // When it succeeds, when it is refused, and what holds then.
-    /// ensures all { OnOk result (MayReturn self reservers.items
-    ///     × (length (all_returned self reservers.items) ≡ self.shared.count)) }
-    /// ensures other_phase { IsErrAnd result (λ h. h.error ≡ OtherPhase)
-    ///     ↔ ¬ (MayReturn self reservers.items) }
-    /// ensures missing { IsErrAnd result (λ h. IsMissing h.error)
-    ///     ↔ (MayReturn self reservers.items
-    ///     × (length (all_returned self reservers.items) < self.shared.count)) }
-    /// ensures how_many { IfErr result (λ h. IsMissing h.error
-    ///     → length (all_returned self reservers.items) + count_missing h.error
-    ///     ≡ self.shared.count) }
-    /// ensures handed_back { IfErr result (λ h. h.error ≢ InUse
-    ///     → (h.value.0 ≡ self) × (h.value.1.items ≡ reservers.items)) }
-    /// ensures returned { IfErr result (λ h. h.error ≡ InUse
-    ///     → (h.value.0 ≡ record self { returned = all_returned self reservers.items })
-    ///     × (h.value.1.items ≡ [])) }
-    /// ```
+    /// ensures all { [OnOk](crate::contracts::logic#OnOk) result ([MayReturn](crate::contracts::ent_total::sharing#MayReturn) self reservers.items
+    /// &#9;× ([length](crate::contracts::logic#length) ([all_returned](crate::contracts::ent_total::sharing#all_returned) self reservers.items) ≡ self.shared.count)) }
+    /// ensures other_phase { [IsErrAnd](crate::contracts::logic#IsErrAnd) result (λ h. h.error ≡ OtherPhase)
+    /// &#9;↔ ¬ ([MayReturn](crate::contracts::ent_total::sharing#MayReturn) self reservers.items) }
+    /// ensures missing { [IsErrAnd](crate::contracts::logic#IsErrAnd) result (λ h. [IsMissing](crate::contracts::ent_total::closing#IsMissing) h.error)
+    /// &#9;↔ ([MayReturn](crate::contracts::ent_total::sharing#MayReturn) self reservers.items
+    /// &#9;× ([length](crate::contracts::logic#length) ([all_returned](crate::contracts::ent_total::sharing#all_returned) self reservers.items) \< self.shared.count)) }
+    /// ensures how_many { [IfErr](crate::contracts::logic#IfErr) result (λ h. [IsMissing](crate::contracts::ent_total::closing#IsMissing) h.error
+    /// &#9;→ [length](crate::contracts::logic#length) ([all_returned](crate::contracts::ent_total::sharing#all_returned) self reservers.items) + [count_missing](crate::contracts::ent_total::closing#count_missing) h.error
+    /// &#9;≡ self.shared.count) }
+    /// ensures handed_back { [IfErr](crate::contracts::logic#IfErr) result (λ h. h.error ≢ InUse
+    /// &#9;→ (h.value.0 ≡ self) × (h.value.1.items ≡ reservers.items)) }
+    /// ensures returned { [IfErr](crate::contracts::logic#IfErr) result (λ h. h.error ≡ InUse
+    /// &#9;→ (h.value.0 ≡ record self { returned = [all_returned](crate::contracts::ent_total::sharing#all_returned) self reservers.items })
+    /// &#9;× (h.value.1.items ≡ \[\])) }
+    /// </code>
     ///
     /// </details>
     #[inline]
@@ -117,25 +115,23 @@ impl Shared {
     ///
     /// <details><summary>Contract</summary>
     ///
-    /// In the words of the folder `specs/` of crate `ent_total`:
-    ///
-    /// ```text
-    /// ensures ended { IfOk result (λ entities. EndsWithSome
-    ///     self.shared (all_returned self reservers.items) entities.allocator) }
-    /// ensures rows { IfOk result (λ entities.
-    ///     (entities.rows ≡ self.shared.rows) × HasRowsOfLiving entities) }
-    ///
+    /// <code style="display: block; tab-size: 4; white-space: pre-wrap">// In the words of [contracts](crate::contracts):
+    /// ensures ended { [IfOk](crate::contracts::logic#IfOk) result (λ entities. [EndsWithSome](crate::contracts::ent_shared::ending#EndsWithSome)
+    /// &#9;self.shared ([all_returned](crate::contracts::ent_total::sharing#all_returned) self reservers.items) entities.allocator) }
+    /// ensures rows { [IfOk](crate::contracts::logic#IfOk) result (λ entities.
+    /// &#9;(entities.rows ≡ self.shared.rows) × [HasRowsOfLiving](crate::contracts::ent_alloc::entities#HasRowsOfLiving) entities) }
+    /// &#32;
     /// // When it succeeds, when it is refused, and what holds then.
-    /// ensures may_return { OnOk result (MayReturn self reservers.items) }
-    /// ensures other_phase { IsErrAnd result (λ h. h.error ≡ OtherPhase)
-    ///     ↔ ¬ (MayReturn self reservers.items) }
-    /// ensures no_missing { IfErr result (λ h. ¬ (IsMissing h.error)) }
-    /// ensures handed_back { IfErr result (λ h. h.error ≢ InUse
-    ///     → (h.value.0 ≡ self) × (h.value.1.items ≡ reservers.items)) }
-    /// ensures returned { IfErr result (λ h. h.error ≡ InUse
-    ///     → (h.value.0 ≡ record self { returned = all_returned self reservers.items })
-    ///     × (h.value.1.items ≡ [])) }
-    /// ```
+    /// ensures may_return { [OnOk](crate::contracts::logic#OnOk) result ([MayReturn](crate::contracts::ent_total::sharing#MayReturn) self reservers.items) }
+    /// ensures other_phase { [IsErrAnd](crate::contracts::logic#IsErrAnd) result (λ h. h.error ≡ OtherPhase)
+    /// &#9;↔ ¬ ([MayReturn](crate::contracts::ent_total::sharing#MayReturn) self reservers.items) }
+    /// ensures no_missing { [IfErr](crate::contracts::logic#IfErr) result (λ h. ¬ ([IsMissing](crate::contracts::ent_total::closing#IsMissing) h.error)) }
+    /// ensures handed_back { [IfErr](crate::contracts::logic#IfErr) result (λ h. h.error ≢ InUse
+    /// &#9;→ (h.value.0 ≡ self) × (h.value.1.items ≡ reservers.items)) }
+    /// ensures returned { [IfErr](crate::contracts::logic#IfErr) result (λ h. h.error ≡ InUse
+    /// &#9;→ (h.value.0 ≡ record self { returned = [all_returned](crate::contracts::ent_total::sharing#all_returned) self reservers.items })
+    /// &#9;× (h.value.1.items ≡ \[\])) }
+    /// </code>
     ///
     /// </details>
     #[inline]

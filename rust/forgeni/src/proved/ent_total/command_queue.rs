@@ -51,11 +51,9 @@ impl CommandQueue {
     ///
     /// <details><summary>Contract</summary>
     ///
-    /// In the words of the folder `specs/` of crate `ent_total`:
-    ///
-    /// ```text
+    /// <code style="display: block; tab-size: 4; white-space: pre-wrap">// In the words of [contracts](crate::contracts):
     /// ensures { result ≡ self.now.reserver.own.number }
-    /// ```
+    /// </code>
     ///
     /// </details>
     #[must_use]
@@ -78,12 +76,10 @@ impl CommandQueue {
     ///
     /// <details><summary>Contract</summary>
     ///
-    /// In the words of the folder `specs/` of crate `ent_total`:
-    ///
-    /// ```text
-    /// ensures number { IsTrue result ↔ (self.now.number ≡ phase.now.number) }
-    /// ensures world { IsTrue result → self.now.world ≡ phase.now.world }
-    /// ```
+    /// <code style="display: block; tab-size: 4; white-space: pre-wrap">// In the words of [contracts](crate::contracts):
+    /// ensures number { [IsTrue](crate::contracts::logic#IsTrue) result ↔ (self.now.number ≡ phase.now.number) }
+    /// ensures world { [IsTrue](crate::contracts::logic#IsTrue) result → self.now.world ≡ phase.now.world }
+    /// </code>
     ///
     /// </details>
     #[must_use]

@@ -69,27 +69,25 @@ impl Commands {
     ///
     /// <details><summary>Contract</summary>
     ///
-    /// In the words of the folder `specs/` of crate `ent_total`:
-    ///
-    /// ```text
+    /// <code style="display: block; tab-size: 4; white-space: pre-wrap">// In the words of [contracts](crate::contracts):
     /// ensures extends { Extends self.old self.new }
-    /// ensures ok { IfOk result (λ handle. self.new.queue
-    ///     ≡ self.old.queue ++ Spawn handle (bundle_of components.now) ∷ []) }
-    /// ensures refused { IfErr result (λ fault.
-    ///     self.new.queue ≡ self.old.queue ++ refused_by 1 fault) }
-    /// ensures memory { IsErrOf result ReserveError.Memory → self.new ≡ self.old }
-    /// ensures given { IfOk result (λ handle.
-    ///     IsReturned self.old.world.shared self.old.reserver self.new.reserver 1
-    ///     (Ok (handle ∷ []))) }
-    /// ensures refusal { IfErr result
-    ///     (IsRefused self.old.world.shared self.old.reserver self.new.reserver 1) }
-    ///
+    /// ensures ok { [IfOk](crate::contracts::logic#IfOk) result (λ handle. self.new.queue
+    /// &#9;≡ self.old.queue ++ [Spawn](crate::contracts::ent_queue::command#Spawn) handle ([bundle_of](crate::contracts::ent_storage::bundle#bundle_of) components.now) ∷ \[\]) }
+    /// ensures refused { [IfErr](crate::contracts::logic#IfErr) result (λ fault.
+    /// &#9;self.new.queue ≡ self.old.queue ++ [refused_by](crate::contracts::ent_queue::reserving#refused_by) 1 fault) }
+    /// ensures memory { [IsErrOf](crate::contracts::logic#IsErrOf) result ReserveError.Memory → self.new ≡ self.old }
+    /// ensures given { [IfOk](crate::contracts::logic#IfOk) result (λ handle.
+    /// &#9;[IsReturned](crate::contracts::ent_shared::replies#IsReturned) self.old.world.shared self.old.reserver self.new.reserver 1
+    /// &#9;([Ok](crate::contracts::logic#Ok) (handle ∷ \[\]))) }
+    /// ensures refusal { [IfErr](crate::contracts::logic#IfErr) result
+    /// &#9;(IsRefused self.old.world.shared self.old.reserver self.new.reserver 1) }
+    /// &#32;
     /// // What was given is recorded.
-    /// ensures recorded { IfOk result (λ handle. handles_given self.new.reserver.own
-    ///     ≡ handles_given self.old.reserver.own ++ handle ∷ []) }
-    /// ensures unrecorded { OnErr result
-    ///     (handles_given self.new.reserver.own ≡ handles_given self.old.reserver.own) }
-    /// ```
+    /// ensures recorded { [IfOk](crate::contracts::logic#IfOk) result (λ handle. [handles_given](crate::contracts::ent_shared::order#handles_given) self.new.reserver.own
+    /// &#9;≡ [handles_given](crate::contracts::ent_shared::order#handles_given) self.old.reserver.own ++ handle ∷ \[\]) }
+    /// ensures unrecorded { [OnErr](crate::contracts::logic#OnErr) result
+    /// &#9;([handles_given](crate::contracts::ent_shared::order#handles_given) self.new.reserver.own ≡ [handles_given](crate::contracts::ent_shared::order#handles_given) self.old.reserver.own) }
+    /// </code>
     ///
     /// </details>
     #[inline]
@@ -128,28 +126,26 @@ impl Commands {
     ///
     /// <details><summary>Contract</summary>
     ///
-    /// In the words of the folder `specs/` of crate `ent_total`:
-    ///
-    /// ```text
+    /// <code style="display: block; tab-size: 4; white-space: pre-wrap">// In the words of [contracts](crate::contracts):
     /// ensures extends { Extends self.old self.new }
-    /// ensures ok { IfOk result (λ handles. self.new.queue
-    ///     ≡ self.old.queue ++ SpawnMany handles.items (bundle_of components.now) ∷ []) }
-    /// ensures length { IfOk result (λ handles. length handles.items ≡ n) }
-    /// ensures refused { IfErr result (λ fault.
-    ///     self.new.queue ≡ self.old.queue ++ refused_by n fault) }
-    /// ensures memory { IsErrOf result ReserveError.Memory → self.new ≡ self.old }
-    /// ensures given { IfOk result (λ handles.
-    ///     IsReturned self.old.world.shared self.old.reserver self.new.reserver n
-    ///     (Ok handles.items)) }
-    /// ensures refusal { IfErr result
-    ///     (IsRefused self.old.world.shared self.old.reserver self.new.reserver n) }
-    ///
+    /// ensures ok { [IfOk](crate::contracts::logic#IfOk) result (λ handles. self.new.queue
+    /// &#9;≡ self.old.queue ++ [SpawnMany](crate::contracts::ent_queue::command#SpawnMany) handles.items ([bundle_of](crate::contracts::ent_storage::bundle#bundle_of) components.now) ∷ \[\]) }
+    /// ensures length { [IfOk](crate::contracts::logic#IfOk) result (λ handles. [length](crate::contracts::logic#length) handles.items ≡ n) }
+    /// ensures refused { [IfErr](crate::contracts::logic#IfErr) result (λ fault.
+    /// &#9;self.new.queue ≡ self.old.queue ++ [refused_by](crate::contracts::ent_queue::reserving#refused_by) n fault) }
+    /// ensures memory { [IsErrOf](crate::contracts::logic#IsErrOf) result ReserveError.Memory → self.new ≡ self.old }
+    /// ensures given { [IfOk](crate::contracts::logic#IfOk) result (λ handles.
+    /// &#9;[IsReturned](crate::contracts::ent_shared::replies#IsReturned) self.old.world.shared self.old.reserver self.new.reserver n
+    /// &#9;([Ok](crate::contracts::logic#Ok) handles.items)) }
+    /// ensures refusal { [IfErr](crate::contracts::logic#IfErr) result
+    /// &#9;(IsRefused self.old.world.shared self.old.reserver self.new.reserver n) }
+    /// &#32;
     /// // What was given is recorded.
-    /// ensures recorded { IfOk result (λ handles. handles_given self.new.reserver.own
-    ///     ≡ handles_given self.old.reserver.own ++ handles.items) }
-    /// ensures unrecorded { OnErr result
-    ///     (handles_given self.new.reserver.own ≡ handles_given self.old.reserver.own) }
-    /// ```
+    /// ensures recorded { [IfOk](crate::contracts::logic#IfOk) result (λ handles. [handles_given](crate::contracts::ent_shared::order#handles_given) self.new.reserver.own
+    /// &#9;≡ [handles_given](crate::contracts::ent_shared::order#handles_given) self.old.reserver.own ++ handles.items) }
+    /// ensures unrecorded { [OnErr](crate::contracts::logic#OnErr) result
+    /// &#9;([handles_given](crate::contracts::ent_shared::order#handles_given) self.new.reserver.own ≡ [handles_given](crate::contracts::ent_shared::order#handles_given) self.old.reserver.own) }
+    /// </code>
     ///
     /// </details>
     #[inline]
@@ -194,14 +190,12 @@ impl Commands {
     ///
     /// <details><summary>Contract</summary>
     ///
-    /// In the words of the folder `specs/` of crate `ent_total`:
-    ///
-    /// ```text
-    /// ensures ok { OnOk result (self.new ≡ record self.old {
-    ///   queue = self.old.queue ++ Insert handle (bundle_of components.now) ∷ [];
+    /// <code style="display: block; tab-size: 4; white-space: pre-wrap">// In the words of [contracts](crate::contracts):
+    /// ensures ok { [OnOk](crate::contracts::logic#OnOk) result (self.new ≡ record self.old {
+    /// &#32;&#32;queue = self.old.queue ++ [Insert](crate::contracts::ent_queue::command#Insert) handle ([bundle_of](crate::contracts::ent_storage::bundle#bundle_of) components.now) ∷ \[\];
     /// }) }
-    /// ensures memory { OnErr result (self.new ≡ self.old) }
-    /// ```
+    /// ensures memory { [OnErr](crate::contracts::logic#OnErr) result (self.new ≡ self.old) }
+    /// </code>
     ///
     /// </details>
     #[inline]
@@ -240,14 +234,12 @@ impl Commands {
     ///
     /// <details><summary>Contract</summary>
     ///
-    /// In the words of the folder `specs/` of crate `ent_total`:
-    ///
-    /// ```text
-    /// ensures ok { OnOk result (self.new ≡ record self.old {
-    ///   queue = self.old.queue ++ Remove handle id ∷ [];
+    /// <code style="display: block; tab-size: 4; white-space: pre-wrap">// In the words of [contracts](crate::contracts):
+    /// ensures ok { [OnOk](crate::contracts::logic#OnOk) result (self.new ≡ record self.old {
+    /// &#32;&#32;queue = self.old.queue ++ [Remove](crate::contracts::ent_queue::command#Remove) handle id ∷ \[\];
     /// }) }
-    /// ensures memory { OnErr result (self.new ≡ self.old) }
-    /// ```
+    /// ensures memory { [OnErr](crate::contracts::logic#OnErr) result (self.new ≡ self.old) }
+    /// </code>
     ///
     /// </details>
     #[inline]
@@ -286,14 +278,12 @@ impl Commands {
     ///
     /// <details><summary>Contract</summary>
     ///
-    /// In the words of the folder `specs/` of crate `ent_total`:
-    ///
-    /// ```text
-    /// ensures ok { OnOk result (self.new ≡ record self.old {
-    ///   queue = self.old.queue ++ Despawn handle ∷ [];
+    /// <code style="display: block; tab-size: 4; white-space: pre-wrap">// In the words of [contracts](crate::contracts):
+    /// ensures ok { [OnOk](crate::contracts::logic#OnOk) result (self.new ≡ record self.old {
+    /// &#32;&#32;queue = self.old.queue ++ [Despawn](crate::contracts::ent_queue::command#Despawn) handle ∷ \[\];
     /// }) }
-    /// ensures memory { OnErr result (self.new ≡ self.old) }
-    /// ```
+    /// ensures memory { [OnErr](crate::contracts::logic#OnErr) result (self.new ≡ self.old) }
+    /// </code>
     ///
     /// </details>
     #[inline]
@@ -328,11 +318,9 @@ impl Commands {
     ///
     /// <details><summary>Contract</summary>
     ///
-    /// In the words of the folder `specs/` of crate `ent_total`:
-    ///
-    /// ```text
-    /// ensures { result ≡ value_of self.now.world.entities handle id }
-    /// ```
+    /// <code style="display: block; tab-size: 4; white-space: pre-wrap">// In the words of [contracts](crate::contracts):
+    /// ensures { result ≡ [value_of](crate::contracts::ent_storage::entity_map#value_of) self.now.world.entities handle id }
+    /// </code>
     ///
     /// </details>
     #[must_use]
@@ -357,11 +345,9 @@ impl Commands {
     ///
     /// <details><summary>Contract</summary>
     ///
-    /// In the words of the folder `specs/` of crate `ent_total`:
-    ///
-    /// ```text
-    /// ensures { result ≡ map.contains_key self.now.world.entities handle }
-    /// ```
+    /// <code style="display: block; tab-size: 4; white-space: pre-wrap">// In the words of [contracts](crate::contracts):
+    /// ensures { result ≡ [map.contains_key](crate::contracts::logic#FinMap.contains_key) self.now.world.entities handle }
+    /// </code>
     ///
     /// </details>
     #[must_use]
@@ -387,11 +373,9 @@ impl Commands {
     ///
     /// <details><summary>Contract</summary>
     ///
-    /// In the words of the folder `specs/` of crate `ent_total`:
-    ///
-    /// ```text
-    /// ensures { result ≡ birth_of self.now.world.entities handle }
-    /// ```
+    /// <code style="display: block; tab-size: 4; white-space: pre-wrap">// In the words of [contracts](crate::contracts):
+    /// ensures { result ≡ [birth_of](crate::contracts::ent_storage::entity_map#birth_of) self.now.world.entities handle }
+    /// </code>
     ///
     /// </details>
     #[must_use]
@@ -421,12 +405,10 @@ impl Commands {
     ///
     /// <details><summary>Contract</summary>
     ///
-    /// In the words of the folder `specs/` of crate `ent_total`:
-    ///
-    /// ```text
-    /// ensures ok { IfOk result (λ handles. ListsAll self.now.world.entities handles.items) }
-    /// ensures memory { OnErr result (self.now.world.entities ≢ map.empty) }
-    /// ```
+    /// <code style="display: block; tab-size: 4; white-space: pre-wrap">// In the words of [contracts](crate::contracts):
+    /// ensures ok { [IfOk](crate::contracts::logic#IfOk) result (λ handles. [ListsAll](crate::contracts::ent_storage::birth_order#ListsAll) self.now.world.entities handles.items) }
+    /// ensures memory { [OnErr](crate::contracts::logic#OnErr) result (self.now.world.entities ≢ [map.empty](crate::contracts::logic#FinMap.empty)) }
+    /// </code>
     ///
     /// </details>
     #[inline]
@@ -452,12 +434,10 @@ impl Commands {
     ///
     /// <details><summary>Contract</summary>
     ///
-    /// In the words of the folder `specs/` of crate `ent_total`:
-    ///
-    /// ```text
+    /// <code style="display: block; tab-size: 4; white-space: pre-wrap">// In the words of [contracts](crate::contracts):
     /// ensures phase { result.phase ≡ self.now.world.phase }
     /// ensures entities { result.entities ≡ self.now.world.entities }
-    /// ```
+    /// </code>
     ///
     /// </details>
     #[must_use]
@@ -486,11 +466,9 @@ impl Commands {
     ///
     /// <details><summary>Contract</summary>
     ///
-    /// In the words of the folder `specs/` of crate `ent_total`:
-    ///
-    /// ```text
+    /// <code style="display: block; tab-size: 4; white-space: pre-wrap">// In the words of [contracts](crate::contracts):
     /// ensures { result ≡ self.now.reserver.own.number }
-    /// ```
+    /// </code>
     ///
     /// </details>
     #[must_use]
@@ -512,12 +490,10 @@ impl Commands {
     ///
     /// <details><summary>Contract</summary>
     ///
-    /// In the words of the folder `specs/` of crate `ent_total`:
-    ///
-    /// ```text
-    /// ensures number { IsTrue result ↔ (self.now.number ≡ phase.now.number) }
-    /// ensures world { IsTrue result → self.now.world ≡ phase.now.world }
-    /// ```
+    /// <code style="display: block; tab-size: 4; white-space: pre-wrap">// In the words of [contracts](crate::contracts):
+    /// ensures number { [IsTrue](crate::contracts::logic#IsTrue) result ↔ (self.now.number ≡ phase.now.number) }
+    /// ensures world { [IsTrue](crate::contracts::logic#IsTrue) result → self.now.world ≡ phase.now.world }
+    /// </code>
     ///
     /// </details>
     #[must_use]
@@ -526,8 +502,20 @@ impl Commands {
         self.number == phase.number()
     }
 
-    /// Ends the issuing, and returns the queue, which [`OpenWorld::close`] takes. The system can
-    /// issue no more:
+    /// Ends the issuing, and returns the queue, which [`OpenWorld::close`] takes.
+    ///
+    /// ```
+    /// use forgeni::World;
+    ///
+    /// let (open, systems) = World::new().open(3)?;
+    /// // A queue is a value, so it may be kept, or go to another thread.
+    /// let queues: Vec<_> = systems.into_iter().map(|commands| commands.finish()).collect();
+    /// let (mut world, queues) = open.close(queues)?;
+    /// assert!(world.apply(queues)?.born.is_empty());
+    /// # Ok::<(), Box<dyn std::error::Error>>(())
+    /// ```
+    ///
+    /// The system can issue no more:
     ///
     /// ```compile_fail
     /// let (open, mut systems) = forgeni::World::new().open(1).unwrap();
@@ -538,11 +526,9 @@ impl Commands {
     ///
     /// <details><summary>Contract</summary>
     ///
-    /// In the words of the folder `specs/` of crate `ent_total`:
-    ///
-    /// ```text
+    /// <code style="display: block; tab-size: 4; white-space: pre-wrap">// In the words of [contracts](crate::contracts):
     /// ensures { result ≡ self }
-    /// ```
+    /// </code>
     ///
     /// </details>
     #[inline]

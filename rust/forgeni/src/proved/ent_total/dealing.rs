@@ -24,20 +24,18 @@ pub struct WorldDeal {
 ///
 /// <details><summary>Contract</summary>
 ///
-/// In the words of the folder `specs/` of crate `ent_total`:
-///
-/// ```text
-/// ensures of_world { IfOk result (λ d. d.of_world ≡ world.number) }
-/// ensures spawned { IfOk result (λ d. d.spawned ≡ world.spawned) }
-/// ensures start { IfOk result (λ d.
-///     world_dealt d.deal.blocks d.deal.phase d.deal.entities ≡ world.world) }
-/// ensures blocks { IfOk result (λ d. d.deal.blocks.blocks
-///     ≡ blocks_from 0 (length world.world.allocator.pool) sizes.now) }
-/// ensures needs_flush { IsErrAnd result (λ h. h.error ≡ failed.NeedsFlush)
-///     ↔ (0 < world.world.allocator.asked) }
-/// ensures memory { IsErrAnd result (λ h. h.error ≡ failed.Memory) → 0 < length sizes.now }
-/// ensures handed_back { IfErr result (λ h. h.value ≡ world) }
-/// ```
+/// <code style="display: block; tab-size: 4; white-space: pre-wrap">// In the words of [contracts](crate::contracts):
+/// ensures of_world { [IfOk](crate::contracts::logic#IfOk) result (λ d. d.of_world ≡ world.number) }
+/// ensures spawned { [IfOk](crate::contracts::logic#IfOk) result (λ d. d.spawned ≡ world.spawned) }
+/// ensures start { [IfOk](crate::contracts::logic#IfOk) result (λ d.
+/// &#9;[world_dealt](crate::contracts::ent_world::in_blocks#world_dealt) d.deal.blocks d.deal.phase d.deal.entities ≡ world.world) }
+/// ensures blocks { [IfOk](crate::contracts::logic#IfOk) result (λ d. d.deal.blocks.blocks
+/// &#9;≡ [blocks_from](crate::contracts::ent_blocks::blocks#blocks_from) 0 ([length](crate::contracts::logic#length) world.world.allocator.pool) sizes.now) }
+/// ensures needs_flush { [IsErrAnd](crate::contracts::logic#IsErrAnd) result (λ h. h.error ≡ failed.NeedsFlush)
+/// &#9;↔ (0 \< world.world.allocator.asked) }
+/// ensures memory { [IsErrAnd](crate::contracts::logic#IsErrAnd) result (λ h. h.error ≡ failed.Memory) → 0 \< [length](crate::contracts::logic#length) sizes.now }
+/// ensures handed_back { [IfErr](crate::contracts::logic#IfErr) result (λ h. h.value ≡ world) }
+/// </code>
 ///
 /// </details>
 #[inline]

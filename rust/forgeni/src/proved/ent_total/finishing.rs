@@ -45,33 +45,31 @@ impl OpenWorld {
     ///
     /// <details><summary>Contract</summary>
     ///
-    /// In the words of the folder `specs/` of crate `ent_total`:
-    ///
-    /// ```text
-    /// ensures world { IfOk result (λ made.
-    ///     IsClosed self.world (reservers_returned self queues.items) made.0.world) }
-    /// ensures number { IfOk result (λ made. made.0.number ≡ self.of_world) }
-    /// ensures spawned { IfOk result (λ made. made.0.spawned ≡ self.spawned) }
-    /// ensures queues { IfOk result (λ made.
-    ///     made.1 ≡ record { world = self.of_world; queues = queues_returned self queues.items }) }
-    ///
+    /// <code style="display: block; tab-size: 4; white-space: pre-wrap">// In the words of [contracts](crate::contracts):
+    /// ensures world { [IfOk](crate::contracts::logic#IfOk) result (λ made.
+    /// &#9;[IsClosed](crate::contracts::ent_total::issuing#IsClosed) self.world ([reservers_returned](crate::contracts::ent_total::issuing#reservers_returned) self queues.items) made.0.world) }
+    /// ensures number { [IfOk](crate::contracts::logic#IfOk) result (λ made. made.0.number ≡ self.of_world) }
+    /// ensures spawned { [IfOk](crate::contracts::logic#IfOk) result (λ made. made.0.spawned ≡ self.spawned) }
+    /// ensures queues { [IfOk](crate::contracts::logic#IfOk) result (λ made.
+    /// &#9;made.1 ≡ record { world = self.of_world; queues = [queues_returned](crate::contracts::ent_total::issuing#queues_returned) self queues.items }) }
+    /// &#32;
     /// // When it succeeds, when it is refused, and what holds then.
-    /// ensures may_return { OnOk result (MayReturn self queues.items) }
-    /// ensures all { OnOk result
-    ///     (length (reservers_returned self queues.items) ≡ self.world.shared.count) }
-    /// ensures other_phase { IsErrAnd result (λ h. h.error ≡ OtherPhase)
-    ///     ↔ ¬ (MayReturn self queues.items) }
-    /// ensures missing { IsErrAnd result (λ h. IsMissing h.error)
-    ///     ↔ (MayReturn self queues.items
-    ///     × (length (reservers_returned self queues.items) < self.world.shared.count)) }
-    /// ensures how_many { IfErr result (λ h. IsMissing h.error
-    ///     → length (reservers_returned self queues.items) + count_missing h.error
-    ///     ≡ self.world.shared.count) }
-    /// ensures handed_back { IfErr result (λ h. h.error ≢ InUse
-    ///     → (h.value.0 ≡ self) × (h.value.1.items ≡ queues.items)) }
-    /// ensures returned { IfErr result (λ h. h.error ≡ InUse
-    ///     → (h.value.0 ≡ with_returned self queues.items) × (h.value.1.items ≡ [])) }
-    /// ```
+    /// ensures may_return { [OnOk](crate::contracts::logic#OnOk) result ([MayReturn](crate::contracts::ent_total::issuing#MayReturn) self queues.items) }
+    /// ensures all { [OnOk](crate::contracts::logic#OnOk) result
+    /// &#9;([length](crate::contracts::logic#length) ([reservers_returned](crate::contracts::ent_total::issuing#reservers_returned) self queues.items) ≡ self.world.shared.count) }
+    /// ensures other_phase { [IsErrAnd](crate::contracts::logic#IsErrAnd) result (λ h. h.error ≡ OtherPhase)
+    /// &#9;↔ ¬ ([MayReturn](crate::contracts::ent_total::issuing#MayReturn) self queues.items) }
+    /// ensures missing { [IsErrAnd](crate::contracts::logic#IsErrAnd) result (λ h. [IsMissing](crate::contracts::ent_total::closing#IsMissing) h.error)
+    /// &#9;↔ ([MayReturn](crate::contracts::ent_total::issuing#MayReturn) self queues.items
+    /// &#9;× ([length](crate::contracts::logic#length) ([reservers_returned](crate::contracts::ent_total::issuing#reservers_returned) self queues.items) \< self.world.shared.count)) }
+    /// ensures how_many { [IfErr](crate::contracts::logic#IfErr) result (λ h. [IsMissing](crate::contracts::ent_total::closing#IsMissing) h.error
+    /// &#9;→ [length](crate::contracts::logic#length) ([reservers_returned](crate::contracts::ent_total::issuing#reservers_returned) self queues.items) + [count_missing](crate::contracts::ent_total::closing#count_missing) h.error
+    /// &#9;≡ self.world.shared.count) }
+    /// ensures handed_back { [IfErr](crate::contracts::logic#IfErr) result (λ h. h.error ≢ InUse
+    /// &#9;→ (h.value.0 ≡ self) × (h.value.1.items ≡ queues.items)) }
+    /// ensures returned { [IfErr](crate::contracts::logic#IfErr) result (λ h. h.error ≡ InUse
+    /// &#9;→ (h.value.0 ≡ [with_returned](crate::contracts::ent_total::issuing#with_returned) self queues.items) × (h.value.1.items ≡ \[\])) }
+    /// </code>
     ///
     /// </details>
     #[inline]
@@ -124,26 +122,24 @@ impl OpenWorld {
     ///
     /// <details><summary>Contract</summary>
     ///
-    /// In the words of the folder `specs/` of crate `ent_total`:
-    ///
-    /// ```text
-    /// ensures world { IfOk result (λ made.
-    ///     IsClosedLost self.world (reservers_returned self queues.items) made.0.world) }
-    /// ensures number { IfOk result (λ made. made.0.number ≡ self.of_world) }
-    /// ensures spawned { IfOk result (λ made. made.0.spawned ≡ self.spawned) }
-    /// ensures queues { IfOk result (λ made.
-    ///     made.1 ≡ record { world = self.of_world; queues = queues_returned self queues.items }) }
-    ///
+    /// <code style="display: block; tab-size: 4; white-space: pre-wrap">// In the words of [contracts](crate::contracts):
+    /// ensures world { [IfOk](crate::contracts::logic#IfOk) result (λ made.
+    /// &#9;[IsClosedLost](crate::contracts::ent_total::issuing#IsClosedLost) self.world ([reservers_returned](crate::contracts::ent_total::issuing#reservers_returned) self queues.items) made.0.world) }
+    /// ensures number { [IfOk](crate::contracts::logic#IfOk) result (λ made. made.0.number ≡ self.of_world) }
+    /// ensures spawned { [IfOk](crate::contracts::logic#IfOk) result (λ made. made.0.spawned ≡ self.spawned) }
+    /// ensures queues { [IfOk](crate::contracts::logic#IfOk) result (λ made.
+    /// &#9;made.1 ≡ record { world = self.of_world; queues = [queues_returned](crate::contracts::ent_total::issuing#queues_returned) self queues.items }) }
+    /// &#32;
     /// // When it succeeds, when it is refused, and what holds then.
-    /// ensures may_return { OnOk result (MayReturn self queues.items) }
-    /// ensures other_phase { IsErrAnd result (λ h. h.error ≡ OtherPhase)
-    ///     ↔ ¬ (MayReturn self queues.items) }
-    /// ensures no_missing { IfErr result (λ h. ¬ (IsMissing h.error)) }
-    /// ensures handed_back { IfErr result (λ h. h.error ≢ InUse
-    ///     → (h.value.0 ≡ self) × (h.value.1.items ≡ queues.items)) }
-    /// ensures returned { IfErr result (λ h. h.error ≡ InUse
-    ///     → (h.value.0 ≡ with_returned self queues.items) × (h.value.1.items ≡ [])) }
-    /// ```
+    /// ensures may_return { [OnOk](crate::contracts::logic#OnOk) result ([MayReturn](crate::contracts::ent_total::issuing#MayReturn) self queues.items) }
+    /// ensures other_phase { [IsErrAnd](crate::contracts::logic#IsErrAnd) result (λ h. h.error ≡ OtherPhase)
+    /// &#9;↔ ¬ ([MayReturn](crate::contracts::ent_total::issuing#MayReturn) self queues.items) }
+    /// ensures no_missing { [IfErr](crate::contracts::logic#IfErr) result (λ h. ¬ ([IsMissing](crate::contracts::ent_total::closing#IsMissing) h.error)) }
+    /// ensures handed_back { [IfErr](crate::contracts::logic#IfErr) result (λ h. h.error ≢ InUse
+    /// &#9;→ (h.value.0 ≡ self) × (h.value.1.items ≡ queues.items)) }
+    /// ensures returned { [IfErr](crate::contracts::logic#IfErr) result (λ h. h.error ≡ InUse
+    /// &#9;→ (h.value.0 ≡ [with_returned](crate::contracts::ent_total::issuing#with_returned) self queues.items) × (h.value.1.items ≡ \[\])) }
+    /// </code>
     ///
     /// </details>
     #[inline]

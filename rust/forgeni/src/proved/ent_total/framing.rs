@@ -38,24 +38,22 @@ const SYSTEMS: usize = 65_536;
 ///
 /// <details><summary>Contract</summary>
 ///
-/// In the words of the folder `specs/` of crate `ent_total`:
-///
-/// ```text
-/// ensures ok { IfOk result (λ report. Ends S.may_issue systems.now workers world.old.world
-///     report.queues.items world.new.world report.sync.born.items report.sync.faults.items) }
-/// ensures alone { workers ≡ 1 → IfOk result (λ report. EndsInOrder world.old.world
-///     report.queues.items world.new.world report.sync.born.items report.sync.faults.items) }
-/// ensures flushed { OnOk result
-///     ((world.new.world.allocator.asked ≡ 0) × (world.new.spawned ≡ 0)) }
+/// <code style="display: block; tab-size: 4; white-space: pre-wrap">// In the words of [contracts](crate::contracts):
+/// ensures ok { [IfOk](crate::contracts::logic#IfOk) result (λ report. [Ends](crate::contracts::ent_runner::frame#Ends) S.may_issue systems.now workers world.old.world
+/// &#9;report.queues.items world.new.world report.sync.born.items report.sync.faults.items) }
+/// ensures alone { workers ≡ 1 → [IfOk](crate::contracts::logic#IfOk) result (λ report. [EndsInOrder](crate::contracts::ent_runner::frame#EndsInOrder) world.old.world
+/// &#9;report.queues.items world.new.world report.sync.born.items report.sync.faults.items) }
+/// ensures flushed { [OnOk](crate::contracts::logic#OnOk) result
+/// &#9;((world.new.world.allocator.asked ≡ 0) × (world.new.spawned ≡ 0)) }
 /// ensures number { world.new.number ≡ world.old.number }
-///
-/// // When the systems are refused, and what is left of a frame that didn't do all.
-/// ensures refused { IsRefused world.old.world.allocator.asked workers (length systems.now)
-///     (IsErrOf result FrameError.NeedsFlush) (IsErrOf result FrameError.Workers)
-///     (IsErrOf result FrameError.Systems) }
-/// ensures left { IfErr result (IsLeft S.may_issue S.may_leave systems.now workers
-///     world.old world.new) }
-/// ```
+/// &#32;
+/// // When the systems are refused, and what is left of a frame that didn\'t do all.
+/// ensures refused { [IsRefused](crate::contracts::ent_runner::refusing#IsRefused) world.old.world.allocator.asked workers ([length](crate::contracts::logic#length) systems.now)
+/// &#9;([IsErrOf](crate::contracts::logic#IsErrOf) result FrameError.NeedsFlush) ([IsErrOf](crate::contracts::logic#IsErrOf) result FrameError.Workers)
+/// &#9;([IsErrOf](crate::contracts::logic#IsErrOf) result FrameError.Systems) }
+/// ensures left { [IfErr](crate::contracts::logic#IfErr) result ([IsLeft](crate::contracts::ent_total::framing#IsLeft) S.may_issue S.may_leave systems.now workers
+/// &#9;world.old world.new) }
+/// </code>
 ///
 /// </details>
 #[inline]

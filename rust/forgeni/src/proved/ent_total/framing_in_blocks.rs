@@ -67,21 +67,19 @@ use crate::kit::thread::Join;
 ///
 /// <details><summary>Contract</summary>
 ///
-/// In the words of the folder `specs/` of crate `ent_total`:
-///
-/// ```text
-/// ensures ok { IfOk result (λ ran. HaveIssued S.may_issue systems.now
-///     (view_in_blocks opened.now.world) opened.now.world.blocks.phase.start
-///     (blocks_of reservers.items) ran.0.queues (blocks_of ran.1.items)) }
-/// ensures of { IfOk result (λ ran. AreOf opened.now.world.blocks ran.1.items
-///     × (ran.0.world ≡ opened.now.of_world)) }
-///
+/// <code style="display: block; tab-size: 4; white-space: pre-wrap">// In the words of [contracts](crate::contracts):
+/// ensures ok { [IfOk](crate::contracts::logic#IfOk) result (λ ran. [HaveIssued](crate::contracts::ent_runner::blocks_queues#HaveIssued) S.may_issue systems.now
+/// &#9;([view_in_blocks](crate::contracts::ent_runner::blocks_frame#view_in_blocks) opened.now.world) opened.now.world.blocks.phase.start
+/// &#9;([blocks_of](crate::contracts::ent_blocks::blocks#blocks_of) reservers.items) ran.0.queues ([blocks_of](crate::contracts::ent_blocks::blocks#blocks_of) ran.1.items)) }
+/// ensures of { [IfOk](crate::contracts::logic#IfOk) result (λ ran. [AreOf](crate::contracts::ent_blocks::ending#AreOf) opened.now.world.blocks ran.1.items
+/// &#9;× (ran.0.world ≡ opened.now.of_world)) }
+/// &#32;
 /// // When the systems are refused, and what is left then.
-/// ensures refused { IsRefused workers (length systems.now) opened.now.world.blocks.number
-///     reservers.items (λ why. IsErrAnd result (λ h. h.error ≡ why)) }
-/// ensures left { IfErr result (λ h. AreUnfilled S.may_issue S.may_leave systems.now workers
-///     opened.now reservers.items h.value.items h.error) }
-/// ```
+/// ensures refused { [IsRefused](crate::contracts::ent_runner::blocks_refusing#IsRefused) workers ([length](crate::contracts::logic#length) systems.now) opened.now.world.blocks.number
+/// &#9;reservers.items (λ why. [IsErrAnd](crate::contracts::logic#IsErrAnd) result (λ h. h.error ≡ why)) }
+/// ensures left { [IfErr](crate::contracts::logic#IfErr) result (λ h. [AreUnfilled](crate::contracts::ent_total::unframed#AreUnfilled) S.may_issue S.may_leave systems.now workers
+/// &#9;opened.now reservers.items h.value.items h.error) }
+/// </code>
 ///
 /// </details>
 #[inline]
@@ -154,25 +152,23 @@ where
 ///
 /// <details><summary>Contract</summary>
 ///
-/// In the words of the folder `specs/` of crate `ent_total`:
-///
-/// ```text
-/// ensures ok { IfOk result (λ ended. EndsInBlocks S.may_issue systems.now opened.world
-///     (blocks_of reservers.items) ended.1.queues.items ended.0.world ended.1.sync.born.items
-///     ended.1.sync.faults.items) }
-/// ensures all { OnOk result
-///     (map unused (blocks_of reservers.items) ≡ opened.world.blocks.phase.blocks) }
-/// ensures world { IfOk result (λ ended.
-///     IsWorld ended.0.world × (ended.0.world.allocator.asked ≡ 0)) }
-/// ensures number { IfOk result (λ ended.
-///     (ended.0.number ≡ opened.of_world) × (ended.0.spawned ≡ 0)) }
-///
-/// // When the systems are refused, and what is left of a frame that didn't end.
-/// ensures refused { IsRefused workers (length systems.now) opened.world.blocks.number
-///     reservers.items (λ why. IsErrAnd result (λ left. IsUnrunFor left why)) }
-/// ensures left { IfErr result (IsLeft S.may_issue S.may_leave systems.now workers opened
-///     reservers.items) }
-/// ```
+/// <code style="display: block; tab-size: 4; white-space: pre-wrap">// In the words of [contracts](crate::contracts):
+/// ensures ok { [IfOk](crate::contracts::logic#IfOk) result (λ ended. [EndsInBlocks](crate::contracts::ent_runner::blocks_frame#EndsInBlocks) S.may_issue systems.now opened.world
+/// &#9;([blocks_of](crate::contracts::ent_blocks::blocks#blocks_of) reservers.items) ended.1.queues.items ended.0.world ended.1.sync.born.items
+/// &#9;ended.1.sync.faults.items) }
+/// ensures all { [OnOk](crate::contracts::logic#OnOk) result
+/// &#9;([map](crate::contracts::logic#map) [unused](crate::contracts::ent_blocks::blocks#unused) ([blocks_of](crate::contracts::ent_blocks::blocks#blocks_of) reservers.items) ≡ opened.world.blocks.phase.blocks) }
+/// ensures world { [IfOk](crate::contracts::logic#IfOk) result (λ ended.
+/// &#9;[IsWorld](crate::contracts::ent_world::world#IsWorld) ended.0.world × (ended.0.world.allocator.asked ≡ 0)) }
+/// ensures number { [IfOk](crate::contracts::logic#IfOk) result (λ ended.
+/// &#9;(ended.0.number ≡ opened.of_world) × (ended.0.spawned ≡ 0)) }
+/// &#32;
+/// // When the systems are refused, and what is left of a frame that didn\'t end.
+/// ensures refused { [IsRefused](crate::contracts::ent_runner::blocks_refusing#IsRefused) workers ([length](crate::contracts::logic#length) systems.now) opened.world.blocks.number
+/// &#9;reservers.items (λ why. [IsErrAnd](crate::contracts::logic#IsErrAnd) result (λ left. [IsUnrunFor](crate::contracts::ent_total::unframed#IsUnrunFor) left why)) }
+/// ensures left { [IfErr](crate::contracts::logic#IfErr) result ([IsLeft](crate::contracts::ent_total::unframed#IsLeft) S.may_issue S.may_leave systems.now workers opened
+/// &#9;reservers.items) }
+/// </code>
 ///
 /// </details>
 #[inline]

@@ -43,11 +43,9 @@ impl GoOnError {
     ///
     /// <details><summary>Contract</summary>
     ///
-    /// In the words of the folder `specs/` of crate `ent_total`:
-    ///
-    /// ```text
-    /// ensures { result ≡ stopped_in self }
-    /// ```
+    /// <code style="display: block; tab-size: 4; white-space: pre-wrap">// In the words of [contracts](crate::contracts):
+    /// ensures { result ≡ [stopped_in](crate::contracts::ent_total::applying#stopped_in) self }
+    /// </code>
     ///
     /// </details>
     #[inline]

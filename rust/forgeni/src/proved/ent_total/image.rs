@@ -39,18 +39,16 @@ impl World {
     ///
     /// <details><summary>Contract</summary>
     ///
-    /// In the words of the folder `specs/` of crate `ent_total`:
-    ///
-    /// ```text
-    /// ensures written { OnOk result
-    ///     (out.new.items ≡ out.old.items ++ image self.now.world self.now.spawned) }
-    /// ensures has_image { OnOk result (HasImage self.now.world) }
-    /// ensures unchanged { OnErr result (out.new.items ≡ out.old.items) }
-    ///
+    /// <code style="display: block; tab-size: 4; white-space: pre-wrap">// In the words of [contracts](crate::contracts):
+    /// ensures written { [OnOk](crate::contracts::logic#OnOk) result
+    /// &#9;(out.new.items ≡ out.old.items ++ [image](crate::contracts::ent_total::image#image) self.now.world self.now.spawned) }
+    /// ensures has_image { [OnOk](crate::contracts::logic#OnOk) result ([HasImage](crate::contracts::ent_world::image#HasImage) self.now.world) }
+    /// ensures unchanged { [OnErr](crate::contracts::logic#OnErr) result (out.new.items ≡ out.old.items) }
+    /// &#32;
     /// // Memory runs out only for a list that lacks room.
-    /// ensures memory { OnErr result
-    ///     (vec_capacity out.old < vec_len out.old + most self.now.world + 4) }
-    /// ```
+    /// ensures memory { [OnErr](crate::contracts::logic#OnErr) result
+    /// &#9;([vec_capacity](crate::contracts::logic#vec_capacity) out.old \< [vec_len](crate::contracts::logic#vec_len) out.old + [most](crate::contracts::ent_world::image#most) self.now.world + 4) }
+    /// </code>
     ///
     /// </details>
     #[inline]
@@ -70,39 +68,37 @@ impl World {
 ///
 /// <details><summary>Contract</summary>
 ///
-/// In the words of the folder `specs/` of crate `ent_total`:
-///
-/// ```text
-/// ensures found { IfOk result (λ w. image w.world w.spawned ≡ bytes.now) }
-/// ensures has_image { IfOk result (λ w. HasImage w.world) }
-/// ensures number { IfOk result (λ w. w.number ≡ number) }
-///
+/// <code style="display: block; tab-size: 4; white-space: pre-wrap">// In the words of [contracts](crate::contracts):
+/// ensures found { [IfOk](crate::contracts::logic#IfOk) result (λ w. [image](crate::contracts::ent_total::image#image) w.world w.spawned ≡ bytes.now) }
+/// ensures has_image { [IfOk](crate::contracts::logic#IfOk) result (λ w. [HasImage](crate::contracts::ent_world::image#HasImage) w.world) }
+/// ensures number { [IfOk](crate::contracts::logic#IfOk) result (λ w. w.number ≡ number) }
+/// &#32;
 /// // The image of a world is read as this world, unless memory runs out.
-/// ensures exact { (w : WorldValue) (spawned : ℕ) → HasImage w → spawned < 2 ^ 32
-///     → image w spawned ≡ bytes.now
-///     → (result ≡ Ok (record { world = w; number = number; spawned = spawned }))
-///     ⊎ (result ≡ Err WorldImageFault.Memory) }
-///
+/// ensures exact { (w : [WorldValue](crate::contracts::ent_world::world#World)) (spawned : [ℕ](crate::contracts::logic#ℕ)) → [HasImage](crate::contracts::ent_world::image#HasImage) w → spawned \< 2 ^ 32
+/// &#9;→ [image](crate::contracts::ent_total::image#image) w spawned ≡ bytes.now
+/// &#9;→ (result ≡ [Ok](crate::contracts::logic#Ok) (record { world = w; number = number; spawned = spawned }))
+/// &#9;⊎ (result ≡ [Err](crate::contracts::logic#Err) WorldImageFault.Memory) }
+/// &#32;
 /// // What is refused is the image of no world. It is refused for the first fault of the bytes.
-/// ensures refused { IfErr result (λ fault. fault ≢ WorldImageFault.Memory
-///     → (w : WorldValue) (spawned : ℕ) → HasImage w → spawned < 2 ^ 32
-///     → image w spawned ≢ bytes.now) }
-/// ensures fault { IfErr result (λ fault. fault ≢ WorldImageFault.Memory
-///     → HasFault (before_count bytes.now) fault) }
-///
-/// // Memory is asked for only after the allocator's part was found faultless up to its slots, and
+/// ensures refused { [IfErr](crate::contracts::logic#IfErr) result (λ fault. fault ≢ WorldImageFault.Memory
+/// &#9;→ (w : [WorldValue](crate::contracts::ent_world::world#World)) (spawned : [ℕ](crate::contracts::logic#ℕ)) → [HasImage](crate::contracts::ent_world::image#HasImage) w → spawned \< 2 ^ 32
+/// &#9;→ [image](crate::contracts::ent_total::image#image) w spawned ≢ bytes.now) }
+/// ensures fault { [IfErr](crate::contracts::logic#IfErr) result (λ fault. fault ≢ WorldImageFault.Memory
+/// &#9;→ [HasFault](crate::contracts::ent_world::first_fault#HasFault) ([before_count](crate::contracts::ent_total::image#before_count) bytes.now) fault) }
+/// &#32;
+/// // Memory is asked for only after the allocator\'s part was found faultless up to its slots, and
 /// // only for slots. There are no more slots and entities than the bytes have.
-/// ensures memory { IfErr result (λ fault. fault ≡ WorldImageFault.Memory
-///     → MayTakeMemory (before_count bytes.now)) }
-/// ensures bound { IfOk result (λ w. least w.world + 4 ≤ length bytes.now) }
-///
+/// ensures memory { [IfErr](crate::contracts::logic#IfErr) result (λ fault. fault ≡ WorldImageFault.Memory
+/// &#9;→ [MayTakeMemory](crate::contracts::ent_world::first_fault#MayTakeMemory) ([before_count](crate::contracts::ent_total::image#before_count) bytes.now)) }
+/// ensures bound { [IfOk](crate::contracts::logic#IfOk) result (λ w. [least](crate::contracts::ent_world::image#least) w.world + 4 ≤ [length](crate::contracts::logic#length) bytes.now) }
+/// &#32;
 /// // Of what was given before the image was written, nothing is given again, whatever calls come
 /// // after it is read. Nor is anything given twice by these.
-/// ensures given_once { (w : WorldValue) (spawned : ℕ) (given : List Handle) → HasImage w
-///     → spawned < 2 ^ 32 → image w spawned ≡ bytes.now → AreSpent w.allocator given
-///     → IfOk result (λ r. (steps : List Step) → IsRun r.world.allocator steps → AreSpent
-///     (after_run r.world.allocator steps) (given ++ given_in_run r.world.allocator steps)) }
-/// ```
+/// ensures given_once { (w : [WorldValue](crate::contracts::ent_world::world#World)) (spawned : [ℕ](crate::contracts::logic#ℕ)) (given : [List](crate::contracts::logic#List) [Handle](crate::contracts::ent_handle::handle#Handle)) → [HasImage](crate::contracts::ent_world::image#HasImage) w
+/// &#9;→ spawned \< 2 ^ 32 → [image](crate::contracts::ent_total::image#image) w spawned ≡ bytes.now → [AreSpent](crate::contracts::ent_alloc::spent#AreSpent) w.allocator given
+/// &#9;→ [IfOk](crate::contracts::logic#IfOk) result (λ r. (steps : [List](crate::contracts::logic#List) [Step](crate::contracts::ent_alloc::runs#Step)) → [IsRun](crate::contracts::ent_alloc::runs#IsRun) r.world.allocator steps → [AreSpent](crate::contracts::ent_alloc::spent#AreSpent)
+/// &#9;([after_run](crate::contracts::ent_alloc::runs#after_run) r.world.allocator steps) (given ++ [given_in_run](crate::contracts::ent_alloc::runs#given_in_run) r.world.allocator steps)) }
+/// </code>
 ///
 /// </details>
 #[inline]
@@ -119,28 +115,26 @@ pub fn read_world(bytes: &[u8], number: u64) -> Result<World, WorldImageFault> {
 ///
 /// <details><summary>Contract</summary>
 ///
-/// In the words of the folder `specs/` of crate `ent_total`:
-///
-/// ```text
-/// ensures found { IfOk result (λ w. image w.world w.spawned ≡ bytes.now) }
-/// ensures has_image { IfOk result (λ w. HasImage w.world) }
-/// ensures number { IfOk result (λ w. w.number ≡ number) }
-///
+/// <code style="display: block; tab-size: 4; white-space: pre-wrap">// In the words of [contracts](crate::contracts):
+/// ensures found { [IfOk](crate::contracts::logic#IfOk) result (λ w. [image](crate::contracts::ent_total::image#image) w.world w.spawned ≡ bytes.now) }
+/// ensures has_image { [IfOk](crate::contracts::logic#IfOk) result (λ w. [HasImage](crate::contracts::ent_world::image#HasImage) w.world) }
+/// ensures number { [IfOk](crate::contracts::logic#IfOk) result (λ w. w.number ≡ number) }
+/// &#32;
 /// // A flush of what is read leaves no more slots than are allowed.
-/// ensures within { IfOk result (λ w. slots_after_flush w.world.allocator ≤ most) }
-///
+/// ensures within { [IfOk](crate::contracts::logic#IfOk) result (λ w. [slots_after_flush](crate::contracts::ent_alloc::within#slots_after_flush) w.world.allocator ≤ [most](crate::contracts::ent_world::image#most)) }
+/// &#32;
 /// // The image of a world is read as this world, unless memory runs out, exactly if it has no more
 /// // slots then. All else is refused for a fault of the bytes, or for the bound if they have none.
-/// ensures exact { (w : WorldValue) (spawned : ℕ) → HasImage w → spawned < 2 ^ 32
-///     → image w spawned ≡ bytes.now → (result ≡ within most w.allocator
-///     (record { world = w; number = number; spawned = spawned }))
-///     ⊎ (result ≡ Err WorldImageFault.Memory) }
-/// ensures fault { IfErr result (λ fault. fault ≢ WorldImageFault.Memory
-///     → HasFault (before_count bytes.now) fault ⊎ IsBeyond bytes.now most fault) }
-/// ensures memory { IfErr result (λ fault. fault ≡ WorldImageFault.Memory
-///     → MayTakeMemory (before_count bytes.now)) }
-/// ensures bound { IfOk result (λ w. least w.world + 4 ≤ length bytes.now) }
-/// ```
+/// ensures exact { (w : [WorldValue](crate::contracts::ent_world::world#World)) (spawned : [ℕ](crate::contracts::logic#ℕ)) → [HasImage](crate::contracts::ent_world::image#HasImage) w → spawned \< 2 ^ 32
+/// &#9;→ [image](crate::contracts::ent_total::image#image) w spawned ≡ bytes.now → (result ≡ [within](crate::contracts::ent_world::within#within) [most](crate::contracts::ent_world::image#most) w.allocator
+/// &#9;(record { world = w; number = number; spawned = spawned }))
+/// &#9;⊎ (result ≡ [Err](crate::contracts::logic#Err) WorldImageFault.Memory) }
+/// ensures fault { [IfErr](crate::contracts::logic#IfErr) result (λ fault. fault ≢ WorldImageFault.Memory
+/// &#9;→ [HasFault](crate::contracts::ent_world::first_fault#HasFault) ([before_count](crate::contracts::ent_total::image#before_count) bytes.now) fault ⊎ [IsBeyond](crate::contracts::ent_total::image#IsBeyond) bytes.now [most](crate::contracts::ent_world::image#most) fault) }
+/// ensures memory { [IfErr](crate::contracts::logic#IfErr) result (λ fault. fault ≡ WorldImageFault.Memory
+/// &#9;→ [MayTakeMemory](crate::contracts::ent_world::first_fault#MayTakeMemory) ([before_count](crate::contracts::ent_total::image#before_count) bytes.now)) }
+/// ensures bound { [IfOk](crate::contracts::logic#IfOk) result (λ w. [least](crate::contracts::ent_world::image#least) w.world + 4 ≤ [length](crate::contracts::logic#length) bytes.now) }
+/// </code>
 ///
 /// </details>
 #[inline]

@@ -105,11 +105,9 @@ impl OpenWorld {
     ///
     /// <details><summary>Contract</summary>
     ///
-    /// In the words of the folder `specs/` of crate `ent_total`:
-    ///
-    /// ```text
-    /// ensures { result ≡ value_of self.now.world.entities handle id }
-    /// ```
+    /// <code style="display: block; tab-size: 4; white-space: pre-wrap">// In the words of [contracts](crate::contracts):
+    /// ensures { result ≡ [value_of](crate::contracts::ent_storage::entity_map#value_of) self.now.world.entities handle id }
+    /// </code>
     ///
     /// </details>
     #[must_use]
@@ -132,11 +130,9 @@ impl OpenWorld {
     ///
     /// <details><summary>Contract</summary>
     ///
-    /// In the words of the folder `specs/` of crate `ent_total`:
-    ///
-    /// ```text
-    /// ensures { result ≡ birth_of self.now.world.entities handle }
-    /// ```
+    /// <code style="display: block; tab-size: 4; white-space: pre-wrap">// In the words of [contracts](crate::contracts):
+    /// ensures { result ≡ [birth_of](crate::contracts::ent_storage::entity_map#birth_of) self.now.world.entities handle }
+    /// </code>
     ///
     /// </details>
     #[must_use]
@@ -160,11 +156,9 @@ impl OpenWorld {
     ///
     /// <details><summary>Contract</summary>
     ///
-    /// In the words of the folder `specs/` of crate `ent_total`:
-    ///
-    /// ```text
-    /// ensures { result ≡ map.contains_key self.now.world.entities handle }
-    /// ```
+    /// <code style="display: block; tab-size: 4; white-space: pre-wrap">// In the words of [contracts](crate::contracts):
+    /// ensures { result ≡ [map.contains_key](crate::contracts::logic#FinMap.contains_key) self.now.world.entities handle }
+    /// </code>
     ///
     /// </details>
     #[must_use]
@@ -193,12 +187,10 @@ impl OpenWorld {
     ///
     /// <details><summary>Contract</summary>
     ///
-    /// In the words of the folder `specs/` of crate `ent_total`:
-    ///
-    /// ```text
-    /// ensures ok { IfOk result (λ handles. ListsAll self.now.world.entities handles.items) }
-    /// ensures memory { OnErr result (self.now.world.entities ≢ map.empty) }
-    /// ```
+    /// <code style="display: block; tab-size: 4; white-space: pre-wrap">// In the words of [contracts](crate::contracts):
+    /// ensures ok { [IfOk](crate::contracts::logic#IfOk) result (λ handles. [ListsAll](crate::contracts::ent_storage::birth_order#ListsAll) self.now.world.entities handles.items) }
+    /// ensures memory { [OnErr](crate::contracts::logic#OnErr) result (self.now.world.entities ≢ [map.empty](crate::contracts::logic#FinMap.empty)) }
+    /// </code>
     ///
     /// </details>
     #[inline]
@@ -223,12 +215,10 @@ impl OpenWorld {
     ///
     /// <details><summary>Contract</summary>
     ///
-    /// In the words of the folder `specs/` of crate `ent_total`:
-    ///
-    /// ```text
+    /// <code style="display: block; tab-size: 4; white-space: pre-wrap">// In the words of [contracts](crate::contracts):
     /// ensures phase { result.phase ≡ self.now.world.phase }
     /// ensures entities { result.entities ≡ self.now.world.entities }
-    /// ```
+    /// </code>
     ///
     /// </details>
     #[must_use]
@@ -249,11 +239,9 @@ impl OpenWorld {
     ///
     /// <details><summary>Contract</summary>
     ///
-    /// In the words of the folder `specs/` of crate `ent_total`:
-    ///
-    /// ```text
+    /// <code style="display: block; tab-size: 4; white-space: pre-wrap">// In the words of [contracts](crate::contracts):
     /// ensures { result ≡ self.now.world.shared.count }
-    /// ```
+    /// </code>
     ///
     /// </details>
     #[must_use]
@@ -280,11 +268,9 @@ impl OpenWorld {
     ///
     /// <details><summary>Contract</summary>
     ///
-    /// In the words of the folder `specs/` of crate `ent_total`:
-    ///
-    /// ```text
-    /// ensures { result ≡ length self.now.returned }
-    /// ```
+    /// <code style="display: block; tab-size: 4; white-space: pre-wrap">// In the words of [contracts](crate::contracts):
+    /// ensures { result ≡ [length](crate::contracts::logic#length) self.now.returned }
+    /// </code>
     ///
     /// </details>
     #[must_use]

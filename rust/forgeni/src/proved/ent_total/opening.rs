@@ -29,19 +29,17 @@ pub struct Opening {
 ///
 /// <details><summary>Contract</summary>
 ///
-/// In the words of the folder `specs/` of crate `ent_total`:
-///
-/// ```text
-/// ensures start { IfOk result (λ o. o.shared.start ≡ entities.allocator) }
-/// ensures rows { IfOk result (λ o. o.shared.rows ≡ entities.rows) }
-/// ensures count { IfOk result (λ o. o.shared.count ≡ count) }
-/// ensures may_return { IfOk result (λ o. records_of o.returned ≡ opened_records entities.allocator 0 count) }
-/// ensures needs_flush { IsErrAnd result (λ h. h.error ≡ NeedsFlush)
-///     ↔ (0 < entities.allocator.asked) }
-/// ensures no_count { IsErrAnd result (λ h. h.error ≡ Count)
-///     ↔ ((entities.allocator.asked ≡ 0) × ((count ≡ 0) ⊎ (1024 < count))) }
-/// ensures handed_back { IfErr result (λ h. h.value ≡ entities) }
-/// ```
+/// <code style="display: block; tab-size: 4; white-space: pre-wrap">// In the words of [contracts](crate::contracts):
+/// ensures start { [IfOk](crate::contracts::logic#IfOk) result (λ o. o.shared.start ≡ entities.allocator) }
+/// ensures rows { [IfOk](crate::contracts::logic#IfOk) result (λ o. o.shared.rows ≡ entities.rows) }
+/// ensures count { [IfOk](crate::contracts::logic#IfOk) result (λ o. o.shared.count ≡ count) }
+/// ensures may_return { [IfOk](crate::contracts::logic#IfOk) result (λ o. [records_of](crate::contracts::ent_shared::phase#records_of) o.returned ≡ [opened_records](crate::contracts::ent_shared::record#opened_records) entities.allocator 0 count) }
+/// ensures needs_flush { [IsErrAnd](crate::contracts::logic#IsErrAnd) result (λ h. h.error ≡ NeedsFlush)
+/// &#9;↔ (0 \< entities.allocator.asked) }
+/// ensures no_count { [IsErrAnd](crate::contracts::logic#IsErrAnd) result (λ h. h.error ≡ Count)
+/// &#9;↔ ((entities.allocator.asked ≡ 0) × ((count ≡ 0) ⊎ (1024 \< count))) }
+/// ensures handed_back { [IfErr](crate::contracts::logic#IfErr) result (λ h. h.value ≡ entities) }
+/// </code>
 ///
 /// </details>
 #[inline]

@@ -12,6 +12,19 @@ use crate::kit::sync::Arc;
 /// handle is what the allocator would have given to one caller at that moment, so no two callers
 /// are given the same one. It comes to life after the phase, by the next flush.
 ///
+/// ```
+/// use forgeni::Entities;
+///
+/// let (shared, mut reservers) = Entities::new().share(4)?;
+/// std::thread::scope(|scope| {
+///     for mine in &mut reservers {
+///         scope.spawn(|| mine.reserve_many(10));
+///     }
+/// });
+/// assert_eq!(shared.close(reservers)?.reserved(), 40);
+/// # Ok::<(), Box<dyn std::error::Error>>(())
+/// ```
+///
 /// Two threads can't reserve by one reserver at once:
 ///
 /// ```compile_fail
@@ -46,11 +59,9 @@ impl Reserver {
     ///
     /// <details><summary>Contract</summary>
     ///
-    /// In the words of the folder `specs/` of crate `ent_total`:
-    ///
-    /// ```text
-    /// ensures { result ≡ set.contains self.now.shared.start.live handle }
-    /// ```
+    /// <code style="display: block; tab-size: 4; white-space: pre-wrap">// In the words of [contracts](crate::contracts):
+    /// ensures { result ≡ [set.contains](crate::contracts::logic#FinSet.contains) self.now.shared.start.live handle }
+    /// </code>
     ///
     /// </details>
     #[must_use]
@@ -74,13 +85,11 @@ impl Reserver {
     ///
     /// <details><summary>Contract</summary>
     ///
-    /// In the words of the folder `specs/` of crate `ent_total`:
-    ///
-    /// ```text
-    /// ensures living { set.from_list result ≡ self.now.shared.start.live }
-    /// ensures rising { AllPairs (λ g h. g.index < h.index) result }
-    /// ensures count { length result ≡ set.len self.now.shared.start.live }
-    /// ```
+    /// <code style="display: block; tab-size: 4; white-space: pre-wrap">// In the words of [contracts](crate::contracts):
+    /// ensures living { [set.from_list](crate::contracts::logic#FinSet.from_list) result ≡ self.now.shared.start.live }
+    /// ensures rising { [AllPairs](crate::contracts::logic#AllPairs) (λ g h. g.index \< h.index) result }
+    /// ensures count { [length](crate::contracts::logic#length) result ≡ [set.len](crate::contracts::logic#FinSet.len) self.now.shared.start.live }
+    /// </code>
     ///
     /// </details>
     #[must_use]
@@ -104,12 +113,10 @@ impl Reserver {
     ///
     /// <details><summary>Contract</summary>
     ///
-    /// In the words of the folder `specs/` of crate `ent_total`:
-    ///
-    /// ```text
-    /// ensures value { result ≡ map.get self.now.shared.rows handle }
-    /// ensures alive { OnSome result (set.contains self.now.shared.start.live handle ≡ true) }
-    /// ```
+    /// <code style="display: block; tab-size: 4; white-space: pre-wrap">// In the words of [contracts](crate::contracts):
+    /// ensures value { result ≡ [map.get](crate::contracts::logic#FinMap.get) self.now.shared.rows handle }
+    /// ensures alive { [OnSome](crate::contracts::logic#OnSome) result ([set.contains](crate::contracts::logic#FinSet.contains) self.now.shared.start.live handle ≡ [true](crate::contracts::logic#true)) }
+    /// </code>
     ///
     /// </details>
     #[must_use]
@@ -138,11 +145,9 @@ impl Reserver {
     ///
     /// <details><summary>Contract</summary>
     ///
-    /// In the words of the folder `specs/` of crate `ent_total`:
-    ///
-    /// ```text
+    /// <code style="display: block; tab-size: 4; white-space: pre-wrap">// In the words of [contracts](crate::contracts):
     /// ensures { result ≡ self.now.reserver.own.number }
-    /// ```
+    /// </code>
     ///
     /// </details>
     #[must_use]
@@ -165,11 +170,9 @@ impl Reserver {
     ///
     /// <details><summary>Contract</summary>
     ///
-    /// In the words of the folder `specs/` of crate `ent_total`:
-    ///
-    /// ```text
+    /// <code style="display: block; tab-size: 4; white-space: pre-wrap">// In the words of [contracts](crate::contracts):
     /// ensures { result ≡ self.now.reserver.own.left }
-    /// ```
+    /// </code>
     ///
     /// </details>
     #[must_use]
@@ -192,11 +195,9 @@ impl Reserver {
     ///
     /// <details><summary>Contract</summary>
     ///
-    /// In the words of the folder `specs/` of crate `ent_total`:
-    ///
-    /// ```text
+    /// <code style="display: block; tab-size: 4; white-space: pre-wrap">// In the words of [contracts](crate::contracts):
     /// ensures { result ≡ self.now.shared.count }
-    /// ```
+    /// </code>
     ///
     /// </details>
     #[must_use]
@@ -218,12 +219,10 @@ impl Reserver {
     ///
     /// <details><summary>Contract</summary>
     ///
-    /// In the words of the folder `specs/` of crate `ent_total`:
-    ///
-    /// ```text
-    /// ensures number { IsTrue result ↔ (self.now.number ≡ shared.now.number) }
-    /// ensures shared { IsTrue result → self.now.shared ≡ shared.now.shared }
-    /// ```
+    /// <code style="display: block; tab-size: 4; white-space: pre-wrap">// In the words of [contracts](crate::contracts):
+    /// ensures number { [IsTrue](crate::contracts::logic#IsTrue) result ↔ (self.now.number ≡ shared.now.number) }
+    /// ensures shared { [IsTrue](crate::contracts::logic#IsTrue) result → self.now.shared ≡ shared.now.shared }
+    /// </code>
     ///
     /// </details>
     #[must_use]
@@ -255,24 +254,22 @@ impl Reserver {
     ///
     /// <details><summary>Contract</summary>
     ///
-    /// In the words of the folder `specs/` of crate `ent_total`:
-    ///
-    /// ```text
-    /// ensures same_phase { OnOk result (self.old.number ≡ other.old.number) }
-    /// ensures other_phase { OnErr result (self.old.number ≢ other.old.number) }
-    /// ensures meets { OnOk result (self.new ≡ record self.old {
-    ///   reserver = record self.old.reserver {
-    ///     own = after_meeting self.old.reserver.own other.old.reserver.own;
-    ///   };
+    /// <code style="display: block; tab-size: 4; white-space: pre-wrap">// In the words of [contracts](crate::contracts):
+    /// ensures same_phase { [OnOk](crate::contracts::logic#OnOk) result (self.old.number ≡ other.old.number) }
+    /// ensures other_phase { [OnErr](crate::contracts::logic#OnErr) result (self.old.number ≢ other.old.number) }
+    /// ensures meets { [OnOk](crate::contracts::logic#OnOk) result (self.new ≡ record self.old {
+    /// &#32;&#32;reserver = record self.old.reserver {
+    /// &#9;own = [after_meeting](crate::contracts::ent_shared::moves#after_meeting) self.old.reserver.own other.old.reserver.own;
+    /// &#32;&#32;};
     /// }) }
     /// ensures met { other.new ≡ other.old }
-    /// ensures unchanged { OnErr result (self.new ≡ self.old) }
-    ///
+    /// ensures unchanged { [OnErr](crate::contracts::logic#OnErr) result (self.new ≡ self.old) }
+    /// &#32;
     /// // Every reservation that the other one has made or learned of ends above where the next
     /// // one of this one may begin.
-    /// ensures mark { OnOk result
-    ///     (IsBelow self.new.reserver.own.mark other.old.reserver.own.entries) }
-    /// ```
+    /// ensures mark { [OnOk](crate::contracts::logic#OnOk) result
+    /// &#9;([IsBelow](crate::contracts::ent_shared::phase#IsBelow) self.new.reserver.own.mark other.old.reserver.own.entries) }
+    /// </code>
     ///
     /// </details>
     #[inline]

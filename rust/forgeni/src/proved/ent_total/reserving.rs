@@ -28,20 +28,18 @@ impl Reserver {
     ///
     /// <details><summary>Contract</summary>
     ///
-    /// In the words of the folder `specs/` of crate `ent_total`:
-    ///
-    /// ```text
+    /// <code style="display: block; tab-size: 4; white-space: pre-wrap">// In the words of [contracts](crate::contracts):
     /// ensures quota { self.old.reserver.own.left ≡ 0
-    ///     → (result ≡ Err (refused.Quota 0)) × (self.new ≡ self.old) }
-    /// ensures gains { 0 < self.old.reserver.own.left
-    ///     → MakesReservation self.old self.new 1 (listed_alone result) }
-    ///
+    /// &#9;→ (result ≡ [Err](crate::contracts::logic#Err) (refused.Quota 0)) × (self.new ≡ self.old) }
+    /// ensures gains { 0 \< self.old.reserver.own.left
+    /// &#9;→ [MakesReservation](crate::contracts::ent_total::sharing#MakesReservation) self.old self.new 1 ([listed_alone](crate::contracts::ent_alloc::sequential#listed_alone) result) }
+    /// &#32;
     /// // What was given is recorded.
-    /// ensures given { IfOk result (λ handle. handles_given self.new.reserver.own
-    ///     ≡ handles_given self.old.reserver.own ++ handle ∷ []) }
-    /// ensures refused { OnErr result
-    ///     (handles_given self.new.reserver.own ≡ handles_given self.old.reserver.own) }
-    /// ```
+    /// ensures given { [IfOk](crate::contracts::logic#IfOk) result (λ handle. [handles_given](crate::contracts::ent_shared::order#handles_given) self.new.reserver.own
+    /// &#9;≡ [handles_given](crate::contracts::ent_shared::order#handles_given) self.old.reserver.own ++ handle ∷ \[\]) }
+    /// ensures refused { [OnErr](crate::contracts::logic#OnErr) result
+    /// &#9;([handles_given](crate::contracts::ent_shared::order#handles_given) self.new.reserver.own ≡ [handles_given](crate::contracts::ent_shared::order#handles_given) self.old.reserver.own) }
+    /// </code>
     ///
     /// </details>
     #[inline]
@@ -78,25 +76,23 @@ impl Reserver {
     ///
     /// <details><summary>Contract</summary>
     ///
-    /// In the words of the folder `specs/` of crate `ent_total`:
-    ///
-    /// ```text
-    /// ensures gains { IfOk result (λ handles.
-    ///     0 < n → MakesReservation self.old self.new n (Ok handles.items)) }
-    /// ensures length { IfOk result (λ handles. length handles.items ≡ n) }
-    /// ensures nothing { n ≡ 0 → IsOk result × (self.new ≡ self.old) }
-    ///
+    /// <code style="display: block; tab-size: 4; white-space: pre-wrap">// In the words of [contracts](crate::contracts):
+    /// ensures gains { [IfOk](crate::contracts::logic#IfOk) result (λ handles.
+    /// &#9;0 \< n → [MakesReservation](crate::contracts::ent_total::sharing#MakesReservation) self.old self.new n ([Ok](crate::contracts::logic#Ok) handles.items)) }
+    /// ensures length { [IfOk](crate::contracts::logic#IfOk) result (λ handles. [length](crate::contracts::logic#length) handles.items ≡ n) }
+    /// ensures nothing { n ≡ 0 → [IsOk](crate::contracts::logic#IsOk) result × (self.new ≡ self.old) }
+    /// &#32;
     /// // The first that holds: the quota has too few, there is no memory, the pool has too few.
-    /// ensures quota { IsErrOf result (failed.Quota self.old.reserver.own.left)
-    ///     ↔ (self.old.reserver.own.left < n) }
+    /// ensures quota { [IsErrOf](crate::contracts::logic#IsErrOf) result (failed.Quota self.old.reserver.own.left)
+    /// &#9;↔ (self.old.reserver.own.left \< n) }
     /// ensures short { n ≤ self.old.reserver.own.left
-    ///     → length self.old.shared.start.pool < n → IsErrAnd result IsSpace }
-    /// ensures refused { IfErr result (IsUnserved self.old self.new n) }
-    ///
+    /// &#9;→ [length](crate::contracts::logic#length) self.old.shared.start.pool \< n → [IsErrAnd](crate::contracts::logic#IsErrAnd) result [IsSpace](crate::contracts::ent_total::faults#IsSpace) }
+    /// ensures refused { [IfErr](crate::contracts::logic#IfErr) result ([IsUnserved](crate::contracts::ent_total::sharing#IsUnserved) self.old self.new n) }
+    /// &#32;
     /// // What was given is recorded.
-    /// ensures given { IfOk result (λ handles. handles_given self.new.reserver.own
-    ///     ≡ handles_given self.old.reserver.own ++ handles.items) }
-    /// ```
+    /// ensures given { [IfOk](crate::contracts::logic#IfOk) result (λ handles. [handles_given](crate::contracts::ent_shared::order#handles_given) self.new.reserver.own
+    /// &#9;≡ [handles_given](crate::contracts::ent_shared::order#handles_given) self.old.reserver.own ++ handles.items) }
+    /// </code>
     ///
     /// </details>
     #[inline]
@@ -127,28 +123,26 @@ impl Reserver {
     ///
     /// <details><summary>Contract</summary>
     ///
-    /// In the words of the folder `specs/` of crate `ent_total`:
-    ///
-    /// ```text
-    /// ensures given { OnOk result (0 < n
-    ///     → GivesReply self.old self.new n handles.old.items handles.new.items) }
-    /// ensures nothing { n ≡ 0 → IsOk result × (self.new ≡ self.old)
-    ///     × (handles.new.items ≡ handles.old.items) }
-    /// ensures kept { OnErr result (handles.new.items ≡ handles.old.items) }
-    ///
+    /// <code style="display: block; tab-size: 4; white-space: pre-wrap">// In the words of [contracts](crate::contracts):
+    /// ensures given { [OnOk](crate::contracts::logic#OnOk) result (0 \< n
+    /// &#9;→ [GivesReply](crate::contracts::ent_total::sharing#GivesReply) self.old self.new n handles.old.items handles.new.items) }
+    /// ensures nothing { n ≡ 0 → [IsOk](crate::contracts::logic#IsOk) result × (self.new ≡ self.old)
+    /// &#9;× (handles.new.items ≡ handles.old.items) }
+    /// ensures kept { [OnErr](crate::contracts::logic#OnErr) result (handles.new.items ≡ handles.old.items) }
+    /// &#32;
     /// // The first that holds: the quota has too few, there is no memory, the pool has too few.
-    /// ensures quota { IsErrOf result (failed.Quota self.old.reserver.own.left)
-    ///     ↔ (self.old.reserver.own.left < n) }
+    /// ensures quota { [IsErrOf](crate::contracts::logic#IsErrOf) result (failed.Quota self.old.reserver.own.left)
+    /// &#9;↔ (self.old.reserver.own.left \< n) }
     /// ensures short { n ≤ self.old.reserver.own.left
-    ///     → length self.old.shared.start.pool < n → IsErrAnd result IsSpace }
-    /// ensures refused { IfErr result (IsUnserved self.old self.new n) }
-    ///
+    /// &#9;→ [length](crate::contracts::logic#length) self.old.shared.start.pool \< n → [IsErrAnd](crate::contracts::logic#IsErrAnd) result [IsSpace](crate::contracts::ent_total::faults#IsSpace) }
+    /// ensures refused { [IfErr](crate::contracts::logic#IfErr) result ([IsUnserved](crate::contracts::ent_total::sharing#IsUnserved) self.old self.new n) }
+    /// &#32;
     /// // It takes memory only if the list has no room, and if so many may be served.
-    /// ensures memory { IsErrOf result failed.Memory
-    ///     → vec_capacity handles.old < vec_len handles.old + n }
-    /// ensures room { (vec_len handles.old + n ≤ vec_capacity handles.old)
-    ///     ⊎ ¬ (MayBeServed self.old n) → vec_capacity handles.new ≡ vec_capacity handles.old }
-    /// ```
+    /// ensures memory { [IsErrOf](crate::contracts::logic#IsErrOf) result failed.Memory
+    /// &#9;→ [vec_capacity](crate::contracts::logic#vec_capacity) handles.old \< [vec_len](crate::contracts::logic#vec_len) handles.old + n }
+    /// ensures room { ([vec_len](crate::contracts::logic#vec_len) handles.old + n ≤ [vec_capacity](crate::contracts::logic#vec_capacity) handles.old)
+    /// &#9;⊎ ¬ ([MayBeServed](crate::contracts::ent_total::sharing#MayBeServed) self.old n) → [vec_capacity](crate::contracts::logic#vec_capacity) handles.new ≡ [vec_capacity](crate::contracts::logic#vec_capacity) handles.old }
+    /// </code>
     ///
     /// </details>
     #[inline]

@@ -61,11 +61,9 @@ impl Shared {
     ///
     /// <details><summary>Contract</summary>
     ///
-    /// In the words of the folder `specs/` of crate `ent_total`:
-    ///
-    /// ```text
-    /// ensures { result ≡ set.contains self.now.shared.start.live handle }
-    /// ```
+    /// <code style="display: block; tab-size: 4; white-space: pre-wrap">// In the words of [contracts](crate::contracts):
+    /// ensures { result ≡ [set.contains](crate::contracts::logic#FinSet.contains) self.now.shared.start.live handle }
+    /// </code>
     ///
     /// </details>
     #[must_use]
@@ -89,13 +87,11 @@ impl Shared {
     ///
     /// <details><summary>Contract</summary>
     ///
-    /// In the words of the folder `specs/` of crate `ent_total`:
-    ///
-    /// ```text
-    /// ensures living { set.from_list result ≡ self.now.shared.start.live }
-    /// ensures rising { AllPairs (λ g h. g.index < h.index) result }
-    /// ensures count { length result ≡ set.len self.now.shared.start.live }
-    /// ```
+    /// <code style="display: block; tab-size: 4; white-space: pre-wrap">// In the words of [contracts](crate::contracts):
+    /// ensures living { [set.from_list](crate::contracts::logic#FinSet.from_list) result ≡ self.now.shared.start.live }
+    /// ensures rising { [AllPairs](crate::contracts::logic#AllPairs) (λ g h. g.index \< h.index) result }
+    /// ensures count { [length](crate::contracts::logic#length) result ≡ [set.len](crate::contracts::logic#FinSet.len) self.now.shared.start.live }
+    /// </code>
     ///
     /// </details>
     #[must_use]
@@ -119,11 +115,9 @@ impl Shared {
     ///
     /// <details><summary>Contract</summary>
     ///
-    /// In the words of the folder `specs/` of crate `ent_total`:
-    ///
-    /// ```text
-    /// ensures { result ≡ set.len self.now.shared.start.live }
-    /// ```
+    /// <code style="display: block; tab-size: 4; white-space: pre-wrap">// In the words of [contracts](crate::contracts):
+    /// ensures { result ≡ [set.len](crate::contracts::logic#FinSet.len) self.now.shared.start.live }
+    /// </code>
     ///
     /// </details>
     #[must_use]
@@ -146,11 +140,9 @@ impl Shared {
     ///
     /// <details><summary>Contract</summary>
     ///
-    /// In the words of the folder `specs/` of crate `ent_total`:
-    ///
-    /// ```text
-    /// ensures { IsTrue result ↔ (set.len self.now.shared.start.live ≡ 0) }
-    /// ```
+    /// <code style="display: block; tab-size: 4; white-space: pre-wrap">// In the words of [contracts](crate::contracts):
+    /// ensures { [IsTrue](crate::contracts::logic#IsTrue) result ↔ ([set.len](crate::contracts::logic#FinSet.len) self.now.shared.start.live ≡ 0) }
+    /// </code>
     ///
     /// </details>
     #[must_use]
@@ -176,12 +168,10 @@ impl Shared {
     ///
     /// <details><summary>Contract</summary>
     ///
-    /// In the words of the folder `specs/` of crate `ent_total`:
-    ///
-    /// ```text
-    /// ensures value { result ≡ map.get self.now.shared.rows handle }
-    /// ensures alive { OnSome result (set.contains self.now.shared.start.live handle ≡ true) }
-    /// ```
+    /// <code style="display: block; tab-size: 4; white-space: pre-wrap">// In the words of [contracts](crate::contracts):
+    /// ensures value { result ≡ [map.get](crate::contracts::logic#FinMap.get) self.now.shared.rows handle }
+    /// ensures alive { [OnSome](crate::contracts::logic#OnSome) result ([set.contains](crate::contracts::logic#FinSet.contains) self.now.shared.start.live handle ≡ [true](crate::contracts::logic#true)) }
+    /// </code>
     ///
     /// </details>
     #[must_use]
@@ -207,11 +197,9 @@ impl Shared {
     ///
     /// <details><summary>Contract</summary>
     ///
-    /// In the words of the folder `specs/` of crate `ent_total`:
-    ///
-    /// ```text
+    /// <code style="display: block; tab-size: 4; white-space: pre-wrap">// In the words of [contracts](crate::contracts):
     /// ensures { result ≡ self.now.shared.count }
-    /// ```
+    /// </code>
     ///
     /// </details>
     #[must_use]
@@ -236,11 +224,9 @@ impl Shared {
     ///
     /// <details><summary>Contract</summary>
     ///
-    /// In the words of the folder `specs/` of crate `ent_total`:
-    ///
-    /// ```text
-    /// ensures { result ≡ length self.now.returned }
-    /// ```
+    /// <code style="display: block; tab-size: 4; white-space: pre-wrap">// In the words of [contracts](crate::contracts):
+    /// ensures { result ≡ [length](crate::contracts::logic#length) self.now.returned }
+    /// </code>
     ///
     /// </details>
     #[must_use]
@@ -272,17 +258,15 @@ impl Shared {
     ///
     /// <details><summary>Contract</summary>
     ///
-    /// In the words of the folder `specs/` of crate `ent_total`:
-    ///
-    /// ```text
-    /// ensures given { IfOk result (λ found. IfSome found (λ r.
-    ///     (r.number ≡ self.old.number) × (r.shared ≡ self.old.shared)
-    ///     × (self.old ≡ record self.new { returned = self.new.returned ++ r.reserver ∷ [] }))) }
-    /// ensures none { IfOk result (λ found. IfNone found
-    ///     ((self.old.returned ≡ []) × (self.new ≡ self.old))) }
-    /// ensures none_returned { (result ≡ Ok None) ↔ (self.old.returned ≡ []) }
-    /// ensures err { OnErr result (self.new ≡ self.old) }
-    /// ```
+    /// <code style="display: block; tab-size: 4; white-space: pre-wrap">// In the words of [contracts](crate::contracts):
+    /// ensures given { [IfOk](crate::contracts::logic#IfOk) result (λ found. [IfSome](crate::contracts::logic#IfSome) found (λ r.
+    /// &#9;(r.number ≡ self.old.number) × (r.shared ≡ self.old.shared)
+    /// &#9;× (self.old ≡ record self.new { returned = self.new.returned ++ r.reserver ∷ \[\] }))) }
+    /// ensures none { [IfOk](crate::contracts::logic#IfOk) result (λ found. [IfNone](crate::contracts::logic#IfNone) found
+    /// &#9;((self.old.returned ≡ \[\]) × (self.new ≡ self.old))) }
+    /// ensures none_returned { (result ≡ [Ok](crate::contracts::logic#Ok) [None](crate::contracts::logic#None)) ↔ (self.old.returned ≡ \[\]) }
+    /// ensures err { [OnErr](crate::contracts::logic#OnErr) result (self.new ≡ self.old) }
+    /// </code>
     ///
     /// </details>
     #[inline]

@@ -59,11 +59,9 @@ impl Stopped {
     ///
     /// <details><summary>Contract</summary>
     ///
-    /// In the words of the folder `specs/` of crate `ent_total`:
-    ///
-    /// ```text
+    /// <code style="display: block; tab-size: 4; white-space: pre-wrap">// In the words of [contracts](crate::contracts):
     /// ensures { result ≡ self.now.stop }
-    /// ```
+    /// </code>
     ///
     /// </details>
     #[must_use]
@@ -89,11 +87,9 @@ impl Stopped {
     ///
     /// <details><summary>Contract</summary>
     ///
-    /// In the words of the folder `specs/` of crate `ent_total`:
-    ///
-    /// ```text
+    /// <code style="display: block; tab-size: 4; white-space: pre-wrap">// In the words of [contracts](crate::contracts):
     /// ensures { result.now ≡ self.now.so_far }
-    /// ```
+    /// </code>
     ///
     /// </details>
     #[must_use]

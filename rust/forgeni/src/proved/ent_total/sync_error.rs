@@ -44,16 +44,18 @@ impl SyncError {
     ///         Err(stopped) => stopped.go_on(world).ok(),
     ///     }
     /// }
-    /// # assert!(apply(&mut World::new(), World::new().phase(1, |_, _| ()).unwrap().1).is_none());
+    ///
+    /// let mut world = World::new();
+    /// let ((), queues) = world.phase(1, |_open, _systems| ())?;
+    /// assert!(apply(&mut world, queues).is_some());
+    /// # Ok::<(), Box<dyn std::error::Error>>(())
     /// ```
     ///
     /// <details><summary>Contract</summary>
     ///
-    /// In the words of the folder `specs/` of crate `ent_total`:
-    ///
-    /// ```text
-    /// ensures { result ≡ parts_of self }
-    /// ```
+    /// <code style="display: block; tab-size: 4; white-space: pre-wrap">// In the words of [contracts](crate::contracts):
+    /// ensures { result ≡ [parts_of](crate::contracts::ent_total::applying#parts_of) self }
+    /// </code>
     ///
     /// </details>
     #[inline]

@@ -58,11 +58,9 @@ pub struct World {
 ///
 /// <details><summary>Contract</summary>
 ///
-/// In the words of the folder `specs/` of crate `ent_total`:
-///
-/// ```text
-/// ensures { result ≡ record { world = first_world limits; number = number; spawned = 0 } }
-/// ```
+/// <code style="display: block; tab-size: 4; white-space: pre-wrap">// In the words of [contracts](crate::contracts):
+/// ensures { result ≡ record { world = [first_world](crate::contracts::ent_world::world#first_world) limits; number = number; spawned = 0 } }
+/// </code>
 ///
 /// </details>
 #[inline]
@@ -100,28 +98,26 @@ impl World {
     ///
     /// <details><summary>Contract</summary>
     ///
-    /// In the words of the folder `specs/` of crate `ent_total`:
-    ///
-    /// ```text
-    /// ensures front { IfOk result (λ handle.
-    ///     slice_get self.old.world.allocator.pool 0 ≡ Some handle) }
-    /// ensures ok { IfOk result (λ handle. self.new.world
-    ///     ≡ after_spawn (next_birth self.old) (bundle_of components.now) handle self.old.world) }
-    /// ensures counted { OnOk result (self.new.spawned ≡ ordinal (self.old.spawned + 1)) }
+    /// <code style="display: block; tab-size: 4; white-space: pre-wrap">// In the words of [contracts](crate::contracts):
+    /// ensures front { [IfOk](crate::contracts::logic#IfOk) result (λ handle.
+    /// &#9;[slice_get](crate::contracts::logic#slice_get) self.old.world.allocator.pool 0 ≡ [Some](crate::contracts::logic#Some) handle) }
+    /// ensures ok { [IfOk](crate::contracts::logic#IfOk) result (λ handle. self.new.world
+    /// &#9;≡ [after_spawn](crate::contracts::ent_world::effects#after_spawn) (next_birth self.old) ([bundle_of](crate::contracts::ent_storage::bundle#bundle_of) components.now) handle self.old.world) }
+    /// ensures counted { [OnOk](crate::contracts::logic#OnOk) result (self.new.spawned ≡ [ordinal](crate::contracts::ent_world::sync#ordinal) (self.old.spawned + 1)) }
     /// ensures number { self.new.number ≡ self.old.number }
-    ///
+    /// &#32;
     /// // When it is refused, and what holds then.
-    /// ensures needs_flush { IsErrOf result AllocError.NeedsFlush
-    ///     ↔ (0 < self.old.world.allocator.asked) }
-    /// ensures space { IsErrOf result AllocError.Space
-    ///     → (self.old.world.allocator.asked ≡ 0) × (self.old.world.allocator.pool ≡ []) }
-    /// ensures full { (self.old.world.allocator.asked ≡ 0) × (self.old.world.allocator.pool ≡ [])
-    ///     → IsErrOf result AllocError.Space
-    ///     ⊎ (IsErrOf result AllocError.Memory × (4 < length (bundle_of components.now))) }
-    /// ensures memory { IsErrOf result AllocError.Memory
-    ///     → (top self.old.world.allocator ≡ 0) ⊎ (0 < length (bundle_of components.now)) }
-    /// ensures err { OnErr result (self.new ≡ self.old) }
-    /// ```
+    /// ensures needs_flush { [IsErrOf](crate::contracts::logic#IsErrOf) result AllocError.NeedsFlush
+    /// &#9;↔ (0 \< self.old.world.allocator.asked) }
+    /// ensures space { [IsErrOf](crate::contracts::logic#IsErrOf) result AllocError.Space
+    /// &#9;→ (self.old.world.allocator.asked ≡ 0) × (self.old.world.allocator.pool ≡ \[\]) }
+    /// ensures full { (self.old.world.allocator.asked ≡ 0) × (self.old.world.allocator.pool ≡ \[\])
+    /// &#9;→ [IsErrOf](crate::contracts::logic#IsErrOf) result AllocError.Space
+    /// &#9;⊎ ([IsErrOf](crate::contracts::logic#IsErrOf) result AllocError.Memory × (4 \< [length](crate::contracts::logic#length) ([bundle_of](crate::contracts::ent_storage::bundle#bundle_of) components.now))) }
+    /// ensures memory { [IsErrOf](crate::contracts::logic#IsErrOf) result AllocError.Memory
+    /// &#9;→ ([top](crate::contracts::ent_alloc::sequential#top) self.old.world.allocator ≡ 0) ⊎ (0 \< [length](crate::contracts::logic#length) ([bundle_of](crate::contracts::ent_storage::bundle#bundle_of) components.now)) }
+    /// ensures err { [OnErr](crate::contracts::logic#OnErr) result (self.new ≡ self.old) }
+    /// </code>
     ///
     /// </details>
     #[inline(always)]
@@ -159,23 +155,21 @@ impl World {
     ///
     /// <details><summary>Contract</summary>
     ///
-    /// In the words of the folder `specs/` of crate `ent_total`:
-    ///
-    /// ```text
-    /// ensures ok { OnOk result
-    ///     (self.new ≡ record self.old { world = after_despawn handle self.old.world }) }
-    /// ensures next { IfOk result (λ freed.
-    ///     freed.next ≡ next self.old.world.allocator.limits handle) }
-    /// ensures lived { OnOk result (lives_in self.old.world handle ≡ true) }
-    /// ensures needs_flush { IsErrOf result FreeError.NeedsFlush
-    ///     ↔ (0 < self.old.world.allocator.asked) }
-    /// ensures not_alive { IsErrOf result FreeError.NotAlive
-    ///     ↔ ((self.old.world.allocator.asked ≡ 0)
-    ///     × (lives_in self.old.world handle ≡ false)) }
-    /// ensures memory { IsErrOf result FreeError.Memory
-    ///     → handle.generation ≢ self.old.world.allocator.limits.generations }
-    /// ensures err { OnErr result (self.new ≡ self.old) }
-    /// ```
+    /// <code style="display: block; tab-size: 4; white-space: pre-wrap">// In the words of [contracts](crate::contracts):
+    /// ensures ok { [OnOk](crate::contracts::logic#OnOk) result
+    /// &#9;(self.new ≡ record self.old { world = [after_despawn](crate::contracts::ent_world::effects#after_despawn) handle self.old.world }) }
+    /// ensures next { [IfOk](crate::contracts::logic#IfOk) result (λ freed.
+    /// &#9;freed.next ≡ [next](crate::contracts::ent_alloc::sequential#next) self.old.world.allocator.limits handle) }
+    /// ensures lived { [OnOk](crate::contracts::logic#OnOk) result ([lives_in](crate::contracts::ent_world::world#lives_in) self.old.world handle ≡ [true](crate::contracts::logic#true)) }
+    /// ensures needs_flush { [IsErrOf](crate::contracts::logic#IsErrOf) result FreeError.NeedsFlush
+    /// &#9;↔ (0 \< self.old.world.allocator.asked) }
+    /// ensures not_alive { [IsErrOf](crate::contracts::logic#IsErrOf) result FreeError.NotAlive
+    /// &#9;↔ ((self.old.world.allocator.asked ≡ 0)
+    /// &#9;× ([lives_in](crate::contracts::ent_world::world#lives_in) self.old.world handle ≡ [false](crate::contracts::logic#false))) }
+    /// ensures memory { [IsErrOf](crate::contracts::logic#IsErrOf) result FreeError.Memory
+    /// &#9;→ handle.generation ≢ self.old.world.allocator.limits.generations }
+    /// ensures err { [OnErr](crate::contracts::logic#OnErr) result (self.new ≡ self.old) }
+    /// </code>
     ///
     /// </details>
     #[inline]
@@ -204,27 +198,25 @@ impl World {
     ///
     /// <details><summary>Contract</summary>
     ///
-    /// In the words of the folder `specs/` of crate `ent_total`:
-    ///
-    /// ```text
-    /// ensures front { IfOk result (λ handle.
-    ///     slice_get self.old.world.allocator.pool 0 ≡ Some handle) }
-    /// ensures ok { IfOk result (λ handle. self.new ≡ record self.old {
-    ///   world = after_spawn birth (bundle_of components.now) handle self.old.world;
+    /// <code style="display: block; tab-size: 4; white-space: pre-wrap">// In the words of [contracts](crate::contracts):
+    /// ensures front { [IfOk](crate::contracts::logic#IfOk) result (λ handle.
+    /// &#9;[slice_get](crate::contracts::logic#slice_get) self.old.world.allocator.pool 0 ≡ [Some](crate::contracts::logic#Some) handle) }
+    /// ensures ok { [IfOk](crate::contracts::logic#IfOk) result (λ handle. self.new ≡ record self.old {
+    /// &#32;&#32;world = [after_spawn](crate::contracts::ent_world::effects#after_spawn) birth ([bundle_of](crate::contracts::ent_storage::bundle#bundle_of) components.now) handle self.old.world;
     /// }) }
-    ///
+    /// &#32;
     /// // When it is refused, and what holds then.
-    /// ensures needs_flush { IsErrOf result AllocError.NeedsFlush
-    ///     ↔ (0 < self.old.world.allocator.asked) }
-    /// ensures space { IsErrOf result AllocError.Space
-    ///     → (self.old.world.allocator.asked ≡ 0) × (self.old.world.allocator.pool ≡ []) }
-    /// ensures full { (self.old.world.allocator.asked ≡ 0) × (self.old.world.allocator.pool ≡ [])
-    ///     → IsErrOf result AllocError.Space
-    ///     ⊎ (IsErrOf result AllocError.Memory × (4 < length (bundle_of components.now))) }
-    /// ensures memory { IsErrOf result AllocError.Memory
-    ///     → (top self.old.world.allocator ≡ 0) ⊎ (0 < length (bundle_of components.now)) }
-    /// ensures err { OnErr result (self.new ≡ self.old) }
-    /// ```
+    /// ensures needs_flush { [IsErrOf](crate::contracts::logic#IsErrOf) result AllocError.NeedsFlush
+    /// &#9;↔ (0 \< self.old.world.allocator.asked) }
+    /// ensures space { [IsErrOf](crate::contracts::logic#IsErrOf) result AllocError.Space
+    /// &#9;→ (self.old.world.allocator.asked ≡ 0) × (self.old.world.allocator.pool ≡ \[\]) }
+    /// ensures full { (self.old.world.allocator.asked ≡ 0) × (self.old.world.allocator.pool ≡ \[\])
+    /// &#9;→ [IsErrOf](crate::contracts::logic#IsErrOf) result AllocError.Space
+    /// &#9;⊎ ([IsErrOf](crate::contracts::logic#IsErrOf) result AllocError.Memory × (4 \< [length](crate::contracts::logic#length) ([bundle_of](crate::contracts::ent_storage::bundle#bundle_of) components.now))) }
+    /// ensures memory { [IsErrOf](crate::contracts::logic#IsErrOf) result AllocError.Memory
+    /// &#9;→ ([top](crate::contracts::ent_alloc::sequential#top) self.old.world.allocator ≡ 0) ⊎ (0 \< [length](crate::contracts::logic#length) ([bundle_of](crate::contracts::ent_storage::bundle#bundle_of) components.now)) }
+    /// ensures err { [OnErr](crate::contracts::logic#OnErr) result (self.new ≡ self.old) }
+    /// </code>
     ///
     /// </details>
     #[inline(always)]
@@ -264,17 +256,15 @@ impl World {
     ///
     /// <details><summary>Contract</summary>
     ///
-    /// In the words of the folder `specs/` of crate `ent_total`:
-    ///
-    /// ```text
-    /// ensures ok { OnOk result (self.new ≡ record self.old {
-    ///   world = after_births [] self.old.world;
-    ///   spawned = 0;
+    /// <code style="display: block; tab-size: 4; white-space: pre-wrap">// In the words of [contracts](crate::contracts):
+    /// ensures ok { [OnOk](crate::contracts::logic#OnOk) result (self.new ≡ record self.old {
+    /// &#32;&#32;world = [after_births](crate::contracts::ent_world::sync#after_births) \[\] self.old.world;
+    /// &#32;&#32;spawned = 0;
     /// }) }
-    /// ensures flushed { OnOk result (self.new.world.allocator.asked ≡ 0) }
-    /// ensures err { OnErr result (self.new ≡ self.old) }
-    /// ensures memory { OnErr result (0 < length self.old.world.allocator.taken) }
-    /// ```
+    /// ensures flushed { [OnOk](crate::contracts::logic#OnOk) result (self.new.world.allocator.asked ≡ 0) }
+    /// ensures err { [OnErr](crate::contracts::logic#OnErr) result (self.new ≡ self.old) }
+    /// ensures memory { [OnErr](crate::contracts::logic#OnErr) result (0 \< [length](crate::contracts::logic#length) self.old.world.allocator.taken) }
+    /// </code>
     ///
     /// </details>
     #[inline]
@@ -303,11 +293,9 @@ impl World {
     ///
     /// <details><summary>Contract</summary>
     ///
-    /// In the words of the folder `specs/` of crate `ent_total`:
-    ///
-    /// ```text
-    /// ensures { result ≡ value_of self.now.world.entities handle id }
-    /// ```
+    /// <code style="display: block; tab-size: 4; white-space: pre-wrap">// In the words of [contracts](crate::contracts):
+    /// ensures { result ≡ [value_of](crate::contracts::ent_storage::entity_map#value_of) self.now.world.entities handle id }
+    /// </code>
     ///
     /// </details>
     #[must_use]
@@ -332,11 +320,9 @@ impl World {
     ///
     /// <details><summary>Contract</summary>
     ///
-    /// In the words of the folder `specs/` of crate `ent_total`:
-    ///
-    /// ```text
-    /// ensures { result ≡ lives_in self.now.world handle }
-    /// ```
+    /// <code style="display: block; tab-size: 4; white-space: pre-wrap">// In the words of [contracts](crate::contracts):
+    /// ensures { result ≡ [lives_in](crate::contracts::ent_world::world#lives_in) self.now.world handle }
+    /// </code>
     ///
     /// </details>
     #[must_use]
@@ -359,11 +345,9 @@ impl World {
     ///
     /// <details><summary>Contract</summary>
     ///
-    /// In the words of the folder `specs/` of crate `ent_total`:
-    ///
-    /// ```text
-    /// ensures { result ≡ option_map map.entries (components_of self.now.world.entities handle) }
-    /// ```
+    /// <code style="display: block; tab-size: 4; white-space: pre-wrap">// In the words of [contracts](crate::contracts):
+    /// ensures { result ≡ [option_map](crate::contracts::logic#option_map) [map.entries](crate::contracts::logic#FinMap.entries) ([components_of](crate::contracts::ent_storage::entity_map#components_of) self.now.world.entities handle) }
+    /// </code>
     ///
     /// </details>
     #[must_use]
@@ -387,11 +371,9 @@ impl World {
     ///
     /// <details><summary>Contract</summary>
     ///
-    /// In the words of the folder `specs/` of crate `ent_total`:
-    ///
-    /// ```text
-    /// ensures { result ≡ birth_of self.now.world.entities handle }
-    /// ```
+    /// <code style="display: block; tab-size: 4; white-space: pre-wrap">// In the words of [contracts](crate::contracts):
+    /// ensures { result ≡ [birth_of](crate::contracts::ent_storage::entity_map#birth_of) self.now.world.entities handle }
+    /// </code>
     ///
     /// </details>
     #[must_use]
@@ -417,12 +399,10 @@ impl World {
     ///
     /// <details><summary>Contract</summary>
     ///
-    /// In the words of the folder `specs/` of crate `ent_total`:
-    ///
-    /// ```text
-    /// ensures ok { IfOk result (λ handles. ListsAll self.now.world.entities handles.items) }
-    /// ensures memory { OnErr result (self.now.world.entities ≢ map.empty) }
-    /// ```
+    /// <code style="display: block; tab-size: 4; white-space: pre-wrap">// In the words of [contracts](crate::contracts):
+    /// ensures ok { [IfOk](crate::contracts::logic#IfOk) result (λ handles. [ListsAll](crate::contracts::ent_storage::birth_order#ListsAll) self.now.world.entities handles.items) }
+    /// ensures memory { [OnErr](crate::contracts::logic#OnErr) result (self.now.world.entities ≢ [map.empty](crate::contracts::logic#FinMap.empty)) }
+    /// </code>
     ///
     /// </details>
     #[inline]
@@ -448,11 +428,9 @@ impl World {
     ///
     /// <details><summary>Contract</summary>
     ///
-    /// In the words of the folder `specs/` of crate `ent_total`:
-    ///
-    /// ```text
-    /// ensures { result ≡ map.len self.now.world.entities }
-    /// ```
+    /// <code style="display: block; tab-size: 4; white-space: pre-wrap">// In the words of [contracts](crate::contracts):
+    /// ensures { result ≡ [map.len](crate::contracts::logic#FinMap.len) self.now.world.entities }
+    /// </code>
     ///
     /// </details>
     #[must_use]
@@ -475,11 +453,9 @@ impl World {
     ///
     /// <details><summary>Contract</summary>
     ///
-    /// In the words of the folder `specs/` of crate `ent_total`:
-    ///
-    /// ```text
-    /// ensures { IsTrue result ↔ (self.now.world.entities ≡ map.empty) }
-    /// ```
+    /// <code style="display: block; tab-size: 4; white-space: pre-wrap">// In the words of [contracts](crate::contracts):
+    /// ensures { [IsTrue](crate::contracts::logic#IsTrue) result ↔ (self.now.world.entities ≡ [map.empty](crate::contracts::logic#FinMap.empty)) }
+    /// </code>
     ///
     /// </details>
     #[must_use]
@@ -505,11 +481,9 @@ impl World {
     ///
     /// <details><summary>Contract</summary>
     ///
-    /// In the words of the folder `specs/` of crate `ent_total`:
-    ///
-    /// ```text
+    /// <code style="display: block; tab-size: 4; white-space: pre-wrap">// In the words of [contracts](crate::contracts):
     /// ensures { result ≡ self.now.world.phase }
-    /// ```
+    /// </code>
     ///
     /// </details>
     #[must_use]
@@ -535,11 +509,9 @@ impl World {
     ///
     /// <details><summary>Contract</summary>
     ///
-    /// In the words of the folder `specs/` of crate `ent_total`:
-    ///
-    /// ```text
-    /// ensures { IsTrue result ↔ (0 < self.now.world.allocator.asked) }
-    /// ```
+    /// <code style="display: block; tab-size: 4; white-space: pre-wrap">// In the words of [contracts](crate::contracts):
+    /// ensures { [IsTrue](crate::contracts::logic#IsTrue) result ↔ (0 \< self.now.world.allocator.asked) }
+    /// </code>
     ///
     /// </details>
     #[must_use]
@@ -565,11 +537,9 @@ impl World {
     ///
     /// <details><summary>Contract</summary>
     ///
-    /// In the words of the folder `specs/` of crate `ent_total`:
-    ///
-    /// ```text
-    /// ensures { result ≡ retired self.now.world.allocator }
-    /// ```
+    /// <code style="display: block; tab-size: 4; white-space: pre-wrap">// In the words of [contracts](crate::contracts):
+    /// ensures { result ≡ [retired](crate::contracts::ent_alloc::sequential#retired) self.now.world.allocator }
+    /// </code>
     ///
     /// </details>
     #[must_use]

@@ -47,11 +47,9 @@ impl WorldInBlocks {
     ///
     /// <details><summary>Contract</summary>
     ///
-    /// In the words of the folder `specs/` of crate `ent_total`:
-    ///
-    /// ```text
+    /// <code style="display: block; tab-size: 4; white-space: pre-wrap">// In the words of [contracts](crate::contracts):
     /// ensures { result.now ≡ self.now.world.blocks }
-    /// ```
+    /// </code>
     ///
     /// </details>
     #[must_use]
@@ -76,12 +74,10 @@ impl WorldInBlocks {
     ///
     /// <details><summary>Contract</summary>
     ///
-    /// In the words of the folder `specs/` of crate `ent_total`:
-    ///
-    /// ```text
+    /// <code style="display: block; tab-size: 4; white-space: pre-wrap">// In the words of [contracts](crate::contracts):
     /// ensures phase { result.phase ≡ self.now.world.phase }
     /// ensures entities { result.entities ≡ self.now.world.entities }
-    /// ```
+    /// </code>
     ///
     /// </details>
     #[must_use]
@@ -118,32 +114,30 @@ impl WorldInBlocks {
     ///
     /// <details><summary>Contract</summary>
     ///
-    /// In the words of the folder `specs/` of crate `ent_total`:
-    ///
-    /// ```text
-    /// ensures after { let before = world_dealt self.world.blocks.phase self.world.phase
-    ///     self.world.entities in
-    ///     IfOk result (λ w. w.world ≡ world_after before (blocks_of reservers.items)) }
-    /// ensures world { IfOk result (λ w. IsWorld w.world
-    ///     × TakesAnew self.world.blocks.phase.start w.world.allocator) }
-    /// ensures same { IfOk result (λ w.
-    ///     (w.number ≡ self.of_world) × (w.spawned ≡ self.spawned)) }
-    ///
+    /// <code style="display: block; tab-size: 4; white-space: pre-wrap">// In the words of [contracts](crate::contracts):
+    /// ensures after { let before = [world_dealt](crate::contracts::ent_world::in_blocks#world_dealt) self.world.blocks.phase self.world.phase
+    /// &#9;self.world.entities in
+    /// &#9;[IfOk](crate::contracts::logic#IfOk) result (λ w. w.world ≡ [world_after](crate::contracts::ent_world::in_blocks#world_after) before ([blocks_of](crate::contracts::ent_blocks::blocks#blocks_of) reservers.items)) }
+    /// ensures world { [IfOk](crate::contracts::logic#IfOk) result (λ w. [IsWorld](crate::contracts::ent_world::world#IsWorld) w.world
+    /// &#9;× [TakesAnew](crate::contracts::ent_blocks::ending#TakesAnew) self.world.blocks.phase.start w.world.allocator) }
+    /// ensures same { [IfOk](crate::contracts::logic#IfOk) result (λ w.
+    /// &#9;(w.number ≡ self.of_world) × (w.spawned ≡ self.spawned)) }
+    /// &#32;
     /// // When it succeeds, when it is refused, and what stands then.
-    /// ensures all { OnOk result (AreOf self.world.blocks reservers.items
-    ///     × (map unused (blocks_of reservers.items) ≡ self.world.blocks.phase.blocks)) }
-    /// ensures refused { IsRefused self.world.blocks reservers.items
-    ///     (λ holds. IsErrAnd result (λ h. holds h.error)) }
-    /// ensures missing { IsErrAnd result (λ h.
-    ///     IsMissing (length self.world.blocks.phase.blocks - length reservers.items) h.error)
-    ///     ↔ (AreOf self.world.blocks reservers.items
-    ///     × (IsTrue (are_among self.world.blocks.phase.blocks (blocks_of reservers.items))
-    ///     × (length reservers.items < length self.world.blocks.phase.blocks))) }
-    /// ensures missing_count { IfErr result (λ h. (n : ℕ) → IsMissing n h.error
-    ///     → n ≡ length self.world.blocks.phase.blocks - length reservers.items) }
-    /// ensures handed_back { IfErr result (λ h. (h.value.0 ≡ self)
-    ///     × (h.value.1.items ≡ reservers.items)) }
-    /// ```
+    /// ensures all { [OnOk](crate::contracts::logic#OnOk) result ([AreOf](crate::contracts::ent_blocks::ending#AreOf) self.world.blocks reservers.items
+    /// &#9;× ([map](crate::contracts::logic#map) [unused](crate::contracts::ent_blocks::blocks#unused) ([blocks_of](crate::contracts::ent_blocks::blocks#blocks_of) reservers.items) ≡ self.world.blocks.phase.blocks)) }
+    /// ensures refused { [IsRefused](crate::contracts::ent_blocks::ending#IsRefused) self.world.blocks reservers.items
+    /// &#9;(λ holds. [IsErrAnd](crate::contracts::logic#IsErrAnd) result (λ h. holds h.error)) }
+    /// ensures missing { [IsErrAnd](crate::contracts::logic#IsErrAnd) result (λ h.
+    /// &#9;[IsMissing](crate::contracts::ent_blocks::faults#IsMissing) ([length](crate::contracts::logic#length) self.world.blocks.phase.blocks - [length](crate::contracts::logic#length) reservers.items) h.error)
+    /// &#9;↔ ([AreOf](crate::contracts::ent_blocks::ending#AreOf) self.world.blocks reservers.items
+    /// &#9;× ([IsTrue](crate::contracts::logic#IsTrue) ([are_among](crate::contracts::ent_blocks::blocks#are_among) self.world.blocks.phase.blocks ([blocks_of](crate::contracts::ent_blocks::blocks#blocks_of) reservers.items))
+    /// &#9;× ([length](crate::contracts::logic#length) reservers.items \< [length](crate::contracts::logic#length) self.world.blocks.phase.blocks))) }
+    /// ensures missing_count { [IfErr](crate::contracts::logic#IfErr) result (λ h. (n : [ℕ](crate::contracts::logic#ℕ)) → [IsMissing](crate::contracts::ent_blocks::faults#IsMissing) n h.error
+    /// &#9;→ n ≡ [length](crate::contracts::logic#length) self.world.blocks.phase.blocks - [length](crate::contracts::logic#length) reservers.items) }
+    /// ensures handed_back { [IfErr](crate::contracts::logic#IfErr) result (λ h. (h.value.0 ≡ self)
+    /// &#9;× (h.value.1.items ≡ reservers.items)) }
+    /// </code>
     ///
     /// </details>
     #[inline]
@@ -187,27 +181,25 @@ impl WorldInBlocks {
     ///
     /// <details><summary>Contract</summary>
     ///
-    /// In the words of the folder `specs/` of crate `ent_total`:
-    ///
-    /// ```text
-    /// ensures after { let before = world_dealt self.world.blocks.phase self.world.phase
-    ///     self.world.entities in
-    ///     IfOk result (λ w. w.world ≡ world_after before
-    ///     (accounted self.world.blocks.phase.blocks (blocks_of reservers.items))) }
-    /// ensures world { IfOk result (λ w. IsWorld w.world
-    ///     × TakesAnew self.world.blocks.phase.start w.world.allocator) }
-    /// ensures same { IfOk result (λ w.
-    ///     (w.number ≡ self.of_world) × (w.spawned ≡ self.spawned)) }
-    ///
+    /// <code style="display: block; tab-size: 4; white-space: pre-wrap">// In the words of [contracts](crate::contracts):
+    /// ensures after { let before = [world_dealt](crate::contracts::ent_world::in_blocks#world_dealt) self.world.blocks.phase self.world.phase
+    /// &#9;self.world.entities in
+    /// &#9;[IfOk](crate::contracts::logic#IfOk) result (λ w. w.world ≡ [world_after](crate::contracts::ent_world::in_blocks#world_after) before
+    /// &#9;([accounted](crate::contracts::ent_blocks::blocks#accounted) self.world.blocks.phase.blocks ([blocks_of](crate::contracts::ent_blocks::blocks#blocks_of) reservers.items))) }
+    /// ensures world { [IfOk](crate::contracts::logic#IfOk) result (λ w. [IsWorld](crate::contracts::ent_world::world#IsWorld) w.world
+    /// &#9;× [TakesAnew](crate::contracts::ent_blocks::ending#TakesAnew) self.world.blocks.phase.start w.world.allocator) }
+    /// ensures same { [IfOk](crate::contracts::logic#IfOk) result (λ w.
+    /// &#9;(w.number ≡ self.of_world) × (w.spawned ≡ self.spawned)) }
+    /// &#32;
     /// // When it succeeds, when it is refused, and what stands then.
-    /// ensures among { OnOk result (AreOf self.world.blocks reservers.items
-    ///     × IsTrue (are_among self.world.blocks.phase.blocks (blocks_of reservers.items))) }
-    /// ensures refused { IsRefused self.world.blocks reservers.items
-    ///     (λ holds. IsErrAnd result (λ h. holds h.error)) }
-    /// ensures no_missing { IfErr result (λ h. (n : ℕ) → ¬ (IsMissing n h.error)) }
-    /// ensures handed_back { IfErr result (λ h. (h.value.0 ≡ self)
-    ///     × (h.value.1.items ≡ reservers.items)) }
-    /// ```
+    /// ensures among { [OnOk](crate::contracts::logic#OnOk) result ([AreOf](crate::contracts::ent_blocks::ending#AreOf) self.world.blocks reservers.items
+    /// &#9;× [IsTrue](crate::contracts::logic#IsTrue) ([are_among](crate::contracts::ent_blocks::blocks#are_among) self.world.blocks.phase.blocks ([blocks_of](crate::contracts::ent_blocks::blocks#blocks_of) reservers.items))) }
+    /// ensures refused { [IsRefused](crate::contracts::ent_blocks::ending#IsRefused) self.world.blocks reservers.items
+    /// &#9;(λ holds. [IsErrAnd](crate::contracts::logic#IsErrAnd) result (λ h. holds h.error)) }
+    /// ensures no_missing { [IfErr](crate::contracts::logic#IfErr) result (λ h. (n : [ℕ](crate::contracts::logic#ℕ)) → ¬ ([IsMissing](crate::contracts::ent_blocks::faults#IsMissing) n h.error)) }
+    /// ensures handed_back { [IfErr](crate::contracts::logic#IfErr) result (λ h. (h.value.0 ≡ self)
+    /// &#9;× (h.value.1.items ≡ reservers.items)) }
+    /// </code>
     ///
     /// </details>
     #[inline]

@@ -33,23 +33,21 @@ pub struct WorldOpening {
 ///
 /// <details><summary>Contract</summary>
 ///
-/// In the words of the folder `specs/` of crate `ent_total`:
-///
-/// ```text
-/// ensures of_world { IfOk result (λ o. o.of_world ≡ world.number) }
-/// ensures spawned { IfOk result (λ o. o.spawned ≡ world.spawned) }
-/// ensures shared { IfOk result (λ o. (o.world.shared.start ≡ world.world.allocator)
-///     × (o.world.shared.count ≡ count)) }
-/// ensures world { IfOk result (λ o. (o.world.phase ≡ world.world.phase)
-///     × (o.world.entities ≡ world.world.entities)) }
-/// ensures may_return { IfOk result (λ o.
-///     records_of o.returned ≡ opened_records world.world.allocator 0 count) }
-/// ensures needs_flush { IsErrAnd result (λ h. h.error ≡ NeedsFlush)
-///     ↔ (0 < world.world.allocator.asked) }
-/// ensures no_count { IsErrAnd result (λ h. h.error ≡ Count)
-///     ↔ ((world.world.allocator.asked ≡ 0) × ((count ≡ 0) ⊎ (1024 < count))) }
-/// ensures handed_back { IfErr result (λ h. h.value ≡ world) }
-/// ```
+/// <code style="display: block; tab-size: 4; white-space: pre-wrap">// In the words of [contracts](crate::contracts):
+/// ensures of_world { [IfOk](crate::contracts::logic#IfOk) result (λ o. o.of_world ≡ world.number) }
+/// ensures spawned { [IfOk](crate::contracts::logic#IfOk) result (λ o. o.spawned ≡ world.spawned) }
+/// ensures shared { [IfOk](crate::contracts::logic#IfOk) result (λ o. (o.world.shared.start ≡ world.world.allocator)
+/// &#9;× (o.world.shared.count ≡ count)) }
+/// ensures world { [IfOk](crate::contracts::logic#IfOk) result (λ o. (o.world.phase ≡ world.world.phase)
+/// &#9;× (o.world.entities ≡ world.world.entities)) }
+/// ensures may_return { [IfOk](crate::contracts::logic#IfOk) result (λ o.
+/// &#9;[records_of](crate::contracts::ent_shared::phase#records_of) o.returned ≡ [opened_records](crate::contracts::ent_shared::record#opened_records) world.world.allocator 0 count) }
+/// ensures needs_flush { [IsErrAnd](crate::contracts::logic#IsErrAnd) result (λ h. h.error ≡ NeedsFlush)
+/// &#9;↔ (0 \< world.world.allocator.asked) }
+/// ensures no_count { [IsErrAnd](crate::contracts::logic#IsErrAnd) result (λ h. h.error ≡ Count)
+/// &#9;↔ ((world.world.allocator.asked ≡ 0) × ((count ≡ 0) ⊎ (1024 \< count))) }
+/// ensures handed_back { [IfErr](crate::contracts::logic#IfErr) result (λ h. h.value ≡ world) }
+/// </code>
 ///
 /// </details>
 #[inline]

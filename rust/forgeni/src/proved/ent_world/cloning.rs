@@ -18,14 +18,12 @@ impl World {
     ///
     /// <details><summary>Contract</summary>
     ///
-    /// In the words of the folder `specs/` of crate `ent_world`:
-    ///
-    /// ```text
-    /// ensures ok { IfOk result (λ clone. clone ≡ self.now) }
-    /// ensures world { IfOk result IsWorld }
-    /// ensures memory { OnErr result
-    ///     ((0 < self.now.allocator.made) ⊎ (self.now.entities ≢ map.empty)) }
-    /// ```
+    /// <code style="display: block; tab-size: 4; white-space: pre-wrap">// In the words of [contracts](crate::contracts):
+    /// ensures ok { [IfOk](crate::contracts::logic#IfOk) result (λ clone. clone ≡ self.now) }
+    /// ensures world { [IfOk](crate::contracts::logic#IfOk) result [IsWorld](crate::contracts::ent_world::world#IsWorld) }
+    /// ensures memory { [OnErr](crate::contracts::logic#OnErr) result
+    /// &#9;((0 \< self.now.allocator.made) ⊎ (self.now.entities ≢ [map.empty](crate::contracts::logic#FinMap.empty))) }
+    /// </code>
     ///
     /// </details>
     #[inline]
@@ -50,15 +48,13 @@ impl World {
     ///
     /// <details><summary>Contract</summary>
     ///
-    /// In the words of the folder `specs/` of crate `ent_world`:
-    ///
-    /// ```text
-    /// ensures ok { OnOk result (self.new ≡ source.now) }
-    /// ensures err { OnErr result (self.new ≡ self.old) }
-    /// ensures world { IsWorld self.new }
-    /// ensures memory { OnErr result
-    ///     ((0 < source.now.allocator.made) ⊎ (source.now.entities ≢ map.empty)) }
-    /// ```
+    /// <code style="display: block; tab-size: 4; white-space: pre-wrap">// In the words of [contracts](crate::contracts):
+    /// ensures ok { [OnOk](crate::contracts::logic#OnOk) result (self.new ≡ source.now) }
+    /// ensures err { [OnErr](crate::contracts::logic#OnErr) result (self.new ≡ self.old) }
+    /// ensures world { [IsWorld](crate::contracts::ent_world::world#IsWorld) self.new }
+    /// ensures memory { [OnErr](crate::contracts::logic#OnErr) result
+    /// &#9;((0 \< source.now.allocator.made) ⊎ (source.now.entities ≢ [map.empty](crate::contracts::logic#FinMap.empty))) }
+    /// </code>
     ///
     /// </details>
     #[inline]

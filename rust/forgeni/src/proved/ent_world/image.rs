@@ -210,19 +210,17 @@ impl World {
     ///
     /// <details><summary>Contract</summary>
     ///
-    /// In the words of the folder `specs/` of crate `ent_world`:
-    ///
-    /// ```text
-    /// ensures written { OnOk result (out.new.items ≡ out.old.items ++ image self.now) }
-    /// ensures has_image { OnOk result (HasImage self.now) }
-    /// ensures unchanged { OnErr result (out.new.items ≡ out.old.items) }
-    /// ensures capacity { OnErr result (vec_capacity out.new ≡ vec_capacity out.old) }
-    ///
+    /// <code style="display: block; tab-size: 4; white-space: pre-wrap">// In the words of [contracts](crate::contracts):
+    /// ensures written { [OnOk](crate::contracts::logic#OnOk) result (out.new.items ≡ out.old.items ++ [image](crate::contracts::ent_world::image#image) self.now) }
+    /// ensures has_image { [OnOk](crate::contracts::logic#OnOk) result ([HasImage](crate::contracts::ent_world::image#HasImage) self.now) }
+    /// ensures unchanged { [OnErr](crate::contracts::logic#OnErr) result (out.new.items ≡ out.old.items) }
+    /// ensures capacity { [OnErr](crate::contracts::logic#OnErr) result ([vec_capacity](crate::contracts::logic#vec_capacity) out.new ≡ [vec_capacity](crate::contracts::logic#vec_capacity) out.old) }
+    /// &#32;
     /// // Memory runs out only for a list that lacks room.
-    /// ensures memory { OnErr result
-    ///     (vec_capacity out.old < vec_len out.old + most self.now + extra) }
-    /// ensures room { OnOk result (vec_len out.new + extra ≤ vec_capacity out.new) }
-    /// ```
+    /// ensures memory { [OnErr](crate::contracts::logic#OnErr) result
+    /// &#9;([vec_capacity](crate::contracts::logic#vec_capacity) out.old \< [vec_len](crate::contracts::logic#vec_len) out.old + [most](crate::contracts::ent_world::image#most) self.now + extra) }
+    /// ensures room { [OnOk](crate::contracts::logic#OnOk) result ([vec_len](crate::contracts::logic#vec_len) out.new + extra ≤ [vec_capacity](crate::contracts::logic#vec_capacity) out.new) }
+    /// </code>
     ///
     /// </details>
     #[inline]
@@ -262,35 +260,33 @@ impl World {
     ///
     /// <details><summary>Contract</summary>
     ///
-    /// In the words of the folder `specs/` of crate `ent_world`:
-    ///
-    /// ```text
-    /// ensures found { IfOk result (λ w. image w ≡ bytes.now) }
-    /// ensures has_image { IfOk result HasImage }
-    ///
+    /// <code style="display: block; tab-size: 4; white-space: pre-wrap">// In the words of [contracts](crate::contracts):
+    /// ensures found { [IfOk](crate::contracts::logic#IfOk) result (λ w. [image](crate::contracts::ent_world::image#image) w ≡ bytes.now) }
+    /// ensures has_image { [IfOk](crate::contracts::logic#IfOk) result [HasImage](crate::contracts::ent_world::image#HasImage) }
+    /// &#32;
     /// // The image of a world is read as this world, unless memory runs out.
-    /// ensures exact { (w : WorldValue) → HasImage w → image w ≡ bytes.now
-    ///     → (result ≡ Ok w) ⊎ (result ≡ Err WorldImageFault.Memory) }
-    ///
+    /// ensures exact { (w : [WorldValue](crate::contracts::ent_world::world#World)) → [HasImage](crate::contracts::ent_world::image#HasImage) w → [image](crate::contracts::ent_world::image#image) w ≡ bytes.now
+    /// &#9;→ (result ≡ [Ok](crate::contracts::logic#Ok) w) ⊎ (result ≡ [Err](crate::contracts::logic#Err) WorldImageFault.Memory) }
+    /// &#32;
     /// // What is refused is the image of no world. It is refused for the first fault of the bytes.
-    /// ensures refused { IfErr result (λ fault. fault ≢ WorldImageFault.Memory
-    ///     → (w : WorldValue) → HasImage w → image w ≢ bytes.now) }
-    /// ensures fault { IfErr result (λ fault. fault ≢ WorldImageFault.Memory
-    ///     → HasFault bytes.now fault) }
-    ///
-    /// // Memory is asked for only after the allocator's part was found faultless up to its slots, and
+    /// ensures refused { [IfErr](crate::contracts::logic#IfErr) result (λ fault. fault ≢ WorldImageFault.Memory
+    /// &#9;→ (w : [WorldValue](crate::contracts::ent_world::world#World)) → [HasImage](crate::contracts::ent_world::image#HasImage) w → [image](crate::contracts::ent_world::image#image) w ≢ bytes.now) }
+    /// ensures fault { [IfErr](crate::contracts::logic#IfErr) result (λ fault. fault ≢ WorldImageFault.Memory
+    /// &#9;→ [HasFault](crate::contracts::ent_world::first_fault#HasFault) bytes.now fault) }
+    /// &#32;
+    /// // Memory is asked for only after the allocator\'s part was found faultless up to its slots, and
     /// // only for slots. There are no more slots and entities than the bytes have.
-    /// ensures memory { IfErr result (λ fault. fault ≡ WorldImageFault.Memory
-    ///     → MayTakeMemory bytes.now) }
-    /// ensures bound { IfOk result (λ w. least w ≤ length bytes.now) }
-    ///
+    /// ensures memory { [IfErr](crate::contracts::logic#IfErr) result (λ fault. fault ≡ WorldImageFault.Memory
+    /// &#9;→ [MayTakeMemory](crate::contracts::ent_world::first_fault#MayTakeMemory) bytes.now) }
+    /// ensures bound { [IfOk](crate::contracts::logic#IfOk) result (λ w. [least](crate::contracts::ent_world::image#least) w ≤ [length](crate::contracts::logic#length) bytes.now) }
+    /// &#32;
     /// // Of what was given before the image was written, nothing is given again, whatever calls come
     /// // after it is read. Nor is anything given twice by these.
-    /// ensures given_once { (w : WorldValue) (given : List HandleValue) → HasImage w
-    ///     → image w ≡ bytes.now → AreSpent w.allocator given → IfOk result (λ r.
-    ///     (steps : List Step) → IsRun r.allocator steps → AreSpent
-    ///     (after_run r.allocator steps) (given ++ given_in_run r.allocator steps)) }
-    /// ```
+    /// ensures given_once { (w : [WorldValue](crate::contracts::ent_world::world#World)) (given : [List](crate::contracts::logic#List) [HandleValue](crate::contracts::ent_handle::handle#Handle)) → [HasImage](crate::contracts::ent_world::image#HasImage) w
+    /// &#9;→ [image](crate::contracts::ent_world::image#image) w ≡ bytes.now → [AreSpent](crate::contracts::ent_alloc::spent#AreSpent) w.allocator given → [IfOk](crate::contracts::logic#IfOk) result (λ r.
+    /// &#9;(steps : [List](crate::contracts::logic#List) [Step](crate::contracts::ent_alloc::runs#Step)) → [IsRun](crate::contracts::ent_alloc::runs#IsRun) r.allocator steps → [AreSpent](crate::contracts::ent_alloc::spent#AreSpent)
+    /// &#9;([after_run](crate::contracts::ent_alloc::runs#after_run) r.allocator steps) (given ++ [given_in_run](crate::contracts::ent_alloc::runs#given_in_run) r.allocator steps)) }
+    /// </code>
     ///
     /// </details>
     #[inline]
@@ -308,25 +304,23 @@ impl World {
     ///
     /// <details><summary>Contract</summary>
     ///
-    /// In the words of the folder `specs/` of crate `ent_world`:
-    ///
-    /// ```text
-    /// ensures found { IfOk result (λ w. image w ≡ bytes.now) }
-    /// ensures has_image { IfOk result HasImage }
-    ///
+    /// <code style="display: block; tab-size: 4; white-space: pre-wrap">// In the words of [contracts](crate::contracts):
+    /// ensures found { [IfOk](crate::contracts::logic#IfOk) result (λ w. [image](crate::contracts::ent_world::image#image) w ≡ bytes.now) }
+    /// ensures has_image { [IfOk](crate::contracts::logic#IfOk) result [HasImage](crate::contracts::ent_world::image#HasImage) }
+    /// &#32;
     /// // A flush of what is read leaves no more slots than are allowed.
-    /// ensures within { IfOk result (λ w. slots_after_flush w.allocator ≤ most) }
-    ///
+    /// ensures within { [IfOk](crate::contracts::logic#IfOk) result (λ w. [slots_after_flush](crate::contracts::ent_alloc::within#slots_after_flush) w.allocator ≤ [most](crate::contracts::ent_world::image#most)) }
+    /// &#32;
     /// // The image of a world is read as this world, unless memory runs out, exactly if it has no more
     /// // slots then. All else is refused for a fault of the bytes, or for the bound if they have none.
-    /// ensures exact { (w : WorldValue) → HasImage w → image w ≡ bytes.now
-    ///     → (result ≡ within most w.allocator w) ⊎ (result ≡ Err WorldImageFault.Memory) }
-    /// ensures fault { IfErr result (λ fault. fault ≢ WorldImageFault.Memory
-    ///     → HasFault bytes.now fault ⊎ IsBeyond bytes.now most fault) }
-    /// ensures memory { IfErr result (λ fault. fault ≡ WorldImageFault.Memory
-    ///     → MayTakeMemory bytes.now) }
-    /// ensures bound { IfOk result (λ w. least w ≤ length bytes.now) }
-    /// ```
+    /// ensures exact { (w : [WorldValue](crate::contracts::ent_world::world#World)) → [HasImage](crate::contracts::ent_world::image#HasImage) w → [image](crate::contracts::ent_world::image#image) w ≡ bytes.now
+    /// &#9;→ (result ≡ [within](crate::contracts::ent_world::within#within) [most](crate::contracts::ent_world::image#most) w.allocator w) ⊎ (result ≡ [Err](crate::contracts::logic#Err) WorldImageFault.Memory) }
+    /// ensures fault { [IfErr](crate::contracts::logic#IfErr) result (λ fault. fault ≢ WorldImageFault.Memory
+    /// &#9;→ [HasFault](crate::contracts::ent_world::first_fault#HasFault) bytes.now fault ⊎ [IsBeyond](crate::contracts::ent_world::within#IsBeyond) bytes.now [most](crate::contracts::ent_world::image#most) fault) }
+    /// ensures memory { [IfErr](crate::contracts::logic#IfErr) result (λ fault. fault ≡ WorldImageFault.Memory
+    /// &#9;→ [MayTakeMemory](crate::contracts::ent_world::first_fault#MayTakeMemory) bytes.now) }
+    /// ensures bound { [IfOk](crate::contracts::logic#IfOk) result (λ w. [least](crate::contracts::ent_world::image#least) w ≤ [length](crate::contracts::logic#length) bytes.now) }
+    /// </code>
     ///
     /// </details>
     #[inline]
@@ -341,11 +335,9 @@ impl World {
     ///
     /// <details><summary>Contract</summary>
     ///
-    /// In the words of the folder `specs/` of crate `ent_world`:
-    ///
-    /// ```text
-    /// ensures { result ≡ slots_after_flush self.now.allocator }
-    /// ```
+    /// <code style="display: block; tab-size: 4; white-space: pre-wrap">// In the words of [contracts](crate::contracts):
+    /// ensures { result ≡ [slots_after_flush](crate::contracts::ent_alloc::within#slots_after_flush) self.now.allocator }
+    /// </code>
     ///
     /// </details>
     #[must_use]

@@ -34,11 +34,9 @@ impl OpenWorld {
     ///
     /// <details><summary>Contract</summary>
     ///
-    /// In the words of the folder `specs/` of crate `ent_world`:
-    ///
-    /// ```text
+    /// <code style="display: block; tab-size: 4; white-space: pre-wrap">// In the words of [contracts](crate::contracts):
     /// ensures { result.now ≡ self.now.shared }
-    /// ```
+    /// </code>
     ///
     /// </details>
     #[inline]
@@ -50,12 +48,10 @@ impl OpenWorld {
     ///
     /// <details><summary>Contract</summary>
     ///
-    /// In the words of the folder `specs/` of crate `ent_world`:
-    ///
-    /// ```text
+    /// <code style="display: block; tab-size: 4; white-space: pre-wrap">// In the words of [contracts](crate::contracts):
     /// ensures phase { result.phase ≡ self.now.phase }
     /// ensures entities { result.entities ≡ self.now.entities }
-    /// ```
+    /// </code>
     ///
     /// </details>
     #[inline]

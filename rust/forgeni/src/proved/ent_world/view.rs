@@ -52,11 +52,9 @@ impl<'a> View<'a> {
     ///
     /// <details><summary>Contract</summary>
     ///
-    /// In the words of the folder `specs/` of crate `ent_world`:
-    ///
-    /// ```text
-    /// ensures { result ≡ map.contains_key self.now.entities handle }
-    /// ```
+    /// <code style="display: block; tab-size: 4; white-space: pre-wrap">// In the words of [contracts](crate::contracts):
+    /// ensures { result ≡ [map.contains_key](crate::contracts::logic#FinMap.contains_key) self.now.entities handle }
+    /// </code>
     ///
     /// </details>
     #[inline]
@@ -81,11 +79,9 @@ impl<'a> View<'a> {
     ///
     /// <details><summary>Contract</summary>
     ///
-    /// In the words of the folder `specs/` of crate `ent_world`:
-    ///
-    /// ```text
-    /// ensures { result ≡ value_of self.now.entities handle id }
-    /// ```
+    /// <code style="display: block; tab-size: 4; white-space: pre-wrap">// In the words of [contracts](crate::contracts):
+    /// ensures { result ≡ [value_of](crate::contracts::ent_storage::entity_map#value_of) self.now.entities handle id }
+    /// </code>
     ///
     /// </details>
     #[inline]
@@ -110,11 +106,9 @@ impl<'a> View<'a> {
     ///
     /// <details><summary>Contract</summary>
     ///
-    /// In the words of the folder `specs/` of crate `ent_world`:
-    ///
-    /// ```text
-    /// ensures { result ≡ birth_of self.now.entities handle }
-    /// ```
+    /// <code style="display: block; tab-size: 4; white-space: pre-wrap">// In the words of [contracts](crate::contracts):
+    /// ensures { result ≡ [birth_of](crate::contracts::ent_storage::entity_map#birth_of) self.now.entities handle }
+    /// </code>
     ///
     /// </details>
     #[inline]
@@ -147,13 +141,11 @@ impl<'a> View<'a> {
     ///
     /// <details><summary>Contract</summary>
     ///
-    /// In the words of the folder `specs/` of crate `ent_world`:
-    ///
-    /// ```text
-    /// ensures ok { IfOk result (λ handles. ListsWith id self.now.entities handles.items) }
-    /// ensures memory { OnErr result
-    ///     ((handle : HandleValue) × IsSome (value_of self.now.entities handle id)) }
-    /// ```
+    /// <code style="display: block; tab-size: 4; white-space: pre-wrap">// In the words of [contracts](crate::contracts):
+    /// ensures ok { [IfOk](crate::contracts::logic#IfOk) result (λ handles. [ListsWith](crate::contracts::ent_storage::birth_order#ListsWith) id self.now.entities handles.items) }
+    /// ensures memory { [OnErr](crate::contracts::logic#OnErr) result
+    /// &#9;((handle : [HandleValue](crate::contracts::ent_handle::handle#Handle)) × [IsSome](crate::contracts::logic#IsSome) ([value_of](crate::contracts::ent_storage::entity_map#value_of) self.now.entities handle id)) }
+    /// </code>
     ///
     /// </details>
     #[inline]
@@ -182,12 +174,10 @@ impl<'a> View<'a> {
     ///
     /// <details><summary>Contract</summary>
     ///
-    /// In the words of the folder `specs/` of crate `ent_world`:
-    ///
-    /// ```text
-    /// ensures ok { IfOk result (λ handles. ListsAll self.now.entities handles.items) }
-    /// ensures memory { OnErr result (self.now.entities ≢ map.empty) }
-    /// ```
+    /// <code style="display: block; tab-size: 4; white-space: pre-wrap">// In the words of [contracts](crate::contracts):
+    /// ensures ok { [IfOk](crate::contracts::logic#IfOk) result (λ handles. [ListsAll](crate::contracts::ent_storage::birth_order#ListsAll) self.now.entities handles.items) }
+    /// ensures memory { [OnErr](crate::contracts::logic#OnErr) result (self.now.entities ≢ [map.empty](crate::contracts::logic#FinMap.empty)) }
+    /// </code>
     ///
     /// </details>
     #[inline]
@@ -214,17 +204,15 @@ impl<'a> View<'a> {
     ///
     /// <details><summary>Contract</summary>
     ///
-    /// In the words of the folder `specs/` of crate `ent_world`:
-    ///
-    /// ```text
-    /// ensures found { IfSome result (λ handle.
-    ///     birth_of self.now.entities handle ≡ Some birth) }
-    /// ensures least { IfSome result (λ handle. (other : HandleValue)
-    ///     → birth_of self.now.entities other ≡ Some birth
-    ///     → handle_cmp handle other ≢ Greater) }
-    /// ensures none { IfNone result ((handle : HandleValue)
-    ///     → birth_of self.now.entities handle ≢ Some birth) }
-    /// ```
+    /// <code style="display: block; tab-size: 4; white-space: pre-wrap">// In the words of [contracts](crate::contracts):
+    /// ensures found { [IfSome](crate::contracts::logic#IfSome) result (λ handle.
+    /// &#9;[birth_of](crate::contracts::ent_storage::entity_map#birth_of) self.now.entities handle ≡ [Some](crate::contracts::logic#Some) birth) }
+    /// ensures least { [IfSome](crate::contracts::logic#IfSome) result (λ handle. (other : [HandleValue](crate::contracts::ent_handle::handle#Handle))
+    /// &#9;→ [birth_of](crate::contracts::ent_storage::entity_map#birth_of) self.now.entities other ≡ [Some](crate::contracts::logic#Some) birth
+    /// &#9;→ [handle_cmp](crate::contracts::ent_handle::handle#handle_cmp) handle other ≢ Greater) }
+    /// ensures none { [IfNone](crate::contracts::logic#IfNone) result ((handle : [HandleValue](crate::contracts::ent_handle::handle#Handle))
+    /// &#9;→ [birth_of](crate::contracts::ent_storage::entity_map#birth_of) self.now.entities handle ≢ [Some](crate::contracts::logic#Some) birth) }
+    /// </code>
     ///
     /// </details>
     #[inline]
@@ -247,11 +235,9 @@ impl<'a> View<'a> {
     ///
     /// <details><summary>Contract</summary>
     ///
-    /// In the words of the folder `specs/` of crate `ent_world`:
-    ///
-    /// ```text
+    /// <code style="display: block; tab-size: 4; white-space: pre-wrap">// In the words of [contracts](crate::contracts):
     /// ensures { result ≡ self.now.phase }
-    /// ```
+    /// </code>
     ///
     /// </details>
     #[inline]

@@ -13,8 +13,9 @@ use crate::components::{Items, Storage};
 
 /// The living entities and their components.
 ///
-/// Contracts see it as the state of its allocator, the number of its phase, and a finite map from
-/// the handles of the living entities to their births and components (`specs/World`).
+/// Contracts see it as [a record](crate::contracts::ent_world::world#World): the state of its
+/// allocator, the number of its phase, and a finite map from the handles of the living entities to
+/// their births and components.
 pub struct World {
     pub(super) entities: Entities,
     pub(super) storage: Storage,
@@ -26,12 +27,10 @@ impl World {
     ///
     /// <details><summary>Contract</summary>
     ///
-    /// In the words of the folder `specs/` of crate `ent_world`:
-    ///
-    /// ```text
-    /// ensures value { result ≡ first_world limits }
-    /// ensures world { IsWorld result }
-    /// ```
+    /// <code style="display: block; tab-size: 4; white-space: pre-wrap">// In the words of [contracts](crate::contracts):
+    /// ensures value { result ≡ [first_world](crate::contracts::ent_world::world#first_world) limits }
+    /// ensures world { [IsWorld](crate::contracts::ent_world::world#IsWorld) result }
+    /// </code>
     ///
     /// </details>
     #[inline]
@@ -50,14 +49,12 @@ impl World {
     ///
     /// <details><summary>Contract</summary>
     ///
-    /// In the words of the folder `specs/` of crate `ent_world`:
-    ///
-    /// ```text
-    /// ensures value { result ≡ map.len self.now.entities }
-    ///
+    /// <code style="display: block; tab-size: 4; white-space: pre-wrap">// In the words of [contracts](crate::contracts):
+    /// ensures value { result ≡ [map.len](crate::contracts::logic#FinMap.len) self.now.entities }
+    /// &#32;
     /// // A part of what is true of every world, for who was lent one.
-    /// ensures living { AreLiving self.now.allocator self.now.entities }
-    /// ```
+    /// ensures living { [AreLiving](crate::contracts::ent_world::world#AreLiving) self.now.allocator self.now.entities }
+    /// </code>
     ///
     /// </details>
     #[inline]
@@ -69,11 +66,9 @@ impl World {
     ///
     /// <details><summary>Contract</summary>
     ///
-    /// In the words of the folder `specs/` of crate `ent_world`:
-    ///
-    /// ```text
-    /// ensures { IsTrue result ↔ (self.now.entities ≡ map.empty) }
-    /// ```
+    /// <code style="display: block; tab-size: 4; white-space: pre-wrap">// In the words of [contracts](crate::contracts):
+    /// ensures { [IsTrue](crate::contracts::logic#IsTrue) result ↔ (self.now.entities ≡ [map.empty](crate::contracts::logic#FinMap.empty)) }
+    /// </code>
     ///
     /// </details>
     #[inline]
@@ -85,11 +80,9 @@ impl World {
     ///
     /// <details><summary>Contract</summary>
     ///
-    /// In the words of the folder `specs/` of crate `ent_world`:
-    ///
-    /// ```text
-    /// ensures { result ≡ retired self.now.allocator }
-    /// ```
+    /// <code style="display: block; tab-size: 4; white-space: pre-wrap">// In the words of [contracts](crate::contracts):
+    /// ensures { result ≡ [retired](crate::contracts::ent_alloc::sequential#retired) self.now.allocator }
+    /// </code>
     ///
     /// </details>
     #[inline]
@@ -101,11 +94,9 @@ impl World {
     ///
     /// <details><summary>Contract</summary>
     ///
-    /// In the words of the folder `specs/` of crate `ent_world`:
-    ///
-    /// ```text
-    /// ensures { result ≡ lives_in self.now handle }
-    /// ```
+    /// <code style="display: block; tab-size: 4; white-space: pre-wrap">// In the words of [contracts](crate::contracts):
+    /// ensures { result ≡ [lives_in](crate::contracts::ent_world::world#lives_in) self.now handle }
+    /// </code>
     ///
     /// </details>
     #[inline]
@@ -120,11 +111,9 @@ impl World {
     ///
     /// <details><summary>Contract</summary>
     ///
-    /// In the words of the folder `specs/` of crate `ent_world`:
-    ///
-    /// ```text
-    /// ensures { result ≡ value_of self.now.entities handle id }
-    /// ```
+    /// <code style="display: block; tab-size: 4; white-space: pre-wrap">// In the words of [contracts](crate::contracts):
+    /// ensures { result ≡ [value_of](crate::contracts::ent_storage::entity_map#value_of) self.now.entities handle id }
+    /// </code>
     ///
     /// </details>
     #[inline]
@@ -137,11 +126,9 @@ impl World {
     ///
     /// <details><summary>Contract</summary>
     ///
-    /// In the words of the folder `specs/` of crate `ent_world`:
-    ///
-    /// ```text
-    /// ensures { result ≡ birth_of self.now.entities handle }
-    /// ```
+    /// <code style="display: block; tab-size: 4; white-space: pre-wrap">// In the words of [contracts](crate::contracts):
+    /// ensures { result ≡ [birth_of](crate::contracts::ent_storage::entity_map#birth_of) self.now.entities handle }
+    /// </code>
     ///
     /// </details>
     #[inline]
@@ -154,11 +141,9 @@ impl World {
     ///
     /// <details><summary>Contract</summary>
     ///
-    /// In the words of the folder `specs/` of crate `ent_world`:
-    ///
-    /// ```text
-    /// ensures { result ≡ option_map map.entries (components_of self.now.entities handle) }
-    /// ```
+    /// <code style="display: block; tab-size: 4; white-space: pre-wrap">// In the words of [contracts](crate::contracts):
+    /// ensures { result ≡ [option_map](crate::contracts::logic#option_map) [map.entries](crate::contracts::logic#FinMap.entries) ([components_of](crate::contracts::ent_storage::entity_map#components_of) self.now.entities handle) }
+    /// </code>
     ///
     /// </details>
     #[inline]
@@ -175,12 +160,10 @@ impl World {
     ///
     /// <details><summary>Contract</summary>
     ///
-    /// In the words of the folder `specs/` of crate `ent_world`:
-    ///
-    /// ```text
-    /// ensures ok { IfOk result (λ handles. ListsAll self.now.entities handles.items) }
-    /// ensures memory { OnErr result (self.now.entities ≢ map.empty) }
-    /// ```
+    /// <code style="display: block; tab-size: 4; white-space: pre-wrap">// In the words of [contracts](crate::contracts):
+    /// ensures ok { [IfOk](crate::contracts::logic#IfOk) result (λ handles. [ListsAll](crate::contracts::ent_storage::birth_order#ListsAll) self.now.entities handles.items) }
+    /// ensures memory { [OnErr](crate::contracts::logic#OnErr) result (self.now.entities ≢ [map.empty](crate::contracts::logic#FinMap.empty)) }
+    /// </code>
     ///
     /// </details>
     #[inline]
@@ -192,11 +175,9 @@ impl World {
     ///
     /// <details><summary>Contract</summary>
     ///
-    /// In the words of the folder `specs/` of crate `ent_world`:
-    ///
-    /// ```text
+    /// <code style="display: block; tab-size: 4; white-space: pre-wrap">// In the words of [contracts](crate::contracts):
     /// ensures { result ≡ self.now.phase }
-    /// ```
+    /// </code>
     ///
     /// </details>
     #[inline]
@@ -208,11 +189,9 @@ impl World {
     ///
     /// <details><summary>Contract</summary>
     ///
-    /// In the words of the folder `specs/` of crate `ent_world`:
-    ///
-    /// ```text
-    /// ensures { IsTrue result ↔ (0 < self.now.allocator.asked) }
-    /// ```
+    /// <code style="display: block; tab-size: 4; white-space: pre-wrap">// In the words of [contracts](crate::contracts):
+    /// ensures { [IsTrue](crate::contracts::logic#IsTrue) result ↔ (0 \< self.now.allocator.asked) }
+    /// </code>
     ///
     /// </details>
     #[inline]
@@ -229,15 +208,13 @@ impl World {
     ///
     /// <details><summary>Contract</summary>
     ///
-    /// In the words of the folder `specs/` of crate `ent_world`:
-    ///
-    /// ```text
-    /// ensures ok { OnOk result (self.new ≡ after_births [] self.old) }
-    /// ensures flushed { OnOk result (self.new.allocator.asked ≡ 0) }
-    /// ensures err { OnErr result (self.new ≡ self.old) }
-    /// ensures memory { OnErr result (0 < length self.old.allocator.taken) }
-    /// ensures world { IsWorld self.new }
-    /// ```
+    /// <code style="display: block; tab-size: 4; white-space: pre-wrap">// In the words of [contracts](crate::contracts):
+    /// ensures ok { [OnOk](crate::contracts::logic#OnOk) result (self.new ≡ [after_births](crate::contracts::ent_world::sync#after_births) \[\] self.old) }
+    /// ensures flushed { [OnOk](crate::contracts::logic#OnOk) result (self.new.allocator.asked ≡ 0) }
+    /// ensures err { [OnErr](crate::contracts::logic#OnErr) result (self.new ≡ self.old) }
+    /// ensures memory { [OnErr](crate::contracts::logic#OnErr) result (0 \< [length](crate::contracts::logic#length) self.old.allocator.taken) }
+    /// ensures world { [IsWorld](crate::contracts::ent_world::world#IsWorld) self.new }
+    /// </code>
     ///
     /// </details>
     #[inline]
@@ -262,22 +239,20 @@ impl World {
     ///
     /// <details><summary>Contract</summary>
     ///
-    /// In the words of the folder `specs/` of crate `ent_world`:
-    ///
-    /// ```text
-    /// ensures front { IfOk result (λ handle.
-    ///     slice_get self.old.allocator.pool 0 ≡ Some handle) }
-    /// ensures ok { IfOk result (λ handle.
-    ///     self.new ≡ after_spawn birth bundle.now handle self.old) }
-    /// ensures needs_flush { IsErrOf result AllocError.NeedsFlush
-    ///     ↔ (0 < self.old.allocator.asked) }
-    /// ensures space { IsErrOf result AllocError.Space
-    ///     ↔ ((self.old.allocator.asked ≡ 0) × (self.old.allocator.pool ≡ [])) }
-    /// ensures memory { IsErrOf result AllocError.Memory
-    ///     → (top self.old.allocator ≡ 0) ⊎ (0 < length bundle.now) }
-    /// ensures err { OnErr result (self.new ≡ self.old) }
-    /// ensures world { IsWorld self.new }
-    /// ```
+    /// <code style="display: block; tab-size: 4; white-space: pre-wrap">// In the words of [contracts](crate::contracts):
+    /// ensures front { [IfOk](crate::contracts::logic#IfOk) result (λ handle.
+    /// &#9;[slice_get](crate::contracts::logic#slice_get) self.old.allocator.pool 0 ≡ [Some](crate::contracts::logic#Some) handle) }
+    /// ensures ok { [IfOk](crate::contracts::logic#IfOk) result (λ handle.
+    /// &#9;self.new ≡ [after_spawn](crate::contracts::ent_world::effects#after_spawn) birth bundle.now handle self.old) }
+    /// ensures needs_flush { [IsErrOf](crate::contracts::logic#IsErrOf) result AllocError.NeedsFlush
+    /// &#9;↔ (0 \< self.old.allocator.asked) }
+    /// ensures space { [IsErrOf](crate::contracts::logic#IsErrOf) result AllocError.Space
+    /// &#9;↔ ((self.old.allocator.asked ≡ 0) × (self.old.allocator.pool ≡ \[\])) }
+    /// ensures memory { [IsErrOf](crate::contracts::logic#IsErrOf) result AllocError.Memory
+    /// &#9;→ ([top](crate::contracts::ent_alloc::sequential#top) self.old.allocator ≡ 0) ⊎ (0 \< [length](crate::contracts::logic#length) bundle.now) }
+    /// ensures err { [OnErr](crate::contracts::logic#OnErr) result (self.new ≡ self.old) }
+    /// ensures world { [IsWorld](crate::contracts::ent_world::world#IsWorld) self.new }
+    /// </code>
     ///
     /// </details>
     #[inline(always)]

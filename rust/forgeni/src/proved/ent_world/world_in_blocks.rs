@@ -36,11 +36,9 @@ impl World {
     ///
     /// <details><summary>Contract</summary>
     ///
-    /// In the words of the folder `specs/` of crate `ent_world`:
-    ///
-    /// ```text
+    /// <code style="display: block; tab-size: 4; white-space: pre-wrap">// In the words of [contracts](crate::contracts):
     /// ensures { result.world ≡ self }
-    /// ```
+    /// </code>
     ///
     /// </details>
     #[inline]
@@ -66,18 +64,16 @@ impl World {
     ///
     /// <details><summary>Contract</summary>
     ///
-    /// In the words of the folder `specs/` of crate `ent_world`:
-    ///
-    /// ```text
-    /// ensures start { IfOk result (λ d. world_dealt d.blocks d.phase d.entities ≡ self) }
-    /// ensures blocks { IfOk result (λ d. d.blocks.blocks
-    ///     ≡ blocks_from 0 (length self.allocator.pool) sizes.now) }
-    /// ensures needs_flush { IsErrWith result (λ refused. refused.1 ≡ failed.NeedsFlush)
-    ///     ↔ (0 < self.allocator.asked) }
-    /// ensures memory { IsErrWith result (λ refused. refused.1 ≡ failed.Memory)
-    ///     → 0 < length sizes.now }
-    /// ensures err { IfErr result (λ refused. refused.0 ≡ self) }
-    /// ```
+    /// <code style="display: block; tab-size: 4; white-space: pre-wrap">// In the words of [contracts](crate::contracts):
+    /// ensures start { [IfOk](crate::contracts::logic#IfOk) result (λ d. [world_dealt](crate::contracts::ent_world::in_blocks#world_dealt) d.blocks d.phase d.entities ≡ self) }
+    /// ensures blocks { [IfOk](crate::contracts::logic#IfOk) result (λ d. d.blocks.blocks
+    /// &#9;≡ [blocks_from](crate::contracts::ent_blocks::blocks#blocks_from) 0 ([length](crate::contracts::logic#length) self.allocator.pool) sizes.now) }
+    /// ensures needs_flush { [IsErrWith](crate::contracts::ent_blocks::faults#IsErrWith) result (λ refused. refused.1 ≡ failed.NeedsFlush)
+    /// &#9;↔ (0 \< self.allocator.asked) }
+    /// ensures memory { [IsErrWith](crate::contracts::ent_blocks::faults#IsErrWith) result (λ refused. refused.1 ≡ failed.Memory)
+    /// &#9;→ 0 \< [length](crate::contracts::logic#length) sizes.now }
+    /// ensures err { [IfErr](crate::contracts::logic#IfErr) result (λ refused. refused.0 ≡ self) }
+    /// </code>
     ///
     /// </details>
     #[inline]
@@ -101,19 +97,17 @@ impl PlacedWorld {
     ///
     /// <details><summary>Contract</summary>
     ///
-    /// In the words of the folder `specs/` of crate `ent_world`:
-    ///
-    /// ```text
-    /// ensures start { IfOk result (λ d. world_dealt d.blocks d.phase d.entities ≡ self.world) }
-    /// ensures rows { IfOk result (λ d. d.blocks.rows ≡ self.rows) }
-    /// ensures blocks { IfOk result (λ d. d.blocks.blocks
-    ///     ≡ blocks_from 0 (length self.world.allocator.pool) sizes.now) }
-    /// ensures needs_flush { IsErrWith result (λ refused. refused.1 ≡ failed.NeedsFlush)
-    ///     ↔ (0 < self.world.allocator.asked) }
-    /// ensures memory { IsErrWith result (λ refused. refused.1 ≡ failed.Memory)
-    ///     → 0 < length sizes.now }
-    /// ensures err { IfErr result (λ refused. refused.0 ≡ self.world) }
-    /// ```
+    /// <code style="display: block; tab-size: 4; white-space: pre-wrap">// In the words of [contracts](crate::contracts):
+    /// ensures start { [IfOk](crate::contracts::logic#IfOk) result (λ d. [world_dealt](crate::contracts::ent_world::in_blocks#world_dealt) d.blocks d.phase d.entities ≡ self.world) }
+    /// ensures rows { [IfOk](crate::contracts::logic#IfOk) result (λ d. d.blocks.rows ≡ self.rows) }
+    /// ensures blocks { [IfOk](crate::contracts::logic#IfOk) result (λ d. d.blocks.blocks
+    /// &#9;≡ [blocks_from](crate::contracts::ent_blocks::blocks#blocks_from) 0 ([length](crate::contracts::logic#length) self.world.allocator.pool) sizes.now) }
+    /// ensures needs_flush { [IsErrWith](crate::contracts::ent_blocks::faults#IsErrWith) result (λ refused. refused.1 ≡ failed.NeedsFlush)
+    /// &#9;↔ (0 \< self.world.allocator.asked) }
+    /// ensures memory { [IsErrWith](crate::contracts::ent_blocks::faults#IsErrWith) result (λ refused. refused.1 ≡ failed.Memory)
+    /// &#9;→ 0 \< [length](crate::contracts::logic#length) sizes.now }
+    /// ensures err { [IfErr](crate::contracts::logic#IfErr) result (λ refused. refused.0 ≡ self.world) }
+    /// </code>
     ///
     /// </details>
     #[inline]
@@ -200,11 +194,9 @@ impl WorldInBlocks {
     ///
     /// <details><summary>Contract</summary>
     ///
-    /// In the words of the folder `specs/` of crate `ent_world`:
-    ///
-    /// ```text
+    /// <code style="display: block; tab-size: 4; white-space: pre-wrap">// In the words of [contracts](crate::contracts):
     /// ensures { result.now ≡ self.now.blocks }
-    /// ```
+    /// </code>
     ///
     /// </details>
     #[inline]
@@ -216,12 +208,10 @@ impl WorldInBlocks {
     ///
     /// <details><summary>Contract</summary>
     ///
-    /// In the words of the folder `specs/` of crate `ent_world`:
-    ///
-    /// ```text
+    /// <code style="display: block; tab-size: 4; white-space: pre-wrap">// In the words of [contracts](crate::contracts):
     /// ensures phase { result.phase ≡ self.now.phase }
     /// ensures entities { result.entities ≡ self.now.entities }
-    /// ```
+    /// </code>
     ///
     /// </details>
     #[inline]
@@ -238,43 +228,41 @@ impl WorldInBlocks {
     ///
     /// <details><summary>Contract</summary>
     ///
-    /// In the words of the folder `specs/` of crate `ent_world`:
-    ///
-    /// ```text
-    /// ensures after { let before = world_dealt self.blocks.phase self.phase self.entities in
-    ///     IfOk result (λ w. w ≡ world_after before (blocks_of reservers.items)) }
-    /// ensures world { IfOk result IsWorld }
-    ///
+    /// <code style="display: block; tab-size: 4; white-space: pre-wrap">// In the words of [contracts](crate::contracts):
+    /// ensures after { let before = [world_dealt](crate::contracts::ent_world::in_blocks#world_dealt) self.blocks.phase self.phase self.entities in
+    /// &#9;[IfOk](crate::contracts::logic#IfOk) result (λ w. w ≡ [world_after](crate::contracts::ent_world::in_blocks#world_after) before ([blocks_of](crate::contracts::ent_blocks::blocks#blocks_of) reservers.items)) }
+    /// ensures world { [IfOk](crate::contracts::logic#IfOk) result [IsWorld](crate::contracts::ent_world::world#IsWorld) }
+    /// &#32;
     /// // No handle was given twice, and none was alive. A flush brings to life exactly what was
     /// // used.
-    /// ensures distinct { IfOk result (λ w. AllPairs (λ g h. g ≢ h) w.allocator.taken) }
-    /// ensures not_live { IfOk result (λ w.
-    ///     All (λ h. ¬ (IsLive self.blocks.phase.start h)) w.allocator.taken) }
-    /// ensures brings_to_life { IfOk result (λ w. (h : HandleValue) →
-    ///     IsLive (after_flush w.allocator) h
-    ///     ↔ (IsLive self.blocks.phase.start h ⊎ Contains w.allocator.taken h)) }
-    ///
+    /// ensures distinct { [IfOk](crate::contracts::logic#IfOk) result (λ w. [AllPairs](crate::contracts::logic#AllPairs) (λ g h. g ≢ h) w.allocator.taken) }
+    /// ensures not_live { [IfOk](crate::contracts::logic#IfOk) result (λ w.
+    /// &#9;[All](crate::contracts::logic#All) (λ h. ¬ ([IsLive](crate::contracts::ent_alloc::sound#IsLive) self.blocks.phase.start h)) w.allocator.taken) }
+    /// ensures brings_to_life { [IfOk](crate::contracts::logic#IfOk) result (λ w. (h : [HandleValue](crate::contracts::ent_handle::handle#Handle)) →
+    /// &#9;[IsLive](crate::contracts::ent_alloc::sound#IsLive) ([after_flush](crate::contracts::ent_alloc::sequential#after_flush) w.allocator) h
+    /// &#9;↔ ([IsLive](crate::contracts::ent_alloc::sound#IsLive) self.blocks.phase.start h ⊎ [Contains](crate::contracts::logic#Contains) w.allocator.taken h)) }
+    /// &#32;
     /// // When it succeeds, when it is refused, and what stands then.
-    /// ensures of { OnOk result (All (λ r. r.number ≡ self.blocks.number) reservers.items) }
-    /// ensures all { OnOk result
-    ///     (map unused (blocks_of reservers.items) ≡ self.blocks.phase.blocks) }
-    /// ensures other_phase { IsErrWith result (λ h. h.error ≡ unended.OtherPhase)
-    ///     ↔ ¬ (All (λ r. r.number ≡ self.blocks.number) reservers.items) }
-    /// ensures order { IsErrWith result (λ h. h.error ≡ unended.Order)
-    ///     ↔ (All (λ r. r.number ≡ self.blocks.number) reservers.items
-    ///     × ¬ (IsTrue (are_among self.blocks.phase.blocks (blocks_of reservers.items)))) }
-    /// ensures missing { IsErrWith result (λ h.
-    ///     IsMissing (length self.blocks.phase.blocks - length reservers.items) h.error)
-    ///     ↔ (All (λ r. r.number ≡ self.blocks.number) reservers.items
-    ///     × (IsTrue (are_among self.blocks.phase.blocks (blocks_of reservers.items))
-    ///     × (length reservers.items < length self.blocks.phase.blocks))) }
-    /// ensures missing_count { IfErr result (λ h. (n : ℕ) → IsMissing n h.error
-    ///     → n ≡ length self.blocks.phase.blocks - length reservers.items) }
-    /// ensures memory { IsErrWith result (λ h. h.error ≡ unended.Memory)
-    ///     → 0 < length self.blocks.phase.blocks }
-    /// ensures handed_back { IfErr result (λ h. (h.value.0 ≡ self)
-    ///     × (h.value.1.items ≡ reservers.items)) }
-    /// ```
+    /// ensures of { [OnOk](crate::contracts::logic#OnOk) result ([All](crate::contracts::logic#All) (λ r. r.number ≡ self.blocks.number) reservers.items) }
+    /// ensures all { [OnOk](crate::contracts::logic#OnOk) result
+    /// &#9;([map](crate::contracts::logic#map) [unused](crate::contracts::ent_blocks::blocks#unused) ([blocks_of](crate::contracts::ent_blocks::blocks#blocks_of) reservers.items) ≡ self.blocks.phase.blocks) }
+    /// ensures other_phase { [IsErrWith](crate::contracts::ent_blocks::faults#IsErrWith) result (λ h. h.error ≡ unended.OtherPhase)
+    /// &#9;↔ ¬ ([All](crate::contracts::logic#All) (λ r. r.number ≡ self.blocks.number) reservers.items) }
+    /// ensures order { [IsErrWith](crate::contracts::ent_blocks::faults#IsErrWith) result (λ h. h.error ≡ unended.Order)
+    /// &#9;↔ ([All](crate::contracts::logic#All) (λ r. r.number ≡ self.blocks.number) reservers.items
+    /// &#9;× ¬ ([IsTrue](crate::contracts::logic#IsTrue) ([are_among](crate::contracts::ent_blocks::blocks#are_among) self.blocks.phase.blocks ([blocks_of](crate::contracts::ent_blocks::blocks#blocks_of) reservers.items)))) }
+    /// ensures missing { [IsErrWith](crate::contracts::ent_blocks::faults#IsErrWith) result (λ h.
+    /// &#9;[IsMissing](crate::contracts::ent_blocks::faults#IsMissing) ([length](crate::contracts::logic#length) self.blocks.phase.blocks - [length](crate::contracts::logic#length) reservers.items) h.error)
+    /// &#9;↔ ([All](crate::contracts::logic#All) (λ r. r.number ≡ self.blocks.number) reservers.items
+    /// &#9;× ([IsTrue](crate::contracts::logic#IsTrue) ([are_among](crate::contracts::ent_blocks::blocks#are_among) self.blocks.phase.blocks ([blocks_of](crate::contracts::ent_blocks::blocks#blocks_of) reservers.items))
+    /// &#9;× ([length](crate::contracts::logic#length) reservers.items \< [length](crate::contracts::logic#length) self.blocks.phase.blocks))) }
+    /// ensures missing_count { [IfErr](crate::contracts::logic#IfErr) result (λ h. (n : [ℕ](crate::contracts::logic#ℕ)) → [IsMissing](crate::contracts::ent_blocks::faults#IsMissing) n h.error
+    /// &#9;→ n ≡ [length](crate::contracts::logic#length) self.blocks.phase.blocks - [length](crate::contracts::logic#length) reservers.items) }
+    /// ensures memory { [IsErrWith](crate::contracts::ent_blocks::faults#IsErrWith) result (λ h. h.error ≡ unended.Memory)
+    /// &#9;→ 0 \< [length](crate::contracts::logic#length) self.blocks.phase.blocks }
+    /// ensures handed_back { [IfErr](crate::contracts::logic#IfErr) result (λ h. (h.value.0 ≡ self)
+    /// &#9;× (h.value.1.items ≡ reservers.items)) }
+    /// </code>
     ///
     /// </details>
     #[inline]
@@ -318,37 +306,35 @@ impl WorldInBlocks {
     ///
     /// <details><summary>Contract</summary>
     ///
-    /// In the words of the folder `specs/` of crate `ent_world`:
-    ///
-    /// ```text
-    /// ensures after { let before = world_dealt self.blocks.phase self.phase self.entities in
-    ///     IfOk result (λ w. w ≡ world_after before
-    ///     (accounted self.blocks.phase.blocks (blocks_of reservers.items))) }
-    /// ensures world { IfOk result IsWorld }
-    ///
+    /// <code style="display: block; tab-size: 4; white-space: pre-wrap">// In the words of [contracts](crate::contracts):
+    /// ensures after { let before = [world_dealt](crate::contracts::ent_world::in_blocks#world_dealt) self.blocks.phase self.phase self.entities in
+    /// &#9;[IfOk](crate::contracts::logic#IfOk) result (λ w. w ≡ [world_after](crate::contracts::ent_world::in_blocks#world_after) before
+    /// &#9;([accounted](crate::contracts::ent_blocks::blocks#accounted) self.blocks.phase.blocks ([blocks_of](crate::contracts::ent_blocks::blocks#blocks_of) reservers.items))) }
+    /// ensures world { [IfOk](crate::contracts::logic#IfOk) result [IsWorld](crate::contracts::ent_world::world#IsWorld) }
+    /// &#32;
     /// // No handle is taken twice, and none was alive. A flush brings to life exactly these.
-    /// ensures distinct { IfOk result (λ w. AllPairs (λ g h. g ≢ h) w.allocator.taken) }
-    /// ensures not_live { IfOk result (λ w.
-    ///     All (λ h. ¬ (IsLive self.blocks.phase.start h)) w.allocator.taken) }
-    /// ensures brings_to_life { IfOk result (λ w. (h : HandleValue) →
-    ///     IsLive (after_flush w.allocator) h
-    ///     ↔ (IsLive self.blocks.phase.start h ⊎ Contains w.allocator.taken h)) }
-    ///
+    /// ensures distinct { [IfOk](crate::contracts::logic#IfOk) result (λ w. [AllPairs](crate::contracts::logic#AllPairs) (λ g h. g ≢ h) w.allocator.taken) }
+    /// ensures not_live { [IfOk](crate::contracts::logic#IfOk) result (λ w.
+    /// &#9;[All](crate::contracts::logic#All) (λ h. ¬ ([IsLive](crate::contracts::ent_alloc::sound#IsLive) self.blocks.phase.start h)) w.allocator.taken) }
+    /// ensures brings_to_life { [IfOk](crate::contracts::logic#IfOk) result (λ w. (h : [HandleValue](crate::contracts::ent_handle::handle#Handle)) →
+    /// &#9;[IsLive](crate::contracts::ent_alloc::sound#IsLive) ([after_flush](crate::contracts::ent_alloc::sequential#after_flush) w.allocator) h
+    /// &#9;↔ ([IsLive](crate::contracts::ent_alloc::sound#IsLive) self.blocks.phase.start h ⊎ [Contains](crate::contracts::logic#Contains) w.allocator.taken h)) }
+    /// &#32;
     /// // When it succeeds, when it is refused, and what stands then.
-    /// ensures of { OnOk result (All (λ r. r.number ≡ self.blocks.number) reservers.items) }
-    /// ensures among { OnOk result
-    ///     (IsTrue (are_among self.blocks.phase.blocks (blocks_of reservers.items))) }
-    /// ensures other_phase { IsErrWith result (λ h. h.error ≡ unended.OtherPhase)
-    ///     ↔ ¬ (All (λ r. r.number ≡ self.blocks.number) reservers.items) }
-    /// ensures order { IsErrWith result (λ h. h.error ≡ unended.Order)
-    ///     ↔ (All (λ r. r.number ≡ self.blocks.number) reservers.items
-    ///     × ¬ (IsTrue (are_among self.blocks.phase.blocks (blocks_of reservers.items)))) }
-    /// ensures no_missing { IfErr result (λ h. (n : ℕ) → ¬ (IsMissing n h.error)) }
-    /// ensures memory { IsErrWith result (λ h. h.error ≡ unended.Memory)
-    ///     → 0 < length self.blocks.phase.blocks }
-    /// ensures handed_back { IfErr result (λ h. (h.value.0 ≡ self)
-    ///     × (h.value.1.items ≡ reservers.items)) }
-    /// ```
+    /// ensures of { [OnOk](crate::contracts::logic#OnOk) result ([All](crate::contracts::logic#All) (λ r. r.number ≡ self.blocks.number) reservers.items) }
+    /// ensures among { [OnOk](crate::contracts::logic#OnOk) result
+    /// &#9;([IsTrue](crate::contracts::logic#IsTrue) ([are_among](crate::contracts::ent_blocks::blocks#are_among) self.blocks.phase.blocks ([blocks_of](crate::contracts::ent_blocks::blocks#blocks_of) reservers.items))) }
+    /// ensures other_phase { [IsErrWith](crate::contracts::ent_blocks::faults#IsErrWith) result (λ h. h.error ≡ unended.OtherPhase)
+    /// &#9;↔ ¬ ([All](crate::contracts::logic#All) (λ r. r.number ≡ self.blocks.number) reservers.items) }
+    /// ensures order { [IsErrWith](crate::contracts::ent_blocks::faults#IsErrWith) result (λ h. h.error ≡ unended.Order)
+    /// &#9;↔ ([All](crate::contracts::logic#All) (λ r. r.number ≡ self.blocks.number) reservers.items
+    /// &#9;× ¬ ([IsTrue](crate::contracts::logic#IsTrue) ([are_among](crate::contracts::ent_blocks::blocks#are_among) self.blocks.phase.blocks ([blocks_of](crate::contracts::ent_blocks::blocks#blocks_of) reservers.items)))) }
+    /// ensures no_missing { [IfErr](crate::contracts::logic#IfErr) result (λ h. (n : [ℕ](crate::contracts::logic#ℕ)) → ¬ ([IsMissing](crate::contracts::ent_blocks::faults#IsMissing) n h.error)) }
+    /// ensures memory { [IsErrWith](crate::contracts::ent_blocks::faults#IsErrWith) result (λ h. h.error ≡ unended.Memory)
+    /// &#9;→ 0 \< [length](crate::contracts::logic#length) self.blocks.phase.blocks }
+    /// ensures handed_back { [IfErr](crate::contracts::logic#IfErr) result (λ h. (h.value.0 ≡ self)
+    /// &#9;× (h.value.1.items ≡ reservers.items)) }
+    /// </code>
     ///
     /// </details>
     #[inline]

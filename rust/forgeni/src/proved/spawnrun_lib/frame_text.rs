@@ -116,16 +116,14 @@ fn append_frame(
 ///
 /// <details><summary>Contract</summary>
 ///
-/// In the words of the folder `specs/` of crate `spawnrun_lib`:
-///
-/// ```text
+/// <code style="display: block; tab-size: 4; white-space: pre-wrap">// In the words of [contracts](crate::contracts):
 /// ensures ok { OnOk result (out.new.items
-///     ≡ out.old.items ++ frame_text show number report.now.born.items report.now.faults.items) }
+/// &#9;≡ out.old.items ++ frame_text show number report.now.born.items report.now.faults.items) }
 /// ensures err { OnErr result (out.new.items ≡ out.old.items) }
-/// ensures full { OnErr result (vec_capacity out.old < vec_len out.old
-///     + length (frame_text show number report.now.born.items report.now.faults.items)) }
+/// ensures full { OnErr result (vec_capacity out.old \< vec_len out.old
+/// &#9;+ length (frame_text show number report.now.born.items report.now.faults.items)) }
 /// ensures capacity { vec_capacity out.old ≤ vec_capacity out.new }
-/// ```
+/// </code>
 ///
 /// </details>
 #[inline]

@@ -43,13 +43,11 @@ impl<'a, R: Clock, T: Sink> Teller<'a, R, T> {
     ///
     /// <details><summary>Contract</summary>
     ///
-    /// In the words of the folder `specs/` of crate `spawnrun_lib`:
-    ///
-    /// ```text
+    /// <code style="display: block; tab-size: 4; white-space: pre-wrap">// In the words of [contracts](crate::contracts):
     /// ensures terminal { result.terminal ≡ terminal }
     /// ensures unwanted { is_wanted ≡ false → result.last ≡ None }
     /// ensures shown { result.is_shown ≡ false }
-    /// ```
+    /// </code>
     ///
     /// </details>
     #[inline]

@@ -19,11 +19,9 @@ impl<'a> ScriptSystem<'a> {
     ///
     /// <details><summary>Contract</summary>
     ///
-    /// In the words of the folder `specs/` of crate `spawnrun_lib`:
-    ///
-    /// ```text
+    /// <code style="display: block; tab-size: 4; white-space: pre-wrap">// In the words of [contracts](crate::contracts):
     /// ensures { result ≡ system.now }
-    /// ```
+    /// </code>
     ///
     /// </details>
     #[inline]

@@ -32,11 +32,9 @@ use crate::kit::programs::time::Clock;
 ///
 /// <details><summary>Contract</summary>
 ///
-/// In the words of the folder `specs/` of crate `spawnrun_lib`:
-///
-/// ```text
+/// <code style="display: block; tab-size: 4; white-space: pre-wrap">// In the words of [contracts](crate::contracts):
 /// ensures { result ≤ 4 }
-/// ```
+/// </code>
 ///
 /// </details>
 #[inline]

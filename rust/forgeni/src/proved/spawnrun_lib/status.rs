@@ -31,11 +31,9 @@ impl Status {
     ///
     /// <details><summary>Contract</summary>
     ///
-    /// In the words of the folder `specs/` of crate `spawnrun_lib`:
-    ///
-    /// ```text
+    /// <code style="display: block; tab-size: 4; white-space: pre-wrap">// In the words of [contracts](crate::contracts):
     /// ensures { result ≡ exit_number self }
-    /// ```
+    /// </code>
     ///
     /// </details>
     #[inline]

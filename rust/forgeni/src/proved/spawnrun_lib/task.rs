@@ -212,15 +212,13 @@ fn run_of(options: &ArgMatches<'_>) -> Task
 ///
 /// <details><summary>Contract</summary>
 ///
-/// In the words of the folder `specs/` of crate `spawnrun_lib`:
-///
-/// ```text
+/// <code style="display: block; tab-size: 4; white-space: pre-wrap">// In the words of [contracts](crate::contracts):
 /// ensures asked { IfOk result (AsksFor (map S.text words.now)) }
-/// ensures taken { OnOk result (fault_of program (map S.text words.now) ≡ []) }
+/// ensures taken { OnOk result (fault_of program (map S.text words.now) ≡ \[\]) }
 /// ensures fault { IfErr result (IsFaultIn (map S.text words.now)) }
 /// ensures refused { IfErr result (λ fault.
-///     takes program (map S.text words.now) ≡ true → fault ≡ LineFault.Memory) }
-/// ```
+/// &#9;takes program (map S.text words.now) ≡ true → fault ≡ LineFault.Memory) }
+/// </code>
 ///
 /// </details>
 #[inline]

@@ -197,25 +197,23 @@ fn append_world(
 ///
 /// <details><summary>Contract</summary>
 ///
-/// In the words of the folder `specs/` of crate `spawnrun_lib`:
-///
-/// ```text
+/// <code style="display: block; tab-size: 4; white-space: pre-wrap">// In the words of [contracts](crate::contracts):
 /// ensures ok { OnOk result ((text : List ℕ)
-///     × IsWorldText (map string_bytes names.now) show world.now.entities text
-///     × (out.new.items ≡ out.old.items ++ text)) }
+/// &#9;× IsWorldText (map string_bytes names.now) show world.now.entities text
+/// &#9;× (out.new.items ≡ out.old.items ++ text)) }
 /// // There is no other such text.
 /// ensures only { OnOk result ((text : List ℕ)
-///     → IsWorldText (map string_bytes names.now) show world.now.entities text
-///     → out.new.items ≡ out.old.items ++ text) }
+/// &#9;→ IsWorldText (map string_bytes names.now) show world.now.entities text
+/// &#9;→ out.new.items ≡ out.old.items ++ text) }
 /// ensures err { OnErr result (out.new.items ≡ out.old.items) }
-///
+/// &#32;
 /// // Memory runs out only for the list of somebody, or for a text that lacks room.
 /// ensures full { (text : List ℕ)
-///     → IsWorldText (map string_bytes names.now) show world.now.entities text
-///     → OnErr result ((world.now.entities ≢ finite.empty)
-///     ⊎ (vec_capacity out.old < vec_len out.old + length text)) }
+/// &#9;→ IsWorldText (map string_bytes names.now) show world.now.entities text
+/// &#9;→ OnErr result ((world.now.entities ≢ finite.empty)
+/// &#9;⊎ (vec_capacity out.old \< vec_len out.old + length text)) }
 /// ensures capacity { vec_capacity out.old ≤ vec_capacity out.new }
-/// ```
+/// </code>
 ///
 /// </details>
 #[inline]

@@ -38,11 +38,9 @@ impl Checking {
     ///
     /// <details><summary>Contract</summary>
     ///
-    /// In the words of the folder `specs/` of crate `tracecheck`:
-    ///
-    /// ```text
-    /// ensures { HasTaken entities.allocator [] result }
-    /// ```
+    /// <code style="display: block; tab-size: 4; white-space: pre-wrap">// In the words of [contracts](crate::contracts):
+    /// ensures { HasTaken entities.allocator \[\] result }
+    /// </code>
     ///
     /// </details>
     #[inline]
@@ -58,11 +56,9 @@ impl Checking {
     ///
     /// <details><summary>Contract</summary>
     ///
-    /// In the words of the folder `specs/` of crate `tracecheck`:
-    ///
-    /// ```text
+    /// <code style="display: block; tab-size: 4; white-space: pre-wrap">// In the words of [contracts](crate::contracts):
     /// ensures { result ≡ self.now.lines }
-    /// ```
+    /// </code>
     ///
     /// </details>
     #[inline]
@@ -79,15 +75,13 @@ impl Checking {
     ///
     /// <details><summary>Contract</summary>
     ///
-    /// In the words of the folder `specs/` of crate `tracecheck`:
-    ///
-    /// ```text
+    /// <code style="display: block; tab-size: 4; white-space: pre-wrap">// In the words of [contracts](crate::contracts):
     /// ensures taken { IfOk result (λ next. (begin : Allocator) (texts : List (List ℕ))
-    ///     → HasTaken begin texts self → HasTaken begin (texts ++ text.now ∷ []) next) }
+    /// &#9;→ HasTaken begin texts self → HasTaken begin (texts ++ text.now ∷ \[\]) next) }
     /// ensures ends { IfErr result (λ end. (begin : Allocator)
-    ///     (texts after : List (List ℕ)) → HasTaken begin texts self
-    ///     → MayEnd begin (texts ++ text.now ∷ after) end) }
-    /// ```
+    /// &#9;(texts after : List (List ℕ)) → HasTaken begin texts self
+    /// &#9;→ MayEnd begin (texts ++ text.now ∷ after) end) }
+    /// </code>
     ///
     /// </details>
     #[inline]
@@ -157,12 +151,10 @@ impl Checking {
     ///
     /// <details><summary>Contract</summary>
     ///
-    /// In the words of the folder `specs/` of crate `tracecheck`:
-    ///
-    /// ```text
+    /// <code style="display: block; tab-size: 4; white-space: pre-wrap">// In the words of [contracts](crate::contracts):
     /// ensures { (begin : Allocator) (texts : List (List ℕ)) → HasTaken begin texts self
-    ///     → MayEnd begin texts result }
-    /// ```
+    /// &#9;→ MayEnd begin texts result }
+    /// </code>
     ///
     /// </details>
     #[inline]

@@ -148,15 +148,13 @@ fn beginning_of(options: &ArgMatches<'_>) -> Result<Beginning, LineFault>
 ///
 /// <details><summary>Contract</summary>
 ///
-/// In the words of the folder `specs/` of crate `tracecheck`:
-///
-/// ```text
+/// <code style="display: block; tab-size: 4; white-space: pre-wrap">// In the words of [contracts](crate::contracts):
 /// ensures asked { IfOk result (AsksFor (map S.text words.now)) }
-/// ensures taken { OnOk result (fault_in (map S.text words.now) ≡ []) }
+/// ensures taken { OnOk result (fault_in (map S.text words.now) ≡ \[\]) }
 /// ensures fault { IfErr result (IsFaultIn (map S.text words.now)) }
 /// ensures refused { IfErr result (λ fault.
-///     is_taken (map S.text words.now) ≡ true → fault ≡ LineFault.Memory) }
-/// ```
+/// &#9;is_taken (map S.text words.now) ≡ true → fault ≡ LineFault.Memory) }
+/// </code>
 ///
 /// </details>
 #[inline]
@@ -173,13 +171,11 @@ pub fn command_line<S: AsStr>(words: &[S]) -> Result<Beginning, LineFault> {
 ///
 /// <details><summary>Contract</summary>
 ///
-/// In the words of the folder `specs/` of crate `tracecheck`:
-///
-/// ```text
-/// ensures yes { result ≡ Ok true → fault_in (map S.text words.now) ≡ [] }
+/// <code style="display: block; tab-size: 4; white-space: pre-wrap">// In the words of [contracts](crate::contracts):
+/// ensures yes { result ≡ Ok true → fault_in (map S.text words.now) ≡ \[\] }
 /// ensures no { result ≡ Ok false → IsFaulty (map S.text words.now) }
 /// ensures taken { is_taken (map S.text words.now) ≡ true → result ≢ Ok false }
-/// ```
+/// </code>
 ///
 /// </details>
 #[inline]
@@ -200,14 +196,12 @@ pub fn ask_for_a_check<S: AsStr>(words: &[S]) -> Result<bool, AllocError> {
 ///
 /// <details><summary>Contract</summary>
 ///
-/// In the words of the folder `specs/` of crate `tracecheck`:
-///
-/// ```text
+/// <code style="display: block; tab-size: 4; white-space: pre-wrap">// In the words of [contracts](crate::contracts):
 /// ensures named { IfOk result (λ name. IfSome name (λ name.
-///     image_in (map S.text words.now) ≡ Some name.now)) }
+/// &#9;image_in (map S.text words.now) ≡ Some name.now)) }
 /// ensures none { result ≡ Ok None → IsFaulty (map S.text words.now)
-///     ⊎ (image_in (map S.text words.now) ≡ None) }
-/// ```
+/// &#9;⊎ (image_in (map S.text words.now) ≡ None) }
+/// </code>
 ///
 /// </details>
 #[inline]

@@ -55,15 +55,13 @@ fn entities_in(bytes: &[u8]) -> Result<Entities, Unread>
 ///
 /// <details><summary>Contract</summary>
 ///
-/// In the words of the folder `specs/` of crate `tracecheck`:
-///
-/// ```text
+/// <code style="display: block; tab-size: 4; white-space: pre-wrap">// In the words of [contracts](crate::contracts):
 /// ensures found { IfOk result (λ e. IfSome (M.remaining image.old) (λ bytes. IsImageOf bytes e)) }
 /// ensures unread { IfErr result (λ unread.
-///     IfSome (M.remaining image.old) (λ bytes. MayBeUnread bytes unread)) }
+/// &#9;IfSome (M.remaining image.old) (λ bytes. MayBeUnread bytes unread)) }
 /// ensures failed { result ≡ Err Device → M.failures image.new ≡ M.failures image.old + 1 }
 /// ensures unfailed { result ≢ Err Device → M.failures image.new ≡ M.failures image.old }
-/// ```
+/// </code>
 ///
 /// </details>
 #[inline]
@@ -84,11 +82,9 @@ pub fn read_entities<M: Source>(image: &mut M) -> Result<Entities, Unread> {
 ///
 /// <details><summary>Contract</summary>
 ///
-/// In the words of the folder `specs/` of crate `tracecheck`:
-///
-/// ```text
+/// <code style="display: block; tab-size: 4; white-space: pre-wrap">// In the words of [contracts](crate::contracts):
 /// ensures { IfOk result (λ text. text.items ≡ refused_image_text fault) }
-/// ```
+/// </code>
 ///
 /// </details>
 #[inline]

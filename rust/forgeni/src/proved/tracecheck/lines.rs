@@ -40,16 +40,14 @@ fn end_line(checking: Checking, pending: &mut Vec<u8>, bytes: &[u8]) -> Result<C
 ///
 /// <details><summary>Contract</summary>
 ///
-/// In the words of the folder `specs/` of crate `tracecheck`:
-///
-/// ```text
+/// <code style="display: block; tab-size: 4; white-space: pre-wrap">// In the words of [contracts](crate::contracts):
 /// ensures taken { IfOk result (λ next. (begin : Allocator) (text : List ℕ)
-///     → HasRead begin text checking pending.old.items
-///     → HasRead begin (text ++ piece.now) next pending.new.items) }
+/// &#9;→ HasRead begin text checking pending.old.items
+/// &#9;→ HasRead begin (text ++ piece.now) next pending.new.items) }
 /// ensures ends { IfErr result (λ end. (begin : Allocator) (text more : List ℕ)
-///     → HasRead begin text checking pending.old.items
-///     → MayEnd begin (lines_of (text ++ piece.now ++ more)) end) }
-/// ```
+/// &#9;→ HasRead begin text checking pending.old.items
+/// &#9;→ MayEnd begin (lines_of (text ++ piece.now ++ more)) end) }
+/// </code>
 ///
 /// </details>
 #[inline]
@@ -68,12 +66,10 @@ pub fn feed(checking: Checking, pending: &mut Vec<u8>, piece: &[u8]) -> Result<C
 ///
 /// <details><summary>Contract</summary>
 ///
-/// In the words of the folder `specs/` of crate `tracecheck`:
-///
-/// ```text
+/// <code style="display: block; tab-size: 4; white-space: pre-wrap">// In the words of [contracts](crate::contracts):
 /// ensures { (begin : Allocator) (text : List ℕ) → HasRead begin text checking pending.now
-///     → MayEnd begin (lines_of text) result }
-/// ```
+/// &#9;→ MayEnd begin (lines_of text) result }
+/// </code>
 ///
 /// </details>
 #[inline]

@@ -42,62 +42,60 @@ use std::io;
 ///
 /// <details><summary>Contract</summary>
 ///
-/// In the words of the folder `specs/` of crate `tracecheck`:
-///
-/// ```text
+/// <code style="display: block; tab-size: 4; white-space: pre-wrap">// In the words of [contracts](crate::contracts):
 /// ensures statuses { result ≤ 4 }
-///
+/// &#32;
 /// // The trace was compared from the beginning on that the words ask for.
 /// ensures agrees { result ≡ 0 → HasSaid (map S.text words.now) Status.Agrees
-///     (input.new ≡ input.old) (M.remaining image.old) (I.remaining input.old)
-///     (O.written output.old) (O.written output.new) }
+/// &#9;(input.new ≡ input.old) (M.remaining image.old) (I.remaining input.old)
+/// &#9;(O.written output.old) (O.written output.new) }
 /// ensures differs { result ≡ 1 → HasSaid (map S.text words.now) Status.Differs
-///     (input.new ≡ input.old) (M.remaining image.old) (I.remaining input.old)
-///     (O.written output.old) (O.written output.new) }
-///
+/// &#9;(input.new ≡ input.old) (M.remaining image.old) (I.remaining input.old)
+/// &#9;(O.written output.old) (O.written output.new) }
+/// &#32;
 /// // The two meanings of 2. Words that are a command line end so only for the text or the image.
 /// ensures refused { result ≡ 2 → IsFaulty (map S.text words.now)
-///     ⊎ HasSaid (map S.text words.now) Status.Refused
-///     (input.new ≡ input.old) (M.remaining image.old) (I.remaining input.old)
-///     (O.written output.old) (O.written output.new) }
+/// &#9;⊎ HasSaid (map S.text words.now) Status.Refused
+/// &#9;(input.new ≡ input.old) (M.remaining image.old) (I.remaining input.old)
+/// &#9;(O.written output.old) (O.written output.new) }
 /// ensures taken { is_taken (map S.text words.now) ≡ true → result ≡ 2
-///     → HasSaid (map S.text words.now) Status.Refused
-///     (input.new ≡ input.old) (M.remaining image.old) (I.remaining input.old)
-///     (O.written output.old) (O.written output.new) }
-///
+/// &#9;→ HasSaid (map S.text words.now) Status.Refused
+/// &#9;(input.new ≡ input.old) (M.remaining image.old) (I.remaining input.old)
+/// &#9;(O.written output.old) (O.written output.new) }
+/// &#32;
 /// // Words that are no command line, or ask for help, have no other status, but 3 for lack of
 /// // memory. No device is used for them.
 /// ensures faulty { IsFaulty (map S.text words.now) → result ≢ 3 → result ≡ 2 }
 /// ensures unused_image { IsFaulty (map S.text words.now) → image.new ≡ image.old }
 /// ensures unused_input { IsFaulty (map S.text words.now) → input.new ≡ input.old }
 /// ensures unused_output { IsFaulty (map S.text words.now) → output.new ≡ output.old }
-///
+/// &#32;
 /// ensures memory { result ≡ 3 → output.new ≡ output.old }
-///
+/// &#32;
 /// // One of the devices fails, and the image only if the words name one.
 /// ensures device { result ≡ 4 → M.failures image.new ≡ M.failures image.old → OneFails
-///     (I.failures input.old) (I.failures input.new)
-///     (O.failures output.old) (O.failures output.new) }
+/// &#9;(I.failures input.old) (I.failures input.new)
+/// &#9;(O.failures output.old) (O.failures output.new) }
 /// ensures image_failed { M.failures image.new ≢ M.failures image.old
-///     → (M.failures image.new ≡ M.failures image.old + 1) × (input.new ≡ input.old)
-///     × (output.new ≡ output.old) }
+/// &#9;→ (M.failures image.new ≡ M.failures image.old + 1) × (input.new ≡ input.old)
+/// &#9;× (output.new ≡ output.old) }
 /// ensures no_image { image_in (map S.text words.now) ≡ None → image.new ≡ image.old }
 /// ensures image_unfailed { result ≢ 4 → M.failures image.new ≡ M.failures image.old }
 /// ensures input_unfailed { result ≢ 4 → I.failures input.new ≡ I.failures input.old }
 /// ensures output_unfailed { result ≢ 4 → O.failures output.new ≡ O.failures output.old }
 /// ensures unread { I.failures input.new ≢ I.failures input.old → output.new ≡ output.old }
-///
+/// &#32;
 /// // What the error stream says.
 /// ensures quiet { result ≤ 1 → errors.new ≡ errors.old }
 /// ensures quiet_refused { is_taken (map S.text words.now) ≡ true → result ≡ 2
-///     → errors.new ≡ errors.old }
+/// &#9;→ errors.new ≡ errors.old }
 /// ensures memory_said { result ≡ 3 → E.failures errors.new ≡ E.failures errors.old
-///     → Appends (E.written errors.old) (E.written errors.new) (codes "memory\n") }
+/// &#9;→ Appends (E.written errors.old) (E.written errors.new) (codes \"memory\\n\") }
 /// ensures device_said { result ≡ 4 → E.failures errors.new ≡ E.failures errors.old
-///     → Appends (E.written errors.old) (E.written errors.new) (codes "device\n") }
-///
+/// &#9;→ Appends (E.written errors.old) (E.written errors.new) (codes \"device\\n\") }
+/// &#32;
 /// ensures untold { tells ≡ false → terminal.new ≡ terminal.old }
-/// ```
+/// </code>
 ///
 /// </details>
 #[inline]
@@ -175,11 +173,9 @@ fn execute_on<R: Files + AllocGlobal, I: Source, O: Sink, E: Sink, T: Sink>(
 ///
 /// <details><summary>Contract</summary>
 ///
-/// In the words of the folder `specs/` of crate `tracecheck`:
-///
-/// ```text
+/// <code style="display: block; tab-size: 4; white-space: pre-wrap">// In the words of [contracts](crate::contracts):
 /// ensures { result ≤ 4 }
-/// ```
+/// </code>
 ///
 /// </details>
 #[inline]

@@ -13,18 +13,16 @@ const STEP: u64 = 1_000_000;
 ///
 /// <details><summary>Contract</summary>
 ///
-/// In the words of the folder `specs/` of crate `tracecheck`:
-///
-/// ```text
+/// <code style="display: block; tab-size: 4; white-space: pre-wrap">// In the words of [contracts](crate::contracts):
 /// ensures unwanted { is_wanted ≡ false → terminal.new ≡ terminal.old }
 /// ensures early { lines / 1000000 ≤ told → terminal.new ≡ terminal.old }
-/// ensures said { is_wanted ≡ true → told < lines / 1000000
-///     → T.failures terminal.new ≡ T.failures terminal.old
-///     → Appends (T.written terminal.old) (T.written terminal.new)
-///     (millions_text (lines / 1000000)) }
-/// ensures once { is_wanted ≡ true → told < lines / 1000000 → result ≡ lines / 1000000 }
+/// ensures said { is_wanted ≡ true → told \< lines / 1000000
+/// &#9;→ T.failures terminal.new ≡ T.failures terminal.old
+/// &#9;→ Appends (T.written terminal.old) (T.written terminal.new)
+/// &#9;(millions_text (lines / 1000000)) }
+/// ensures once { is_wanted ≡ true → told \< lines / 1000000 → result ≡ lines / 1000000 }
 /// ensures kept { lines / 1000000 ≤ told → result ≡ told }
-/// ```
+/// </code>
 ///
 /// </details>
 #[inline]

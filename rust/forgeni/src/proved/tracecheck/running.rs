@@ -61,25 +61,23 @@ fn check<I: Source, T: Sink>(
 ///
 /// <details><summary>Contract</summary>
 ///
-/// In the words of the folder `specs/` of crate `tracecheck`:
-///
-/// ```text
+/// <code style="display: block; tab-size: 4; white-space: pre-wrap">// In the words of [contracts](crate::contracts):
 /// // What was found is so, and is what was written.
 /// ensures said { result ≢ Status.Memory → result ≢ Status.Device
-///     → Writes (IsSaidOf entities.allocator result)
-///     (I.remaining input.old) (O.written output.old) (O.written output.new) }
+/// &#9;→ Writes (IsSaidOf entities.allocator result)
+/// &#9;(I.remaining input.old) (O.written output.old) (O.written output.new) }
 /// ensures memory { result ≡ Status.Memory → output.new ≡ output.old }
-///
+/// &#32;
 /// // The failures of the two devices.
 /// ensures device { result ≡ Status.Device → OneFails
-///     (I.failures input.old) (I.failures input.new)
-///     (O.failures output.old) (O.failures output.new) }
+/// &#9;(I.failures input.old) (I.failures input.new)
+/// &#9;(O.failures output.old) (O.failures output.new) }
 /// ensures input_unfailed { result ≢ Status.Device → I.failures input.new ≡ I.failures input.old }
 /// ensures output_unfailed { result ≢ Status.Device
-///     → O.failures output.new ≡ O.failures output.old }
+/// &#9;→ O.failures output.new ≡ O.failures output.old }
 /// ensures unread { I.failures input.new ≢ I.failures input.old → output.new ≡ output.old }
 /// ensures untold { tells ≡ false → terminal.new ≡ terminal.old }
-/// ```
+/// </code>
 ///
 /// </details>
 #[inline]
@@ -144,29 +142,27 @@ fn check_from<M: Source, I: Source, O: Sink, T: Sink>(
 ///
 /// <details><summary>Contract</summary>
 ///
-/// In the words of the folder `specs/` of crate `tracecheck`:
-///
-/// ```text
+/// <code style="display: block; tab-size: 4; white-space: pre-wrap">// In the words of [contracts](crate::contracts):
 /// ensures said { result ≢ Status.Memory → result ≢ Status.Device
-///     → HasSaidOf begin result (input.new ≡ input.old) (M.remaining image.old)
-///     (I.remaining input.old) (O.written output.old) (O.written output.new) }
+/// &#9;→ HasSaidOf begin result (input.new ≡ input.old) (M.remaining image.old)
+/// &#9;(I.remaining input.old) (O.written output.old) (O.written output.new) }
 /// ensures memory { result ≡ Status.Memory → output.new ≡ output.old }
 /// ensures no_image { begin ≢ Beginning.Image → image.new ≡ image.old }
-///
+/// &#32;
 /// // The failures of the three devices.
 /// ensures device { result ≡ Status.Device → M.failures image.new ≡ M.failures image.old → OneFails
-///     (I.failures input.old) (I.failures input.new)
-///     (O.failures output.old) (O.failures output.new) }
+/// &#9;(I.failures input.old) (I.failures input.new)
+/// &#9;(O.failures output.old) (O.failures output.new) }
 /// ensures image_unfailed { result ≢ Status.Device → M.failures image.new ≡ M.failures image.old }
 /// ensures input_unfailed { result ≢ Status.Device → I.failures input.new ≡ I.failures input.old }
 /// ensures output_unfailed { result ≢ Status.Device
-///     → O.failures output.new ≡ O.failures output.old }
+/// &#9;→ O.failures output.new ≡ O.failures output.old }
 /// ensures image_failed { M.failures image.new ≢ M.failures image.old
-///     → (M.failures image.new ≡ M.failures image.old + 1) × (input.new ≡ input.old)
-///     × (output.new ≡ output.old) }
+/// &#9;→ (M.failures image.new ≡ M.failures image.old + 1) × (input.new ≡ input.old)
+/// &#9;× (output.new ≡ output.old) }
 /// ensures unread { I.failures input.new ≢ I.failures input.old → output.new ≡ output.old }
 /// ensures untold { tells ≡ false → terminal.new ≡ terminal.old }
-/// ```
+/// </code>
 ///
 /// </details>
 #[inline]

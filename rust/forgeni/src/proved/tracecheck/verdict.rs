@@ -45,11 +45,9 @@ impl Refusal {
     ///
     /// <details><summary>Contract</summary>
     ///
-    /// In the words of the folder `specs/` of crate `tracecheck`:
-    ///
-    /// ```text
+    /// <code style="display: block; tab-size: 4; white-space: pre-wrap">// In the words of [contracts](crate::contracts):
     /// ensures { result.now ≡ refusal_text self }
-    /// ```
+    /// </code>
     ///
     /// </details>
     #[inline]
@@ -70,11 +68,9 @@ impl Verdict {
     ///
     /// <details><summary>Contract</summary>
     ///
-    /// In the words of the folder `specs/` of crate `tracecheck`:
-    ///
-    /// ```text
+    /// <code style="display: block; tab-size: 4; white-space: pre-wrap">// In the words of [contracts](crate::contracts):
     /// ensures { IfOk result (λ text. text.items ≡ verdict_text self.now) }
-    /// ```
+    /// </code>
     ///
     /// </details>
     #[inline]

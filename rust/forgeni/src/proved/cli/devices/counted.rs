@@ -19,12 +19,10 @@ impl<T> Counted<T> {
     ///
     /// <details><summary>Contract</summary>
     ///
-    /// In the words of the folder `specs/` of crate `cli`:
-    ///
-    /// ```text
+    /// <code style="display: block; tab-size: 4; white-space: pre-wrap">// In the words of [contracts](crate::contracts):
     /// ensures device { device_of result ≡ device }
     /// ensures failures { failures_of result ≡ 0 }
-    /// ```
+    /// </code>
     ///
     /// </details>
     #[inline]

@@ -18,18 +18,16 @@ pub trait Source {
     ///
     /// <details><summary>Contract</summary>
     ///
-    /// In the words of the folder `specs/` of crate `cli`:
-    ///
-    /// ```text
+    /// <code style="display: block; tab-size: 4; white-space: pre-wrap">// In the words of [contracts](crate::contracts):
     /// ensures within { IfOk result (λ count. count ≤ length buffer.new) }
     /// ensures bytes { IfOk result (λ count.
-    ///     Consumes (remaining self.old) (remaining self.new) (take count buffer.new)) }
+    /// &#9;Consumes (remaining self.old) (remaining self.new) (take count buffer.new)) }
     /// ensures end { IfOk result (λ count.
-    ///     count ≡ 0 → 0 < length buffer.new → IsAtEnd (remaining self.new)) }
+    /// &#9;count ≡ 0 → 0 \< length buffer.new → IsAtEnd (remaining self.new)) }
     /// ensures taken { OnOk result (failures self.new ≡ failures self.old) }
     /// ensures kept { OnErr result (KeepsIfTold (remaining self.old) (remaining self.new)) }
     /// ensures failed { OnErr result (failures self.new ≡ failures self.old + 1) }
-    /// ```
+    /// </code>
     ///
     /// </details>
     fn take(&mut self, buffer: &mut [u8]) -> Result<usize, Failed>;
@@ -45,13 +43,11 @@ pub trait Sink {
     ///
     /// <details><summary>Contract</summary>
     ///
-    /// In the words of the folder `specs/` of crate `cli`:
-    ///
-    /// ```text
+    /// <code style="display: block; tab-size: 4; white-space: pre-wrap">// In the words of [contracts](crate::contracts):
     /// ensures bytes { OnOk result (Appends (written self.old) (written self.new) piece.now) }
     /// ensures put { OnOk result (failures self.new ≡ failures self.old) }
     /// ensures failed { OnErr result (failures self.new ≡ failures self.old + 1) }
-    /// ```
+    /// </code>
     ///
     /// </details>
     fn put(&mut self, piece: &[u8]) -> Result<(), Failed>;

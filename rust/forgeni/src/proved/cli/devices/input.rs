@@ -48,27 +48,25 @@ impl From<AllocError> for InputFault {
 ///
 /// <details><summary>Contract</summary>
 ///
-/// In the words of the folder `specs/` of crate `cli`:
-///
-/// ```text
+/// <code style="display: block; tab-size: 4; white-space: pre-wrap">// In the words of [contracts](crate::contracts):
 /// ensures whole { IfOk result (λ bytes.
-///     IfSome (S.remaining source.old) (λ all. bytes.items ≡ all)) }
+/// &#9;IfSome (S.remaining source.old) (λ all. bytes.items ≡ all)) }
 /// ensures taken { IfOk result (λ bytes.
-///     Consumes (S.remaining source.old) (S.remaining source.new) bytes.items) }
+/// &#9;Consumes (S.remaining source.old) (S.remaining source.new) bytes.items) }
 /// ensures end { OnOk result (IsAtEnd (S.remaining source.new)) }
 /// ensures within { IfOk result (λ bytes. vec_len bytes ≤ limit) }
-///
+/// &#32;
 /// ensures too_long { result ≡ Err TooLong
-///     → IfSome (S.remaining source.old) (λ all. limit < length all) }
+/// &#9;→ IfSome (S.remaining source.old) (λ all. limit \< length all) }
 /// ensures stops { result ≡ Err TooLong
-///     → Takes (S.remaining source.old) (S.remaining source.new) (limit + 1) }
+/// &#9;→ Takes (S.remaining source.old) (S.remaining source.new) (limit + 1) }
 /// ensures at_most { result ≢ Err Device
-///     → TakesAtMost (S.remaining source.old) (S.remaining source.new) (limit + 1) }
-///
+/// &#9;→ TakesAtMost (S.remaining source.old) (S.remaining source.new) (limit + 1) }
+/// &#32;
 /// ensures failed { result ≡ Err Device
-///     → S.failures source.new ≡ S.failures source.old + 1 }
+/// &#9;→ S.failures source.new ≡ S.failures source.old + 1 }
 /// ensures unfailed { result ≢ Err Device → S.failures source.new ≡ S.failures source.old }
-/// ```
+/// </code>
 ///
 /// </details>
 #[inline]

@@ -74,14 +74,12 @@ pub fn open_named<R: Files>(rt: &R, name: &str) -> Result<R::File, NameFault> {
 ///
 /// <details><summary>Contract</summary>
 ///
-/// In the words of the folder `specs/` of crate `cli`:
-///
-/// ```text
+/// <code style="display: block; tab-size: 4; white-space: pre-wrap">// In the words of [contracts](crate::contracts):
 /// ensures said { OnOk result (Appends (E.written errors.old) (E.written errors.new)
-///     (refusal program.now name.now fault)) }
+/// &#9;(refusal program.now name.now fault)) }
 /// ensures unfailed { OnOk result (E.failures errors.new ≡ E.failures errors.old) }
 /// ensures failed { OnErr result (E.failures errors.new ≡ E.failures errors.old + 1) }
-/// ```
+/// </code>
 ///
 /// </details>
 #[inline]

@@ -41,11 +41,9 @@ impl Ended {
     ///
     /// <details><summary>Contract</summary>
     ///
-    /// In the words of the folder `specs/` of crate `ent_blocks`:
-    ///
-    /// ```text
+    /// <code style="display: block; tab-size: 4; white-space: pre-wrap">// In the words of [contracts](crate::contracts):
     /// ensures { result ≡ self.now.requested }
-    /// ```
+    /// </code>
     ///
     /// </details>
     #[inline]
@@ -65,30 +63,28 @@ impl Ended {
     ///
     /// <details><summary>Contract</summary>
     ///
-    /// In the words of the folder `specs/` of crate `ent_blocks`:
-    ///
-    /// ```text
-    /// ensures after { IfOk result (λ entities. entities.allocator
-    ///     ≡ after_blocks self.phase.start self.phase.blocks) }
-    /// ensures rows { IfOk result (λ entities. entities.rows ≡ self.phase.rows) }
-    /// ensures rows_of_living { IfOk result HasRowsOfLiving }
-    ///
+    /// <code style="display: block; tab-size: 4; white-space: pre-wrap">// In the words of [contracts](crate::contracts):
+    /// ensures after { [IfOk](crate::contracts::logic#IfOk) result (λ entities. entities.allocator
+    /// &#9;≡ [after_blocks](crate::contracts::ent_blocks::blocks#after_blocks) self.phase.start self.phase.blocks) }
+    /// ensures rows { [IfOk](crate::contracts::logic#IfOk) result (λ entities. entities.rows ≡ self.phase.rows) }
+    /// ensures rows_of_living { [IfOk](crate::contracts::logic#IfOk) result [HasRowsOfLiving](crate::contracts::ent_alloc::entities#HasRowsOfLiving) }
+    /// &#32;
     /// // No handle was given twice, and none was alive.
-    /// ensures distinct { IfOk result (λ entities.
-    ///     AllPairs (λ g h. g ≢ h) entities.allocator.taken) }
-    /// ensures not_live { IfOk result (λ entities.
-    ///     All (λ h. ¬ (IsLive self.phase.start h)) entities.allocator.taken) }
-    ///
+    /// ensures distinct { [IfOk](crate::contracts::logic#IfOk) result (λ entities.
+    /// &#9;[AllPairs](crate::contracts::logic#AllPairs) (λ g h. g ≢ h) entities.allocator.taken) }
+    /// ensures not_live { [IfOk](crate::contracts::logic#IfOk) result (λ entities.
+    /// &#9;[All](crate::contracts::logic#All) (λ h. ¬ ([IsLive](crate::contracts::ent_alloc::sound#IsLive) self.phase.start h)) entities.allocator.taken) }
+    /// &#32;
     /// // A flush brings to life exactly what was used.
-    /// ensures brings_to_life { IfOk result (λ entities. (h : HandleValue) →
-    ///     IsLive (after_flush entities.allocator) h
-    ///     ↔ (IsLive self.phase.start h ⊎ Contains entities.allocator.taken h)) }
-    /// ensures handed_back { IfErr result (λ ended. ended ≡ self) }
-    ///
+    /// ensures brings_to_life { [IfOk](crate::contracts::logic#IfOk) result (λ entities. (h : [HandleValue](crate::contracts::ent_handle::handle#Handle)) →
+    /// &#9;[IsLive](crate::contracts::ent_alloc::sound#IsLive) ([after_flush](crate::contracts::ent_alloc::sequential#after_flush) entities.allocator) h
+    /// &#9;↔ ([IsLive](crate::contracts::ent_alloc::sound#IsLive) self.phase.start h ⊎ [Contains](crate::contracts::logic#Contains) entities.allocator.taken h)) }
+    /// ensures handed_back { [IfErr](crate::contracts::logic#IfErr) result (λ ended. ended ≡ self) }
+    /// &#32;
     /// // Without a block there is nothing to allocate. If there is one, only a test shows that
     /// // ending succeeds.
-    /// ensures memory { OnErr result (0 < length self.phase.blocks) }
-    /// ```
+    /// ensures memory { [OnErr](crate::contracts::logic#OnErr) result (0 \< [length](crate::contracts::logic#length) self.phase.blocks) }
+    /// </code>
     ///
     /// </details>
     #[inline]

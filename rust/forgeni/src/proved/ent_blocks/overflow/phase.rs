@@ -56,11 +56,9 @@ impl Overflow {
     ///
     /// <details><summary>Contract</summary>
     ///
-    /// In the words of the folder `specs/` of crate `ent_blocks`:
-    ///
-    /// ```text
-    /// ensures { result ≡ length self.now.blocks }
-    /// ```
+    /// <code style="display: block; tab-size: 4; white-space: pre-wrap">// In the words of [contracts](crate::contracts):
+    /// ensures { result ≡ [length](crate::contracts::logic#length) self.now.blocks }
+    /// </code>
     ///
     /// </details>
     #[inline]
@@ -72,11 +70,9 @@ impl Overflow {
     ///
     /// <details><summary>Contract</summary>
     ///
-    /// In the words of the folder `specs/` of crate `ent_blocks`:
-    ///
-    /// ```text
-    /// ensures { result ≡ set.contains self.now.shared.start.live handle }
-    /// ```
+    /// <code style="display: block; tab-size: 4; white-space: pre-wrap">// In the words of [contracts](crate::contracts):
+    /// ensures { result ≡ [set.contains](crate::contracts::logic#FinSet.contains) self.now.shared.start.live handle }
+    /// </code>
     ///
     /// </details>
     #[inline]
@@ -89,12 +85,10 @@ impl Overflow {
     ///
     /// <details><summary>Contract</summary>
     ///
-    /// In the words of the folder `specs/` of crate `ent_blocks`:
-    ///
-    /// ```text
-    /// ensures value { result ≡ maps.get self.now.shared.rows handle }
-    /// ensures alive { OnSome result (set.contains self.now.shared.start.live handle ≡ true) }
-    /// ```
+    /// <code style="display: block; tab-size: 4; white-space: pre-wrap">// In the words of [contracts](crate::contracts):
+    /// ensures value { result ≡ [maps.get](crate::contracts::logic#FinMap.get) self.now.shared.rows handle }
+    /// ensures alive { [OnSome](crate::contracts::logic#OnSome) result ([set.contains](crate::contracts::logic#FinSet.contains) self.now.shared.start.live handle ≡ [true](crate::contracts::logic#true)) }
+    /// </code>
     ///
     /// </details>
     #[inline]

@@ -23,11 +23,9 @@ impl OverflowReserver {
     ///
     /// <details><summary>Contract</summary>
     ///
-    /// In the words of the folder `specs/` of crate `ent_blocks`:
-    ///
-    /// ```text
+    /// <code style="display: block; tab-size: 4; white-space: pre-wrap">// In the words of [contracts](crate::contracts):
     /// ensures { result ≡ self.now.block.size }
-    /// ```
+    /// </code>
     ///
     /// </details>
     #[inline]
@@ -39,12 +37,10 @@ impl OverflowReserver {
     ///
     /// <details><summary>Contract</summary>
     ///
-    /// In the words of the folder `specs/` of crate `ent_blocks`:
-    ///
-    /// ```text
+    /// <code style="display: block; tab-size: 4; white-space: pre-wrap">// In the words of [contracts](crate::contracts):
     /// ensures value { result ≡ self.now.block.used }
     /// ensures within { result ≤ self.now.block.size }
-    /// ```
+    /// </code>
     ///
     /// </details>
     #[inline]
@@ -56,12 +52,10 @@ impl OverflowReserver {
     ///
     /// <details><summary>Contract</summary>
     ///
-    /// In the words of the folder `specs/` of crate `ent_blocks`:
-    ///
-    /// ```text
+    /// <code style="display: block; tab-size: 4; white-space: pre-wrap">// In the words of [contracts](crate::contracts):
     /// ensures value { result ≡ self.now.block.size - self.now.block.used }
     /// ensures within { self.now.block.used ≤ self.now.block.size }
-    /// ```
+    /// </code>
     ///
     /// </details>
     #[inline]

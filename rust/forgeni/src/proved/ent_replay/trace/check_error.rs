@@ -47,11 +47,9 @@ impl CheckError {
     ///
     /// <details><summary>Contract</summary>
     ///
-    /// In the words of the folder `specs/` of crate `ent_replay`:
-    ///
-    /// ```text
-    /// ensures { option_copied result ≡ difference_of self.now }
-    /// ```
+    /// <code style="display: block; tab-size: 4; white-space: pre-wrap">// In the words of [contracts](crate::contracts):
+    /// ensures { [option_copied](crate::contracts::logic#option_copied) result ≡ [difference_of](crate::contracts::ent_replay::recording#difference_of) self.now }
+    /// </code>
     ///
     /// </details>
     #[must_use]

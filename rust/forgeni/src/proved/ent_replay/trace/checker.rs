@@ -63,12 +63,10 @@ impl Checker {
     ///
     /// <details><summary>Contract</summary>
     ///
-    /// In the words of the folder `specs/` of crate `ent_replay`:
-    ///
-    /// ```text
-    /// ensures opens { result.comparer ≡ Ok (record { allocator = opening limits; run = [] }) }
+    /// <code style="display: block; tab-size: 4; white-space: pre-wrap">// In the words of [contracts](crate::contracts):
+    /// ensures opens { result.comparer ≡ [Ok](crate::contracts::logic#Ok) (record { allocator = [opening](crate::contracts::ent_alloc::sequential#opening) limits; run = \[\] }) }
     /// ensures none { result.calls ≡ 0 }
-    /// ```
+    /// </code>
     ///
     /// </details>
     #[must_use]
@@ -97,13 +95,11 @@ impl Checker {
     ///
     /// <details><summary>Contract</summary>
     ///
-    /// In the words of the folder `specs/` of crate `ent_replay`:
-    ///
-    /// ```text
+    /// <code style="display: block; tab-size: 4; white-space: pre-wrap">// In the words of [contracts](crate::contracts):
     /// ensures begins { result.comparer
-    ///     ≡ Ok (record { allocator = entities.allocator; run = [] }) }
+    /// &#9;≡ [Ok](crate::contracts::logic#Ok) (record { allocator = entities.allocator; run = \[\] }) }
     /// ensures none { result.calls ≡ 0 }
-    /// ```
+    /// </code>
     ///
     /// </details>
     #[must_use]
@@ -132,11 +128,9 @@ impl Checker {
     ///
     /// <details><summary>Contract</summary>
     ///
-    /// In the words of the folder `specs/` of crate `ent_replay`:
-    ///
-    /// ```text
+    /// <code style="display: block; tab-size: 4; white-space: pre-wrap">// In the words of [contracts](crate::contracts):
     /// ensures { result ≡ self.now.calls }
-    /// ```
+    /// </code>
     ///
     /// </details>
     #[must_use]
@@ -159,11 +153,9 @@ impl Checker {
     ///
     /// <details><summary>Contract</summary>
     ///
-    /// In the words of the folder `specs/` of crate `ent_replay`:
-    ///
-    /// ```text
-    /// ensures { option_copied result ≡ error_in self.now.comparer }
-    /// ```
+    /// <code style="display: block; tab-size: 4; white-space: pre-wrap">// In the words of [contracts](crate::contracts):
+    /// ensures { [option_copied](crate::contracts::logic#option_copied) result ≡ [error_in](crate::contracts::ent_replay::recording#error_in) self.now.comparer }
+    /// </code>
     ///
     /// </details>
     #[must_use]
@@ -205,12 +197,10 @@ impl Checker {
     ///
     /// <details><summary>Contract</summary>
     ///
-    /// In the words of the folder `specs/` of crate `ent_replay`:
-    ///
-    /// ```text
-    /// ensures takes { Takes self.old call self.new }
-    /// ensures answers { Answers self.new.comparer result }
-    /// ```
+    /// <code style="display: block; tab-size: 4; white-space: pre-wrap">// In the words of [contracts](crate::contracts):
+    /// ensures takes { [Takes](crate::contracts::ent_replay::recording#Takes) self.old call self.new }
+    /// ensures answers { [Answers](crate::contracts::ent_replay::recording#Answers) self.new.comparer result }
+    /// </code>
     ///
     /// </details>
     #[inline]
@@ -237,13 +227,11 @@ impl Checker {
     ///
     /// <details><summary>Contract</summary>
     ///
-    /// In the words of the folder `specs/` of crate `ent_replay`:
-    ///
-    /// ```text
+    /// <code style="display: block; tab-size: 4; white-space: pre-wrap">// In the words of [contracts](crate::contracts):
     /// ensures takes { (told : AllocReply) × R.converts reply told
-    ///     × Takes self.old (Call.Alloc (Some told)) self.new }
-    /// ensures answers { Answers self.new.comparer result }
-    /// ```
+    /// &#9;× [Takes](crate::contracts::ent_replay::recording#Takes) self.old (Call.Alloc ([Some](crate::contracts::logic#Some) told)) self.new }
+    /// ensures answers { [Answers](crate::contracts::ent_replay::recording#Answers) self.new.comparer result }
+    /// </code>
     ///
     /// </details>
     #[inline]
@@ -271,12 +259,10 @@ impl Checker {
     ///
     /// <details><summary>Contract</summary>
     ///
-    /// In the words of the folder `specs/` of crate `ent_replay`:
-    ///
-    /// ```text
-    /// ensures takes { Takes self.old (Call.Free handle (Some reply)) self.new }
-    /// ensures answers { Answers self.new.comparer result }
-    /// ```
+    /// <code style="display: block; tab-size: 4; white-space: pre-wrap">// In the words of [contracts](crate::contracts):
+    /// ensures takes { [Takes](crate::contracts::ent_replay::recording#Takes) self.old (Call.Free handle ([Some](crate::contracts::logic#Some) reply)) self.new }
+    /// ensures answers { [Answers](crate::contracts::ent_replay::recording#Answers) self.new.comparer result }
+    /// </code>
     ///
     /// </details>
     #[inline]
@@ -304,13 +290,11 @@ impl Checker {
     ///
     /// <details><summary>Contract</summary>
     ///
-    /// In the words of the folder `specs/` of crate `ent_replay`:
-    ///
-    /// ```text
+    /// <code style="display: block; tab-size: 4; white-space: pre-wrap">// In the words of [contracts](crate::contracts):
     /// ensures takes { (told : FlushReply) × R.converts reply told
-    ///     × Takes self.old (Call.Flush (Some told)) self.new }
-    /// ensures answers { Answers self.new.comparer result }
-    /// ```
+    /// &#9;× [Takes](crate::contracts::ent_replay::recording#Takes) self.old (Call.Flush ([Some](crate::contracts::logic#Some) told)) self.new }
+    /// ensures answers { [Answers](crate::contracts::ent_replay::recording#Answers) self.new.comparer result }
+    /// </code>
     ///
     /// </details>
     #[inline]
@@ -337,12 +321,10 @@ impl Checker {
     ///
     /// <details><summary>Contract</summary>
     ///
-    /// In the words of the folder `specs/` of crate `ent_replay`:
-    ///
-    /// ```text
-    /// ensures takes { Takes self.old (Call.State handle (Some reply)) self.new }
-    /// ensures answers { Answers self.new.comparer result }
-    /// ```
+    /// <code style="display: block; tab-size: 4; white-space: pre-wrap">// In the words of [contracts](crate::contracts):
+    /// ensures takes { [Takes](crate::contracts::ent_replay::recording#Takes) self.old (Call.State handle ([Some](crate::contracts::logic#Some) reply)) self.new }
+    /// ensures answers { [Answers](crate::contracts::ent_replay::recording#Answers) self.new.comparer result }
+    /// </code>
     ///
     /// </details>
     #[inline]
@@ -369,12 +351,10 @@ impl Checker {
     ///
     /// <details><summary>Contract</summary>
     ///
-    /// In the words of the folder `specs/` of crate `ent_replay`:
-    ///
-    /// ```text
-    /// ensures takes { Takes self.old (Call.Len (Some reply)) self.new }
-    /// ensures answers { Answers self.new.comparer result }
-    /// ```
+    /// <code style="display: block; tab-size: 4; white-space: pre-wrap">// In the words of [contracts](crate::contracts):
+    /// ensures takes { [Takes](crate::contracts::ent_replay::recording#Takes) self.old (Call.Len ([Some](crate::contracts::logic#Some) reply)) self.new }
+    /// ensures answers { [Answers](crate::contracts::ent_replay::recording#Answers) self.new.comparer result }
+    /// </code>
     ///
     /// </details>
     #[inline]
@@ -404,13 +384,11 @@ impl Checker {
     ///
     /// <details><summary>Contract</summary>
     ///
-    /// In the words of the folder `specs/` of crate `ent_replay`:
-    ///
-    /// ```text
+    /// <code style="display: block; tab-size: 4; white-space: pre-wrap">// In the words of [contracts](crate::contracts):
     /// ensures takes { (told : ReserveReply) × R.converts reply told
-    ///     × Takes self.old (Call.Reserve (reservation_of caller requested told)) self.new }
-    /// ensures answers { Answers self.new.comparer result }
-    /// ```
+    /// &#9;× [Takes](crate::contracts::ent_replay::recording#Takes) self.old (Call.Reserve ([reservation_of](crate::contracts::ent_replay::recording#reservation_of) caller requested told)) self.new }
+    /// ensures answers { [Answers](crate::contracts::ent_replay::recording#Answers) self.new.comparer result }
+    /// </code>
     ///
     /// </details>
     #[inline]
@@ -445,13 +423,11 @@ impl Checker {
     ///
     /// <details><summary>Contract</summary>
     ///
-    /// In the words of the folder `specs/` of crate `ent_replay`:
-    ///
-    /// ```text
-    /// ensures takes { TakesAll self.old (reserve_lines log.old.reservations) self.new }
-    /// ensures emptied { log.new ≡ emptied log.old }
-    /// ensures answers { Answers self.new.comparer result }
-    /// ```
+    /// <code style="display: block; tab-size: 4; white-space: pre-wrap">// In the words of [contracts](crate::contracts):
+    /// ensures takes { [TakesAll](crate::contracts::ent_replay::recording#TakesAll) self.old ([reserve_lines](crate::contracts::ent_replay::checker#reserve_lines) log.old.reservations) self.new }
+    /// ensures emptied { log.new ≡ [emptied](crate::contracts::ent_replay::logs#emptied) log.old }
+    /// ensures answers { [Answers](crate::contracts::ent_replay::recording#Answers) self.new.comparer result }
+    /// </code>
     ///
     /// </details>
     #[inline]
@@ -484,12 +460,10 @@ impl Checker {
     ///
     /// <details><summary>Contract</summary>
     ///
-    /// In the words of the folder `specs/` of crate `ent_replay`:
-    ///
-    /// ```text
-    /// ensures takes { TakesRun self.old reservations.items self.new }
-    /// ensures answers { Answers self.new.comparer result }
-    /// ```
+    /// <code style="display: block; tab-size: 4; white-space: pre-wrap">// In the words of [contracts](crate::contracts):
+    /// ensures takes { [TakesRun](crate::contracts::ent_replay::recording#TakesRun) self.old reservations.items self.new }
+    /// ensures answers { [Answers](crate::contracts::ent_replay::recording#Answers) self.new.comparer result }
+    /// </code>
     ///
     /// </details>
     #[inline]
@@ -518,12 +492,10 @@ impl Checker {
     ///
     /// <details><summary>Contract</summary>
     ///
-    /// In the words of the folder `specs/` of crate `ent_replay`:
-    ///
-    /// ```text
-    /// ensures closes { IfOk self.comparer (λ c. Closes c result) }
-    /// ensures stopped { IfErr self.comparer (λ e. result ≡ Err e) }
-    /// ```
+    /// <code style="display: block; tab-size: 4; white-space: pre-wrap">// In the words of [contracts](crate::contracts):
+    /// ensures closes { [IfOk](crate::contracts::logic#IfOk) self.comparer (λ c. [Closes](crate::contracts::ent_replay::recording#Closes) c result) }
+    /// ensures stopped { [IfErr](crate::contracts::logic#IfErr) self.comparer (λ e. result ≡ [Err](crate::contracts::logic#Err) e) }
+    /// </code>
     ///
     /// </details>
     #[inline]

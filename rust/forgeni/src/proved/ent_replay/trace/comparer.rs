@@ -38,11 +38,9 @@ impl Comparer {
     ///
     /// <details><summary>Contract</summary>
     ///
-    /// In the words of the folder `specs/` of crate `ent_replay`:
-    ///
-    /// ```text
-    /// ensures { result ≡ record { allocator = opening limits; run = [] } }
-    /// ```
+    /// <code style="display: block; tab-size: 4; white-space: pre-wrap">// In the words of [contracts](crate::contracts):
+    /// ensures { result ≡ record { allocator = [opening](crate::contracts::ent_alloc::sequential#opening) limits; run = \[\] } }
+    /// </code>
     ///
     /// </details>
     #[inline]
@@ -54,11 +52,9 @@ impl Comparer {
     ///
     /// <details><summary>Contract</summary>
     ///
-    /// In the words of the folder `specs/` of crate `ent_replay`:
-    ///
-    /// ```text
-    /// ensures { result ≡ record { allocator = entities.allocator; run = [] } }
-    /// ```
+    /// <code style="display: block; tab-size: 4; white-space: pre-wrap">// In the words of [contracts](crate::contracts):
+    /// ensures { result ≡ record { allocator = entities.allocator; run = \[\] } }
+    /// </code>
     ///
     /// </details>
     #[inline]
@@ -85,18 +81,16 @@ impl Comparer {
     ///
     /// <details><summary>Contract</summary>
     ///
-    /// In the words of the folder `specs/` of crate `ent_replay`:
-    ///
-    /// ```text
-    /// ensures follows { IfOk result (λ next. Follows self line next) }
-    /// ensures reaches { IfOk result (λ next. Reaches self line next) }
-    /// ensures differs { IfErr result (λ stop.
-    ///     OnDiffers stop (Shows self number (line ∷ []))) }
-    /// ensures none { IfErr result (λ stop. OnDiffers stop (λ d. NoneFollows self line)) }
-    /// ensures alone { IfErr result (λ stop. OnDiffers stop (λ d. IsAlone line)) }
-    /// ensures too_many { IfErr result (λ stop. OnTooMany stop (IsTooMany self line)) }
-    /// ensures few { OnOk result (¬ (IsTooMany self line)) }
-    /// ```
+    /// <code style="display: block; tab-size: 4; white-space: pre-wrap">// In the words of [contracts](crate::contracts):
+    /// ensures follows { [IfOk](crate::contracts::logic#IfOk) result (λ next. [Follows](crate::contracts::ent_replay::checker#Follows) self line next) }
+    /// ensures reaches { [IfOk](crate::contracts::logic#IfOk) result (λ next. [Reaches](crate::contracts::ent_replay::checker#Reaches) self line next) }
+    /// ensures differs { [IfErr](crate::contracts::logic#IfErr) result (λ stop.
+    /// &#9;[OnDiffers](crate::contracts::ent_replay::checker#OnDiffers) stop ([Shows](crate::contracts::ent_replay::checker#Shows) self number (line ∷ \[\]))) }
+    /// ensures none { [IfErr](crate::contracts::logic#IfErr) result (λ stop. [OnDiffers](crate::contracts::ent_replay::checker#OnDiffers) stop (λ d. [NoneFollows](crate::contracts::ent_replay::checker#NoneFollows) self line)) }
+    /// ensures alone { [IfErr](crate::contracts::logic#IfErr) result (λ stop. [OnDiffers](crate::contracts::ent_replay::checker#OnDiffers) stop (λ d. [IsAlone](crate::contracts::ent_replay::trace#IsAlone) line)) }
+    /// ensures too_many { [IfErr](crate::contracts::logic#IfErr) result (λ stop. [OnTooMany](crate::contracts::ent_replay::checker#OnTooMany) stop ([IsTooMany](crate::contracts::ent_replay::checker#IsTooMany) self line)) }
+    /// ensures few { [OnOk](crate::contracts::logic#OnOk) result (¬ ([IsTooMany](crate::contracts::ent_replay::checker#IsTooMany) self line)) }
+    /// </code>
     ///
     /// </details>
     #[inline]
@@ -115,15 +109,13 @@ impl Comparer {
     ///
     /// <details><summary>Contract</summary>
     ///
-    /// In the words of the folder `specs/` of crate `ent_replay`:
-    ///
-    /// ```text
-    /// ensures settled { IfOk result (λ next. IsSettled self next.allocator × (next.run ≡ [])) }
-    /// ensures agrees { OnOk result (AgreesWith self []) }
-    /// ensures differs { IfErr result (λ stop. OnDiffers stop (Shows self 0 [])) }
-    /// ensures none { IfErr result (λ stop. OnDiffers stop (λ d. AgreesWith self [] → ⊥)) }
-    /// ensures counted { IfErr result (λ stop. OnTooMany stop ⊥) }
-    /// ```
+    /// <code style="display: block; tab-size: 4; white-space: pre-wrap">// In the words of [contracts](crate::contracts):
+    /// ensures settled { [IfOk](crate::contracts::logic#IfOk) result (λ next. [IsSettled](crate::contracts::ent_replay::checker#IsSettled) self next.allocator × (next.run ≡ \[\])) }
+    /// ensures agrees { [OnOk](crate::contracts::logic#OnOk) result ([AgreesWith](crate::contracts::ent_replay::checker#AgreesWith) self \[\]) }
+    /// ensures differs { [IfErr](crate::contracts::logic#IfErr) result (λ stop. [OnDiffers](crate::contracts::ent_replay::checker#OnDiffers) stop ([Shows](crate::contracts::ent_replay::checker#Shows) self 0 \[\])) }
+    /// ensures none { [IfErr](crate::contracts::logic#IfErr) result (λ stop. [OnDiffers](crate::contracts::ent_replay::checker#OnDiffers) stop (λ d. [AgreesWith](crate::contracts::ent_replay::checker#AgreesWith) self \[\] → ⊥)) }
+    /// ensures counted { [IfErr](crate::contracts::logic#IfErr) result (λ stop. [OnTooMany](crate::contracts::ent_replay::checker#OnTooMany) stop ⊥) }
+    /// </code>
     ///
     /// </details>
     #[inline]

@@ -51,11 +51,9 @@ impl Log {
     ///
     /// <details><summary>Contract</summary>
     ///
-    /// In the words of the folder `specs/` of crate `ent_replay`:
-    ///
-    /// ```text
-    /// ensures { result ≡ record { caller = caller; reservations = [] } }
-    /// ```
+    /// <code style="display: block; tab-size: 4; white-space: pre-wrap">// In the words of [contracts](crate::contracts):
+    /// ensures { result ≡ record { caller = caller; reservations = \[\] } }
+    /// </code>
     ///
     /// </details>
     #[must_use]
@@ -71,11 +69,9 @@ impl Log {
     ///
     /// <details><summary>Contract</summary>
     ///
-    /// In the words of the folder `specs/` of crate `ent_replay`:
-    ///
-    /// ```text
+    /// <code style="display: block; tab-size: 4; white-space: pre-wrap">// In the words of [contracts](crate::contracts):
     /// ensures { result ≡ self.now.caller }
-    /// ```
+    /// </code>
     ///
     /// </details>
     #[must_use]
@@ -98,11 +94,9 @@ impl Log {
     ///
     /// <details><summary>Contract</summary>
     ///
-    /// In the words of the folder `specs/` of crate `ent_replay`:
-    ///
-    /// ```text
+    /// <code style="display: block; tab-size: 4; white-space: pre-wrap">// In the words of [contracts](crate::contracts):
     /// ensures { result.now ≡ self.now.reservations }
-    /// ```
+    /// </code>
     ///
     /// </details>
     #[must_use]
@@ -130,16 +124,14 @@ impl Log {
     ///
     /// <details><summary>Contract</summary>
     ///
-    /// In the words of the folder `specs/` of crate `ent_replay`:
-    ///
-    /// ```text
-    /// ensures ok { OnOk result ((told : ReserveReply) × R.converts reply told
-    ///     × (self.new ≡ record self.old {
-    ///       reservations = self.old.reservations
-    ///           ++ reservation_of self.old.caller requested told ∷ [];
-    ///     })) }
-    /// ensures err { OnErr result (self.new ≡ self.old) }
-    /// ```
+    /// <code style="display: block; tab-size: 4; white-space: pre-wrap">// In the words of [contracts](crate::contracts):
+    /// ensures ok { [OnOk](crate::contracts::logic#OnOk) result ((told : ReserveReply) × R.converts reply told
+    /// &#9;× (self.new ≡ record self.old {
+    /// &#9;&#32;&#32;reservations = self.old.reservations
+    /// &#9;&#9;&#32;&#32;++ [reservation_of](crate::contracts::ent_replay::recording#reservation_of) self.old.caller requested told ∷ \[\];
+    /// &#9;})) }
+    /// ensures err { [OnErr](crate::contracts::logic#OnErr) result (self.new ≡ self.old) }
+    /// </code>
     ///
     /// </details>
     #[inline]

@@ -26,11 +26,9 @@ impl Cause {
     ///
     /// <details><summary>Contract</summary>
     ///
-    /// In the words of the folder `specs/` of crate `ent_replay`:
-    ///
-    /// ```text
-    /// ensures { result.now ≡ cause_text self }
-    /// ```
+    /// <code style="display: block; tab-size: 4; white-space: pre-wrap">// In the words of [contracts](crate::contracts):
+    /// ensures { result.now ≡ [cause_text](crate::contracts::ent_replay::text#cause_text) self }
+    /// </code>
     ///
     /// </details>
     #[inline]

@@ -131,12 +131,10 @@ fn read_call(number: u64, word: &[u8], text: &[u8]) -> Result<Call, ReadFault>
 ///
 /// <details><summary>Contract</summary>
 ///
-/// In the words of the folder `specs/` of crate `ent_replay`:
-///
-/// ```text
+/// <code style="display: block; tab-size: 4; white-space: pre-wrap">// In the words of [contracts](crate::contracts):
 /// // All of it, as a function of the words.
-/// ensures exact { ReadsAs result (line_of number (words_of line.now)) }
-/// ```
+/// ensures exact { [ReadsAs](crate::contracts::ent_replay::text#ReadsAs) result ([line_of](crate::contracts::ent_replay::text#line_of) number ([words_of](crate::contracts::ent_replay::text#words_of) line.now)) }
+/// </code>
 ///
 /// </details>
 #[inline]

@@ -68,14 +68,12 @@ impl Recorder {
     ///
     /// <details><summary>Contract</summary>
     ///
-    /// In the words of the folder `specs/` of crate `ent_replay`:
-    ///
-    /// ```text
-    /// ensures opens { IfOk result (λ recorder. recorder.checker.comparer
-    ///     ≡ Ok (record { allocator = opening limits; run = [] })) }
-    /// ensures none { IfOk result (λ recorder. recorder.checker.calls ≡ 0) }
-    /// ensures logs { IfOk result (λ recorder. recorder.logs.items ≡ new_logs callers) }
-    /// ```
+    /// <code style="display: block; tab-size: 4; white-space: pre-wrap">// In the words of [contracts](crate::contracts):
+    /// ensures opens { [IfOk](crate::contracts::logic#IfOk) result (λ recorder. recorder.checker.comparer
+    /// &#9;≡ [Ok](crate::contracts::logic#Ok) (record { allocator = [opening](crate::contracts::ent_alloc::sequential#opening) limits; run = \[\] })) }
+    /// ensures none { [IfOk](crate::contracts::logic#IfOk) result (λ recorder. recorder.checker.calls ≡ 0) }
+    /// ensures logs { [IfOk](crate::contracts::logic#IfOk) result (λ recorder. recorder.logs.items ≡ [new_logs](crate::contracts::ent_replay::logs#new_logs) callers) }
+    /// </code>
     ///
     /// </details>
     #[inline]
@@ -105,12 +103,10 @@ impl Recorder {
     ///
     /// <details><summary>Contract</summary>
     ///
-    /// In the words of the folder `specs/` of crate `ent_replay`:
-    ///
-    /// ```text
-    /// ensures* writes_back { sem 𝓛 (LendsLogs self.entry result) }
+    /// <code style="display: block; tab-size: 4; white-space: pre-wrap">// In the words of [contracts](crate::contracts):
+    /// ensures\* writes_back { [sem](crate::contracts::logic#sem) 𝓛 ([LendsLogs](crate::contracts::ent_replay::lending#LendsLogs) self.entry result) }
     /// ensures logs { result.now ≡ self.old.logs.items }
-    /// ```
+    /// </code>
     ///
     /// </details>
     #[inline]
@@ -133,11 +129,9 @@ impl Recorder {
     ///
     /// <details><summary>Contract</summary>
     ///
-    /// In the words of the folder `specs/` of crate `ent_replay`:
-    ///
-    /// ```text
+    /// <code style="display: block; tab-size: 4; white-space: pre-wrap">// In the words of [contracts](crate::contracts):
     /// ensures { result ≡ self.now.checker.calls }
-    /// ```
+    /// </code>
     ///
     /// </details>
     #[must_use]
@@ -164,14 +158,12 @@ impl Recorder {
     ///
     /// <details><summary>Contract</summary>
     ///
-    /// In the words of the folder `specs/` of crate `ent_replay`:
-    ///
-    /// ```text
-    /// ensures takes { TakesAll self.old.checker (lines_in_all self.old.logs.items ++ call ∷ [])
-    ///     self.new.checker }
-    /// ensures emptied { self.new.logs.items ≡ map emptied self.old.logs.items }
-    /// ensures answers { Answers self.new.checker.comparer result }
-    /// ```
+    /// <code style="display: block; tab-size: 4; white-space: pre-wrap">// In the words of [contracts](crate::contracts):
+    /// ensures takes { [TakesAll](crate::contracts::ent_replay::recording#TakesAll) self.old.checker ([lines_in_all](crate::contracts::ent_replay::recording#lines_in_all) self.old.logs.items ++ call ∷ \[\])
+    /// &#9;self.new.checker }
+    /// ensures emptied { self.new.logs.items ≡ [map](crate::contracts::logic#map) [emptied](crate::contracts::ent_replay::logs#emptied) self.old.logs.items }
+    /// ensures answers { [Answers](crate::contracts::ent_replay::recording#Answers) self.new.checker.comparer result }
+    /// </code>
     ///
     /// </details>
     #[inline]
@@ -197,14 +189,12 @@ impl Recorder {
     ///
     /// <details><summary>Contract</summary>
     ///
-    /// In the words of the folder `specs/` of crate `ent_replay`:
-    ///
-    /// ```text
-    /// ensures takes { (told : AllocReply) × R.converts reply told × TakesAll self.old.checker
-    ///     (lines_in_all self.old.logs.items ++ Call.Alloc (Some told) ∷ []) self.new.checker }
-    /// ensures emptied { self.new.logs.items ≡ map emptied self.old.logs.items }
-    /// ensures answers { Answers self.new.checker.comparer result }
-    /// ```
+    /// <code style="display: block; tab-size: 4; white-space: pre-wrap">// In the words of [contracts](crate::contracts):
+    /// ensures takes { (told : AllocReply) × R.converts reply told × [TakesAll](crate::contracts::ent_replay::recording#TakesAll) self.old.checker
+    /// &#9;([lines_in_all](crate::contracts::ent_replay::recording#lines_in_all) self.old.logs.items ++ Call.Alloc ([Some](crate::contracts::logic#Some) told) ∷ \[\]) self.new.checker }
+    /// ensures emptied { self.new.logs.items ≡ [map](crate::contracts::logic#map) [emptied](crate::contracts::ent_replay::logs#emptied) self.old.logs.items }
+    /// ensures answers { [Answers](crate::contracts::ent_replay::recording#Answers) self.new.checker.comparer result }
+    /// </code>
     ///
     /// </details>
     #[inline]
@@ -230,15 +220,13 @@ impl Recorder {
     ///
     /// <details><summary>Contract</summary>
     ///
-    /// In the words of the folder `specs/` of crate `ent_replay`:
-    ///
-    /// ```text
-    /// ensures takes { TakesAll self.old.checker
-    ///     (lines_in_all self.old.logs.items ++ Call.Free handle (Some reply) ∷ [])
-    ///     self.new.checker }
-    /// ensures emptied { self.new.logs.items ≡ map emptied self.old.logs.items }
-    /// ensures answers { Answers self.new.checker.comparer result }
-    /// ```
+    /// <code style="display: block; tab-size: 4; white-space: pre-wrap">// In the words of [contracts](crate::contracts):
+    /// ensures takes { [TakesAll](crate::contracts::ent_replay::recording#TakesAll) self.old.checker
+    /// &#9;([lines_in_all](crate::contracts::ent_replay::recording#lines_in_all) self.old.logs.items ++ Call.Free handle ([Some](crate::contracts::logic#Some) reply) ∷ \[\])
+    /// &#9;self.new.checker }
+    /// ensures emptied { self.new.logs.items ≡ [map](crate::contracts::logic#map) [emptied](crate::contracts::ent_replay::logs#emptied) self.old.logs.items }
+    /// ensures answers { [Answers](crate::contracts::ent_replay::recording#Answers) self.new.checker.comparer result }
+    /// </code>
     ///
     /// </details>
     #[inline]
@@ -264,14 +252,12 @@ impl Recorder {
     ///
     /// <details><summary>Contract</summary>
     ///
-    /// In the words of the folder `specs/` of crate `ent_replay`:
-    ///
-    /// ```text
-    /// ensures takes { (told : FlushReply) × R.converts reply told × TakesAll self.old.checker
-    ///     (lines_in_all self.old.logs.items ++ Call.Flush (Some told) ∷ []) self.new.checker }
-    /// ensures emptied { self.new.logs.items ≡ map emptied self.old.logs.items }
-    /// ensures answers { Answers self.new.checker.comparer result }
-    /// ```
+    /// <code style="display: block; tab-size: 4; white-space: pre-wrap">// In the words of [contracts](crate::contracts):
+    /// ensures takes { (told : FlushReply) × R.converts reply told × [TakesAll](crate::contracts::ent_replay::recording#TakesAll) self.old.checker
+    /// &#9;([lines_in_all](crate::contracts::ent_replay::recording#lines_in_all) self.old.logs.items ++ Call.Flush ([Some](crate::contracts::logic#Some) told) ∷ \[\]) self.new.checker }
+    /// ensures emptied { self.new.logs.items ≡ [map](crate::contracts::logic#map) [emptied](crate::contracts::ent_replay::logs#emptied) self.old.logs.items }
+    /// ensures answers { [Answers](crate::contracts::ent_replay::recording#Answers) self.new.checker.comparer result }
+    /// </code>
     ///
     /// </details>
     #[inline]
@@ -298,15 +284,13 @@ impl Recorder {
     ///
     /// <details><summary>Contract</summary>
     ///
-    /// In the words of the folder `specs/` of crate `ent_replay`:
-    ///
-    /// ```text
-    /// ensures takes { TakesAll self.old.checker
-    ///     (lines_in_all self.old.logs.items ++ Call.State handle (Some reply) ∷ [])
-    ///     self.new.checker }
-    /// ensures emptied { self.new.logs.items ≡ map emptied self.old.logs.items }
-    /// ensures answers { Answers self.new.checker.comparer result }
-    /// ```
+    /// <code style="display: block; tab-size: 4; white-space: pre-wrap">// In the words of [contracts](crate::contracts):
+    /// ensures takes { [TakesAll](crate::contracts::ent_replay::recording#TakesAll) self.old.checker
+    /// &#9;([lines_in_all](crate::contracts::ent_replay::recording#lines_in_all) self.old.logs.items ++ Call.State handle ([Some](crate::contracts::logic#Some) reply) ∷ \[\])
+    /// &#9;self.new.checker }
+    /// ensures emptied { self.new.logs.items ≡ [map](crate::contracts::logic#map) [emptied](crate::contracts::ent_replay::logs#emptied) self.old.logs.items }
+    /// ensures answers { [Answers](crate::contracts::ent_replay::recording#Answers) self.new.checker.comparer result }
+    /// </code>
     ///
     /// </details>
     #[inline]
@@ -332,14 +316,12 @@ impl Recorder {
     ///
     /// <details><summary>Contract</summary>
     ///
-    /// In the words of the folder `specs/` of crate `ent_replay`:
-    ///
-    /// ```text
-    /// ensures takes { TakesAll self.old.checker
-    ///     (lines_in_all self.old.logs.items ++ Call.Len (Some reply) ∷ []) self.new.checker }
-    /// ensures emptied { self.new.logs.items ≡ map emptied self.old.logs.items }
-    /// ensures answers { Answers self.new.checker.comparer result }
-    /// ```
+    /// <code style="display: block; tab-size: 4; white-space: pre-wrap">// In the words of [contracts](crate::contracts):
+    /// ensures takes { [TakesAll](crate::contracts::ent_replay::recording#TakesAll) self.old.checker
+    /// &#9;([lines_in_all](crate::contracts::ent_replay::recording#lines_in_all) self.old.logs.items ++ Call.Len ([Some](crate::contracts::logic#Some) reply) ∷ \[\]) self.new.checker }
+    /// ensures emptied { self.new.logs.items ≡ [map](crate::contracts::logic#map) [emptied](crate::contracts::ent_replay::logs#emptied) self.old.logs.items }
+    /// ensures answers { [Answers](crate::contracts::ent_replay::recording#Answers) self.new.checker.comparer result }
+    /// </code>
     ///
     /// </details>
     #[inline]
@@ -365,11 +347,9 @@ impl Recorder {
     ///
     /// <details><summary>Contract</summary>
     ///
-    /// In the words of the folder `specs/` of crate `ent_replay`:
-    ///
-    /// ```text
-    /// ensures { Finishes self.checker (lines_in_all self.logs.items) result }
-    /// ```
+    /// <code style="display: block; tab-size: 4; white-space: pre-wrap">// In the words of [contracts](crate::contracts):
+    /// ensures { [Finishes](crate::contracts::ent_replay::recording#Finishes) self.checker ([lines_in_all](crate::contracts::ent_replay::recording#lines_in_all) self.logs.items) result }
+    /// </code>
     ///
     /// </details>
     #[inline]

@@ -42,12 +42,10 @@ impl Reservation {
     ///
     /// <details><summary>Contract</summary>
     ///
-    /// In the words of the folder `specs/` of crate `ent_replay`:
-    ///
-    /// ```text
-    /// ensures is { result ≡ reservation_of caller requested result.reply }
+    /// <code style="display: block; tab-size: 4; white-space: pre-wrap">// In the words of [contracts](crate::contracts):
+    /// ensures is { result ≡ [reservation_of](crate::contracts::ent_replay::recording#reservation_of) caller requested result.reply }
     /// ensures reply { R.converts reply result.reply }
-    /// ```
+    /// </code>
     ///
     /// </details>
     #[must_use]

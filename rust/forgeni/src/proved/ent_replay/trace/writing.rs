@@ -51,13 +51,11 @@ fn append_handle(out: &mut Vec<u8>, handle: Handle) -> Result<(), OutOfMemory>
 ///
 /// <details><summary>Contract</summary>
 ///
-/// In the words of the folder `specs/` of crate `ent_replay`:
-///
-/// ```text
-/// ensures ok { OnOk result (out.new.items
-///     ≡ out.old.items ++ spaced (map handle_text handles.now)) }
-/// ensures err { OnErr result (out.new.items ≡ out.old.items) }
-/// ```
+/// <code style="display: block; tab-size: 4; white-space: pre-wrap">// In the words of [contracts](crate::contracts):
+/// ensures ok { [OnOk](crate::contracts::logic#OnOk) result (out.new.items
+/// &#9;≡ out.old.items ++ [spaced](crate::contracts::ent_replay::text#spaced) ([map](crate::contracts::logic#map) [handle_text](crate::contracts::ent_handle::text#handle_text) handles.now)) }
+/// ensures err { [OnErr](crate::contracts::logic#OnErr) result (out.new.items ≡ out.old.items) }
+/// </code>
 ///
 /// </details>
 #[inline]
@@ -166,12 +164,10 @@ fn write_reserve(out: &mut Vec<u8>, reservation: &Reservation) -> Result<(), Out
 ///
 /// <details><summary>Contract</summary>
 ///
-/// In the words of the folder `specs/` of crate `ent_replay`:
-///
-/// ```text
-/// ensures ok { OnOk result (out.new.items ≡ out.old.items ++ spaced (answer_words line.now)) }
-/// ensures err { OnErr result (out.new.items ≡ out.old.items) }
-/// ```
+/// <code style="display: block; tab-size: 4; white-space: pre-wrap">// In the words of [contracts](crate::contracts):
+/// ensures ok { [OnOk](crate::contracts::logic#OnOk) result (out.new.items ≡ out.old.items ++ [spaced](crate::contracts::ent_replay::text#spaced) ([answer_words](crate::contracts::ent_replay::text#answer_words) line.now)) }
+/// ensures err { [OnErr](crate::contracts::logic#OnErr) result (out.new.items ≡ out.old.items) }
+/// </code>
 ///
 /// </details>
 #[inline]
@@ -205,12 +201,10 @@ fn put_answer(out: &mut Vec<u8>, line: &Call) -> Result<(), OutOfMemory>
 ///
 /// <details><summary>Contract</summary>
 ///
-/// In the words of the folder `specs/` of crate `ent_replay`:
-///
-/// ```text
-/// ensures ok { OnOk result (out.new.items ≡ out.old.items ++ line_text line.now) }
-/// ensures err { OnErr result (out.new.items ≡ out.old.items) }
-/// ```
+/// <code style="display: block; tab-size: 4; white-space: pre-wrap">// In the words of [contracts](crate::contracts):
+/// ensures ok { [OnOk](crate::contracts::logic#OnOk) result (out.new.items ≡ out.old.items ++ [line_text](crate::contracts::ent_replay::text#line_text) line.now) }
+/// ensures err { [OnErr](crate::contracts::logic#OnErr) result (out.new.items ≡ out.old.items) }
+/// </code>
 ///
 /// </details>
 #[inline]
@@ -290,12 +284,10 @@ fn put_line(out: &mut Vec<u8>, line: &Call) -> Result<(), OutOfMemory>
 ///
 /// <details><summary>Contract</summary>
 ///
-/// In the words of the folder `specs/` of crate `ent_replay`:
-///
-/// ```text
-/// ensures ok { OnOk result (out.new.items ≡ out.old.items ++ difference_text difference.now) }
-/// ensures err { OnErr result (out.new.items ≡ out.old.items) }
-/// ```
+/// <code style="display: block; tab-size: 4; white-space: pre-wrap">// In the words of [contracts](crate::contracts):
+/// ensures ok { [OnOk](crate::contracts::logic#OnOk) result (out.new.items ≡ out.old.items ++ [difference_text](crate::contracts::ent_replay::text#difference_text) difference.now) }
+/// ensures err { [OnErr](crate::contracts::logic#OnErr) result (out.new.items ≡ out.old.items) }
+/// </code>
 ///
 /// </details>
 #[inline]

@@ -35,35 +35,33 @@ use crate::kit::thread::Join;
 ///
 /// <details><summary>Contract</summary>
 ///
-/// In the words of the folder `specs/` of crate `ent_runner`:
-///
-/// ```text
-/// ensures ok { IfOk result (λ ran. HaveIssued S.may_issue systems.now view.entry blocks.now.phase.start
-///     (blocks_of reservers.items) ran.0.items (blocks_of ran.1.items)) }
-/// ensures of { IfOk result (λ ran. All (λ r. r.number ≡ blocks.now.number) ran.1.items) }
-/// ensures workers { IsErrWith result (λ h. h.error ≡ failed.Workers)
-///     ↔ ((workers ≡ 0) ⊎ (64 < workers)) }
-/// ensures systems { IsErrWith result (λ h. h.error ≡ failed.Systems)
-///     ↔ ((0 < workers) × (workers ≤ 64) × (2 ^ 16 < length systems.now)) }
-/// ensures reservers { IsErrWith result (λ h. h.error ≡ failed.Reservers)
-///     ↔ ((0 < workers) × (workers ≤ 64) × (length systems.now ≤ 2 ^ 16)
-///     × (length reservers.items ≢ length systems.now)) }
-/// ensures other_phase { IsErrWith result (λ h. h.error ≡ failed.OtherPhase)
-///     ↔ ((0 < workers) × (workers ≤ 64) × (length systems.now ≤ 2 ^ 16)
-///     × (length reservers.items ≡ length systems.now)
-///     × ¬ (All (λ r. r.number ≡ blocks.now.number) reservers.items)) }
-/// ensures memory_some { IsErrWith result (λ h. h.error ≡ failed.Memory)
-///     → 0 < length systems.now }
-/// ensures handed_back { IfErr result (λ h. h.error ≢ failed.Lost
-///     → h.value.items ≡ reservers.items) }
-///
+/// <code style="display: block; tab-size: 4; white-space: pre-wrap">// In the words of [contracts](crate::contracts):
+/// ensures ok { [IfOk](crate::contracts::logic#IfOk) result (λ ran. [HaveIssued](crate::contracts::ent_runner::blocks_queues#HaveIssued) S.may_issue systems.now view.entry blocks.now.phase.start
+/// &#9;([blocks_of](crate::contracts::ent_blocks::blocks#blocks_of) reservers.items) ran.0.items ([blocks_of](crate::contracts::ent_blocks::blocks#blocks_of) ran.1.items)) }
+/// ensures of { [IfOk](crate::contracts::logic#IfOk) result (λ ran. [All](crate::contracts::logic#All) (λ r. r.number ≡ blocks.now.number) ran.1.items) }
+/// ensures workers { [IsErrWith](crate::contracts::ent_blocks::faults#IsErrWith) result (λ h. h.error ≡ failed.Workers)
+/// &#9;↔ ((workers ≡ 0) ⊎ (64 \< workers)) }
+/// ensures systems { [IsErrWith](crate::contracts::ent_blocks::faults#IsErrWith) result (λ h. h.error ≡ failed.Systems)
+/// &#9;↔ ((0 \< workers) × (workers ≤ 64) × (2 ^ 16 \< [length](crate::contracts::logic#length) systems.now)) }
+/// ensures reservers { [IsErrWith](crate::contracts::ent_blocks::faults#IsErrWith) result (λ h. h.error ≡ failed.Reservers)
+/// &#9;↔ ((0 \< workers) × (workers ≤ 64) × ([length](crate::contracts::logic#length) systems.now ≤ 2 ^ 16)
+/// &#9;× ([length](crate::contracts::logic#length) reservers.items ≢ [length](crate::contracts::logic#length) systems.now)) }
+/// ensures other_phase { [IsErrWith](crate::contracts::ent_blocks::faults#IsErrWith) result (λ h. h.error ≡ failed.OtherPhase)
+/// &#9;↔ ((0 \< workers) × (workers ≤ 64) × ([length](crate::contracts::logic#length) systems.now ≤ 2 ^ 16)
+/// &#9;× ([length](crate::contracts::logic#length) reservers.items ≡ [length](crate::contracts::logic#length) systems.now)
+/// &#9;× ¬ ([All](crate::contracts::logic#All) (λ r. r.number ≡ blocks.now.number) reservers.items)) }
+/// ensures memory_some { [IsErrWith](crate::contracts::ent_blocks::faults#IsErrWith) result (λ h. h.error ≡ failed.Memory)
+/// &#9;→ 0 \< [length](crate::contracts::logic#length) systems.now }
+/// ensures handed_back { [IfErr](crate::contracts::logic#IfErr) result (λ h. h.error ≢ failed.Lost
+/// &#9;→ h.value.items ≡ reservers.items) }
+/// &#32;
 /// // What is left if the systems were broken off.
-/// ensures lost { IsErrWith result (λ h. h.error ≡ failed.Lost) → HaveStopped S.may_issue
-///     S.may_leave systems.now workers view.entry blocks.now.phase.start
-///     (blocks_of reservers.items) }
-/// ensures lost_some { IsErrWith result (λ h. h.error ≡ failed.Lost) → 0 < length systems.now }
-/// ensures lost_reservers { IfErr result (λ h. h.error ≡ failed.Lost → h.value.items ≡ []) }
-/// ```
+/// ensures lost { [IsErrWith](crate::contracts::ent_blocks::faults#IsErrWith) result (λ h. h.error ≡ failed.Lost) → [HaveStopped](crate::contracts::ent_runner::blocks_queues#HaveStopped) S.may_issue
+/// &#9;S.may_leave systems.now workers view.entry blocks.now.phase.start
+/// &#9;([blocks_of](crate::contracts::ent_blocks::blocks#blocks_of) reservers.items) }
+/// ensures lost_some { [IsErrWith](crate::contracts::ent_blocks::faults#IsErrWith) result (λ h. h.error ≡ failed.Lost) → 0 \< [length](crate::contracts::logic#length) systems.now }
+/// ensures lost_reservers { [IfErr](crate::contracts::logic#IfErr) result (λ h. h.error ≡ failed.Lost → h.value.items ≡ \[\]) }
+/// </code>
 ///
 /// </details>
 #[inline]

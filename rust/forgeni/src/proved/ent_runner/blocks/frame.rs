@@ -59,66 +59,64 @@ pub enum Unframed {
 ///
 /// <details><summary>Contract</summary>
 ///
-/// In the words of the folder `specs/` of crate `ent_runner`:
-///
-/// ```text
-/// ensures ok { IfOk result (λ ended. EndsInBlocks S.may_issue systems.now opened
-///     (blocks_of reservers.items) ended.1.queues.items ended.0 ended.1.sync.born.items
-///     ended.1.sync.faults.items) }
-/// ensures all { OnOk result (map unused (blocks_of reservers.items) ≡ opened.blocks.phase.blocks) }
-/// ensures world { IfOk result (λ ended. IsWorld ended.0) }
-/// ensures flushed { IfOk result (λ ended. ended.0.allocator.asked ≡ 0) }
-///
+/// <code style="display: block; tab-size: 4; white-space: pre-wrap">// In the words of [contracts](crate::contracts):
+/// ensures ok { [IfOk](crate::contracts::logic#IfOk) result (λ ended. [EndsInBlocks](crate::contracts::ent_runner::blocks_frame#EndsInBlocks) S.may_issue systems.now opened
+/// &#9;([blocks_of](crate::contracts::ent_blocks::blocks#blocks_of) reservers.items) ended.1.queues.items ended.0 ended.1.sync.born.items
+/// &#9;ended.1.sync.faults.items) }
+/// ensures all { [OnOk](crate::contracts::logic#OnOk) result ([map](crate::contracts::logic#map) [unused](crate::contracts::ent_blocks::blocks#unused) ([blocks_of](crate::contracts::ent_blocks::blocks#blocks_of) reservers.items) ≡ opened.blocks.phase.blocks) }
+/// ensures world { [IfOk](crate::contracts::logic#IfOk) result (λ ended. [IsWorld](crate::contracts::ent_world::world#IsWorld) ended.0) }
+/// ensures flushed { [IfOk](crate::contracts::logic#IfOk) result (λ ended. ended.0.allocator.asked ≡ 0) }
+/// &#32;
 /// // When the systems are refused, and what is left then.
-/// ensures workers { IsErrWith result (IsUnrun failed.Workers) ↔ ((workers ≡ 0) ⊎ (64 < workers)) }
-/// ensures systems { IsErrWith result (IsUnrun failed.Systems)
-///     ↔ ((0 < workers) × (workers ≤ 64) × (2 ^ 16 < length systems.now)) }
-/// ensures reservers { IsErrWith result (IsUnrun failed.Reservers)
-///     ↔ ((0 < workers) × (workers ≤ 64) × (length systems.now ≤ 2 ^ 16)
-///     × (length reservers.items ≢ length systems.now)) }
-/// ensures other_phase { IsErrWith result (IsUnrun failed.OtherPhase)
-///     ↔ ((0 < workers) × (workers ≤ 64) × (length systems.now ≤ 2 ^ 16)
-///     × (length reservers.items ≡ length systems.now)
-///     × ¬ (All (λ r. r.number ≡ opened.blocks.number) reservers.items)) }
-/// ensures memory_some { IsErrWith result (IsUnrun failed.Memory) → 0 < length systems.now }
-/// ensures unrun { IfErr result (IfUnrun (λ world _ _. world ≡ opened)) }
-/// ensures handed_back { IfErr result (IfUnrun (λ _ left error.
-///     error ≢ failed.Lost → left ≡ reservers.items)) }
-///
+/// ensures workers { [IsErrWith](crate::contracts::ent_blocks::faults#IsErrWith) result ([IsUnrun](crate::contracts::ent_runner::blocks_unframed#IsUnrun) failed.Workers) ↔ ((workers ≡ 0) ⊎ (64 \< workers)) }
+/// ensures systems { [IsErrWith](crate::contracts::ent_blocks::faults#IsErrWith) result ([IsUnrun](crate::contracts::ent_runner::blocks_unframed#IsUnrun) failed.Systems)
+/// &#9;↔ ((0 \< workers) × (workers ≤ 64) × (2 ^ 16 \< [length](crate::contracts::logic#length) systems.now)) }
+/// ensures reservers { [IsErrWith](crate::contracts::ent_blocks::faults#IsErrWith) result ([IsUnrun](crate::contracts::ent_runner::blocks_unframed#IsUnrun) failed.Reservers)
+/// &#9;↔ ((0 \< workers) × (workers ≤ 64) × ([length](crate::contracts::logic#length) systems.now ≤ 2 ^ 16)
+/// &#9;× ([length](crate::contracts::logic#length) reservers.items ≢ [length](crate::contracts::logic#length) systems.now)) }
+/// ensures other_phase { [IsErrWith](crate::contracts::ent_blocks::faults#IsErrWith) result ([IsUnrun](crate::contracts::ent_runner::blocks_unframed#IsUnrun) failed.OtherPhase)
+/// &#9;↔ ((0 \< workers) × (workers ≤ 64) × ([length](crate::contracts::logic#length) systems.now ≤ 2 ^ 16)
+/// &#9;× ([length](crate::contracts::logic#length) reservers.items ≡ [length](crate::contracts::logic#length) systems.now)
+/// &#9;× ¬ ([All](crate::contracts::logic#All) (λ r. r.number ≡ opened.blocks.number) reservers.items)) }
+/// ensures memory_some { [IsErrWith](crate::contracts::ent_blocks::faults#IsErrWith) result ([IsUnrun](crate::contracts::ent_runner::blocks_unframed#IsUnrun) failed.Memory) → 0 \< [length](crate::contracts::logic#length) systems.now }
+/// ensures unrun { [IfErr](crate::contracts::logic#IfErr) result ([IfUnrun](crate::contracts::ent_runner::blocks_unframed#IfUnrun) (λ world \_ \_. world ≡ opened)) }
+/// ensures handed_back { [IfErr](crate::contracts::logic#IfErr) result ([IfUnrun](crate::contracts::ent_runner::blocks_unframed#IfUnrun) (λ \_ left error.
+/// &#9;error ≢ failed.Lost → left ≡ reservers.items)) }
+/// &#32;
 /// // What is left if the systems were broken off.
-/// ensures lost { IfErr result (IfUnrun (λ _ _ error. error ≡ failed.Lost
-///     → HaveStopped S.may_issue S.may_leave systems.now workers (view_in_blocks opened)
-///     opened.blocks.phase.start (blocks_of reservers.items))) }
-/// ensures lost_some { IfErr result (IfUnrun (λ _ _ error. error ≡ failed.Lost
-///     → 0 < length systems.now)) }
-/// ensures lost_reservers { IfErr result (IfUnrun (λ _ left error. error ≡ failed.Lost
-///     → left ≡ [])) }
-///
+/// ensures lost { [IfErr](crate::contracts::logic#IfErr) result ([IfUnrun](crate::contracts::ent_runner::blocks_unframed#IfUnrun) (λ \_ \_ error. error ≡ failed.Lost
+/// &#9;→ [HaveStopped](crate::contracts::ent_runner::blocks_queues#HaveStopped) S.may_issue S.may_leave systems.now workers ([view_in_blocks](crate::contracts::ent_runner::blocks_frame#view_in_blocks) opened)
+/// &#9;opened.blocks.phase.start ([blocks_of](crate::contracts::ent_blocks::blocks#blocks_of) reservers.items))) }
+/// ensures lost_some { [IfErr](crate::contracts::logic#IfErr) result ([IfUnrun](crate::contracts::ent_runner::blocks_unframed#IfUnrun) (λ \_ \_ error. error ≡ failed.Lost
+/// &#9;→ 0 \< [length](crate::contracts::logic#length) systems.now)) }
+/// ensures lost_reservers { [IfErr](crate::contracts::logic#IfErr) result ([IfUnrun](crate::contracts::ent_runner::blocks_unframed#IfUnrun) (λ \_ left error. error ≡ failed.Lost
+/// &#9;→ left ≡ \[\])) }
+/// &#32;
 /// // All systems ran, and the world was not closed.
-/// ensures unended { IfErr result (IfUnended (λ world _ _ _. world ≡ opened)) }
-/// ensures unended_issued { IfErr result (IfUnended (λ _ left _ queues.
-///     HaveIssued S.may_issue systems.now (view_in_blocks opened) opened.blocks.phase.start
-///     (blocks_of reservers.items) queues (blocks_of left))) }
-/// ensures unended_of { IfErr result (IfUnended (λ _ left _ _.
-///     All (λ r. r.number ≡ opened.blocks.number) left)) }
-///
+/// ensures unended { [IfErr](crate::contracts::logic#IfErr) result ([IfUnended](crate::contracts::ent_runner::blocks_unframed#IfUnended) (λ world \_ \_ \_. world ≡ opened)) }
+/// ensures unended_issued { [IfErr](crate::contracts::logic#IfErr) result ([IfUnended](crate::contracts::ent_runner::blocks_unframed#IfUnended) (λ \_ left \_ queues.
+/// &#9;[HaveIssued](crate::contracts::ent_runner::blocks_queues#HaveIssued) S.may_issue systems.now ([view_in_blocks](crate::contracts::ent_runner::blocks_frame#view_in_blocks) opened) opened.blocks.phase.start
+/// &#9;([blocks_of](crate::contracts::ent_blocks::blocks#blocks_of) reservers.items) queues ([blocks_of](crate::contracts::ent_blocks::blocks#blocks_of) left))) }
+/// ensures unended_of { [IfErr](crate::contracts::logic#IfErr) result ([IfUnended](crate::contracts::ent_runner::blocks_unframed#IfUnended) (λ \_ left \_ \_.
+/// &#9;[All](crate::contracts::logic#All) (λ r. r.number ≡ opened.blocks.number) left)) }
+/// &#32;
 /// // Why not. If the reservers are those of all blocks, in their order, it is because memory ran out.
-/// ensures unended_why { IfErr result (IfUnended (λ _ _ error _.
-///     IsWhyUnended opened.blocks.phase.blocks (blocks_of reservers.items) error)) }
-/// ensures whole { map unused (blocks_of reservers.items) ≡ opened.blocks.phase.blocks
-///     → IfErr result (IfUnended (λ _ _ error _. error ≡ unended.Memory)) }
-///
+/// ensures unended_why { [IfErr](crate::contracts::logic#IfErr) result ([IfUnended](crate::contracts::ent_runner::blocks_unframed#IfUnended) (λ \_ \_ error \_.
+/// &#9;[IsWhyUnended](crate::contracts::ent_runner::blocks_unframed#IsWhyUnended) opened.blocks.phase.blocks ([blocks_of](crate::contracts::ent_blocks::blocks#blocks_of) reservers.items) error)) }
+/// ensures whole { [map](crate::contracts::logic#map) [unused](crate::contracts::ent_blocks::blocks#unused) ([blocks_of](crate::contracts::ent_blocks::blocks#blocks_of) reservers.items) ≡ opened.blocks.phase.blocks
+/// &#9;→ [IfErr](crate::contracts::logic#IfErr) result ([IfUnended](crate::contracts::ent_runner::blocks_unframed#IfUnended) (λ \_ \_ error \_. error ≡ unended.Memory)) }
+/// &#32;
 /// // All systems ran, and the sync point stopped. The reservers were those of all blocks.
-/// ensures stopped_all { IfErr result (IfSyncStopped (λ _ _ _.
-///     map unused (blocks_of reservers.items) ≡ opened.blocks.phase.blocks)) }
-/// ensures stopped { IfErr result (IfSyncStopped (λ world fault queues.
-///     StopsInBlocks S.may_issue systems.now opened (blocks_of reservers.items) queues world
-///     fault)) }
-/// ensures stopped_flushed { IfErr result (IfStoppedAt (λ world _ _ _ _. world.allocator.asked ≡ 0)) }
-/// ensures stopped_memory { IfErr result (IfStoppedAt TakesMemoryAt) }
-/// ensures flush_reserved { IfErr result (IfSyncStopped (λ world fault _.
-///     fault ≡ stop.FlushMemory → 0 < length world.allocator.taken)) }
-/// ```
+/// ensures stopped_all { [IfErr](crate::contracts::logic#IfErr) result ([IfSyncStopped](crate::contracts::ent_runner::blocks_unframed#IfSyncStopped) (λ \_ \_ \_.
+/// &#9;[map](crate::contracts::logic#map) [unused](crate::contracts::ent_blocks::blocks#unused) ([blocks_of](crate::contracts::ent_blocks::blocks#blocks_of) reservers.items) ≡ opened.blocks.phase.blocks)) }
+/// ensures stopped { [IfErr](crate::contracts::logic#IfErr) result ([IfSyncStopped](crate::contracts::ent_runner::blocks_unframed#IfSyncStopped) (λ world fault queues.
+/// &#9;[StopsInBlocks](crate::contracts::ent_runner::blocks_frame#StopsInBlocks) S.may_issue systems.now opened ([blocks_of](crate::contracts::ent_blocks::blocks#blocks_of) reservers.items) queues world
+/// &#9;fault)) }
+/// ensures stopped_flushed { [IfErr](crate::contracts::logic#IfErr) result ([IfStoppedAt](crate::contracts::ent_runner::blocks_unframed#IfStoppedAt) (λ world \_ \_ \_ \_. world.allocator.asked ≡ 0)) }
+/// ensures stopped_memory { [IfErr](crate::contracts::logic#IfErr) result ([IfStoppedAt](crate::contracts::ent_runner::blocks_unframed#IfStoppedAt) [TakesMemoryAt](crate::contracts::ent_world::memory#TakesMemoryAt)) }
+/// ensures flush_reserved { [IfErr](crate::contracts::logic#IfErr) result ([IfSyncStopped](crate::contracts::ent_runner::blocks_unframed#IfSyncStopped) (λ world fault \_.
+/// &#9;fault ≡ stop.FlushMemory → 0 \< [length](crate::contracts::logic#length) world.allocator.taken)) }
+/// </code>
 ///
 /// </details>
 #[inline]

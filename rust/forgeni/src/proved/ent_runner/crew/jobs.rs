@@ -16,15 +16,13 @@ pub trait Jobs<O, L> {
     ///
     /// <details><summary>Contract</summary>
     ///
-    /// In the words of the folder `specs/` of crate `ent_runner`:
-    ///
-    /// ```text
-    /// requires number { number < count self.now }
+    /// <code style="display: block; tab-size: 4; white-space: pre-wrap">// In the words of [contracts](crate::contracts):
+    /// requires number { number \< count self.now }
     /// requires lent { may_have self.now lent.old }
     /// ensures stays { may_have self.now lent.new }
-    /// ensures does { OnOk result.1 (may_do self.now number lent.old result.0 lent.new) }
-    /// ensures leaves { OnErr result.1 (may_leave self.now number lent.old result.0 lent.new) }
-    /// ```
+    /// ensures does { [OnOk](crate::contracts::logic#OnOk) result.1 (may_do self.now number lent.old result.0 lent.new) }
+    /// ensures leaves { [OnErr](crate::contracts::logic#OnErr) result.1 (may_leave self.now number lent.old result.0 lent.new) }
+    /// </code>
     ///
     /// </details>
     fn run(&self, number: usize, lent: &mut L) -> (O, Result<(), OutOfMemory>);

@@ -59,16 +59,14 @@ pub trait System<S: Source = crate::reserving::SharedSource> {
     ///
     /// <details><summary>Contract</summary>
     ///
-    /// In the words of the folder `specs/` of crate `ent_runner`:
-    ///
-    /// ```text
-    /// requires { IsReady S.serves commands.old }
-    /// ensures extends { Extends Issues S.serves S.may_reply commands.old commands.new }
-    /// ensures may { output_of commands.old ≡ []
-    ///     → OnOk result (may_issue self.now view.now (output_of commands.new)) }
-    /// ensures leaves { output_of commands.old ≡ []
-    ///     → OnErr result (may_leave self.now view.now (output_of commands.new)) }
-    /// ```
+    /// <code style="display: block; tab-size: 4; white-space: pre-wrap">// In the words of [contracts](crate::contracts):
+    /// requires { [IsReady](crate::contracts::ent_queue::commands#IsReady) S.serves commands.old }
+    /// ensures extends { [Extends](crate::contracts::ent_queue::commands#Extends) [Issues](crate::contracts::ent_queue::issuing#Issues) S.serves S.may_reply commands.old commands.new }
+    /// ensures may { [output_of](crate::contracts::ent_queue::commands#output_of) commands.old ≡ \[\]
+    /// &#9;→ [OnOk](crate::contracts::logic#OnOk) result (may_issue self.now view.now ([output_of](crate::contracts::ent_queue::commands#output_of) commands.new)) }
+    /// ensures leaves { [output_of](crate::contracts::ent_queue::commands#output_of) commands.old ≡ \[\]
+    /// &#9;→ [OnErr](crate::contracts::logic#OnErr) result (may_leave self.now view.now ([output_of](crate::contracts::ent_queue::commands#output_of) commands.new)) }
+    /// </code>
     ///
     /// </details>
     fn run(

@@ -30,41 +30,39 @@ use crate::kit::thread::Join;
 ///
 /// <details><summary>Contract</summary>
 ///
-/// In the words of the folder `specs/` of crate `ent_runner`:
-///
-/// ```text
-/// ensures ok { IfOk result (λ point. HaveBegun S.may_log systems.now workers
-///     entities.old.allocator out.old.items point entities.new.allocator out.new.items) }
-/// ensures alive { IfOk result (λ point. All (IsLive entities.new.allocator) (spawned_in point)) }
+/// <code style="display: block; tab-size: 4; white-space: pre-wrap">// In the words of [contracts](crate::contracts):
+/// ensures ok { [IfOk](crate::contracts::logic#IfOk) result (λ point. [HaveBegun](crate::contracts::ent_runner::logs#HaveBegun) S.may_log systems.now workers
+/// &#9;entities.old.allocator out.old.items point entities.new.allocator out.new.items) }
+/// ensures alive { [IfOk](crate::contracts::logic#IfOk) result (λ point. [All](crate::contracts::logic#All) ([IsLive](crate::contracts::ent_alloc::sound#IsLive) entities.new.allocator) ([spawned_in](crate::contracts::ent_log::logs#spawned_in) point)) }
 /// ensures rows { entities.new.rows ≡ entities.old.rows }
-/// ensures needs_flush { IsErrAnd result (λ h. h.error ≡ failed.NeedsFlush)
-///     ↔ (0 < entities.old.allocator.asked) }
-/// ensures no_crew { IsErrAnd result (λ h. h.error ≡ failed.Workers)
-///     ↔ ((entities.old.allocator.asked ≡ 0) × ((workers ≡ 0) ⊎ (64 < workers))) }
-/// ensures too_many { IsErrAnd result (λ h. h.error ≡ failed.Systems)
-///     ↔ ((entities.old.allocator.asked ≡ 0) × (0 < workers) × (workers ≤ 64)
-///     × (2 ^ 16 < length systems.now)) }
-/// ensures memory_some { IsErrAnd result (λ h. h.error ≡ failed.Memory)
-///     → 0 < length systems.now }
-/// ensures nothing { IfErr result (λ h. h.error ≢ failed.Lost → h.error ≢ failed.Unborn
-///     → entities.new ≡ entities.old) }
-/// ensures none { IfErr result (λ h. h.error ≢ failed.Unborn → h.value.items ≡ []) }
-/// ensures unlisted { OnErr result (out.new.items ≡ out.old.items) }
-///
+/// ensures needs_flush { [IsErrAnd](crate::contracts::logic#IsErrAnd) result (λ h. h.error ≡ failed.NeedsFlush)
+/// &#9;↔ (0 \< entities.old.allocator.asked) }
+/// ensures no_crew { [IsErrAnd](crate::contracts::logic#IsErrAnd) result (λ h. h.error ≡ failed.Workers)
+/// &#9;↔ ((entities.old.allocator.asked ≡ 0) × ((workers ≡ 0) ⊎ (64 \< workers))) }
+/// ensures too_many { [IsErrAnd](crate::contracts::logic#IsErrAnd) result (λ h. h.error ≡ failed.Systems)
+/// &#9;↔ ((entities.old.allocator.asked ≡ 0) × (0 \< workers) × (workers ≤ 64)
+/// &#9;× (2 ^ 16 \< [length](crate::contracts::logic#length) systems.now)) }
+/// ensures memory_some { [IsErrAnd](crate::contracts::logic#IsErrAnd) result (λ h. h.error ≡ failed.Memory)
+/// &#9;→ 0 \< [length](crate::contracts::logic#length) systems.now }
+/// ensures nothing { [IfErr](crate::contracts::logic#IfErr) result (λ h. h.error ≢ failed.Lost → h.error ≢ failed.Unborn
+/// &#9;→ entities.new ≡ entities.old) }
+/// ensures none { [IfErr](crate::contracts::logic#IfErr) result (λ h. h.error ≢ failed.Unborn → h.value.items ≡ \[\]) }
+/// ensures unlisted { [OnErr](crate::contracts::logic#OnErr) result (out.new.items ≡ out.old.items) }
+/// &#32;
 /// // What is left of a run that was broken off.
-/// ensures lost { IsErrAnd result (λ h. h.error ≡ failed.Lost) → IsBrokenOff S.may_log S.may_leave
-///     systems.now workers entities.old.allocator entities.new.allocator }
-/// ensures lost_some { IsErrAnd result (λ h. h.error ≡ failed.Lost) → 0 < length systems.now }
-///
-/// // What holds if only what was reserved isn't born.
-/// ensures unborn { IfErr result (λ h. h.error ≡ failed.Unborn → HaveLogged S.may_log systems.now
-///     workers entities.old.allocator h.value.items entities.new.allocator) }
-/// ensures unborn_reserved { IfErr result (λ h. h.error ≡ failed.Unborn → first_unreserved
-///     entities.new.allocator (spawned_in (entries_of h.value.items)) ≡ None) }
-/// ensures unborn_memory { IfErr result (λ h. h.error ≡ failed.Unborn
-///     → (0 < made_at_flush entities.new.allocator) ⊎ (vec_capacity out.old
-///     < vec_len out.old + length entities.new.allocator.taken)) }
-/// ```
+/// ensures lost { [IsErrAnd](crate::contracts::logic#IsErrAnd) result (λ h. h.error ≡ failed.Lost) → [IsBrokenOff](crate::contracts::ent_runner::logs#IsBrokenOff) S.may_log S.may_leave
+/// &#9;systems.now workers entities.old.allocator entities.new.allocator }
+/// ensures lost_some { [IsErrAnd](crate::contracts::logic#IsErrAnd) result (λ h. h.error ≡ failed.Lost) → 0 \< [length](crate::contracts::logic#length) systems.now }
+/// &#32;
+/// // What holds if only what was reserved isn\'t born.
+/// ensures unborn { [IfErr](crate::contracts::logic#IfErr) result (λ h. h.error ≡ failed.Unborn → [HaveLogged](crate::contracts::ent_runner::logs#HaveLogged) S.may_log systems.now
+/// &#9;workers entities.old.allocator h.value.items entities.new.allocator) }
+/// ensures unborn_reserved { [IfErr](crate::contracts::logic#IfErr) result (λ h. h.error ≡ failed.Unborn → [first_unreserved](crate::contracts::ent_log::logs#first_unreserved)
+/// &#9;entities.new.allocator ([spawned_in](crate::contracts::ent_log::logs#spawned_in) ([entries_of](crate::contracts::ent_log::logs#entries_of) h.value.items)) ≡ [None](crate::contracts::logic#None)) }
+/// ensures unborn_memory { [IfErr](crate::contracts::logic#IfErr) result (λ h. h.error ≡ failed.Unborn
+/// &#9;→ (0 \< [made_at_flush](crate::contracts::ent_alloc::sequential#made_at_flush) entities.new.allocator) ⊎ ([vec_capacity](crate::contracts::logic#vec_capacity) out.old
+/// &#9;\< [vec_len](crate::contracts::logic#vec_len) out.old + [length](crate::contracts::logic#length) entities.new.allocator.taken)) }
+/// </code>
 ///
 /// </details>
 #[inline]

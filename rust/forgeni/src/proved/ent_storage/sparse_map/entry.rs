@@ -83,11 +83,9 @@ impl<'a, T> Entry<'a, T> {
     ///
     /// <details><summary>Contract</summary>
     ///
-    /// In the words of the folder `specs/` of crate `ent_storage`:
-    ///
-    /// ```text
+    /// <code style="display: block; tab-size: 4; white-space: pre-wrap">// In the words of [contracts](crate::contracts):
     /// ensures { result ≡ entry_handle self.now }
-    /// ```
+    /// </code>
     ///
     /// </details>
     #[must_use]
@@ -119,16 +117,14 @@ impl<'a, T> Entry<'a, T> {
     ///
     /// <details><summary>Contract</summary>
     ///
-    /// In the words of the folder `specs/` of crate `ent_storage`:
-    ///
-    /// ```text
-    /// ensures* writes_back { sem 𝓛 (entry_lends T.row self.entry result) }
-    /// ensures value { IfOk result (λ x. x.now ≡ unwrap_or (entry_value self.entry) value) }
-    /// ensures occupied { IsSome (entry_value self.entry) → IsOk result }
-    /// ensures refused { entry_value self.entry ≡ None
-    ///     → IsRefusal (entry_map self.entry) (entry_handle self.entry) (error_of result) }
-    /// ensures back { IfErr result (λ refused. refused.value ≡ value) }
-    /// ```
+    /// <code style="display: block; tab-size: 4; white-space: pre-wrap">// In the words of [contracts](crate::contracts):
+    /// ensures\* writes_back { [sem](crate::contracts::logic#sem) 𝓛 (entry_lends T.row self.entry result) }
+    /// ensures value { [IfOk](crate::contracts::logic#IfOk) result (λ x. x.now ≡ [unwrap_or](crate::contracts::logic#unwrap_or) (entry_value self.entry) value) }
+    /// ensures occupied { [IsSome](crate::contracts::logic#IsSome) (entry_value self.entry) → [IsOk](crate::contracts::logic#IsOk) result }
+    /// ensures refused { entry_value self.entry ≡ [None](crate::contracts::logic#None)
+    /// &#9;→ IsRefusal (entry_map self.entry) (entry_handle self.entry) ([error_of](crate::contracts::ent_storage::handle_map#error_of) result) }
+    /// ensures back { [IfErr](crate::contracts::logic#IfErr) result (λ refused. refused.value ≡ value) }
+    /// </code>
     ///
     /// </details>
     #[inline]
@@ -163,18 +159,16 @@ impl<'a, T> Entry<'a, T> {
     ///
     /// <details><summary>Contract</summary>
     ///
-    /// In the words of the folder `specs/` of crate `ent_storage`:
-    ///
-    /// ```text
+    /// <code style="display: block; tab-size: 4; white-space: pre-wrap">// In the words of [contracts](crate::contracts):
     /// requires { F.IsAlwaysCallable make }
-    /// ensures* writes_back { sem 𝓛 (entry_lends T.row self.entry result) }
-    /// ensures value { IfOk result (λ x.
-    ///     UnwrapsOrElse (entry_value self.entry) (F.post make) x.now) }
-    /// ensures occupied { IsSome (entry_value self.entry) → IsOk result }
-    /// ensures refused { entry_value self.entry ≡ None
-    ///     → IsRefusal (entry_map self.entry) (entry_handle self.entry) (error_of result) }
-    /// ensures back { IfErr result (λ refused. F.post make refused.value) }
-    /// ```
+    /// ensures\* writes_back { [sem](crate::contracts::logic#sem) 𝓛 (entry_lends T.row self.entry result) }
+    /// ensures value { [IfOk](crate::contracts::logic#IfOk) result (λ x.
+    /// &#9;[UnwrapsOrElse](crate::contracts::logic#UnwrapsOrElse) (entry_value self.entry) (F.post make) x.now) }
+    /// ensures occupied { [IsSome](crate::contracts::logic#IsSome) (entry_value self.entry) → [IsOk](crate::contracts::logic#IsOk) result }
+    /// ensures refused { entry_value self.entry ≡ [None](crate::contracts::logic#None)
+    /// &#9;→ IsRefusal (entry_map self.entry) (entry_handle self.entry) ([error_of](crate::contracts::ent_storage::handle_map#error_of) result) }
+    /// ensures back { [IfErr](crate::contracts::logic#IfErr) result (λ refused. F.post make refused.value) }
+    /// </code>
     ///
     /// </details>
     #[inline]
@@ -209,15 +203,13 @@ impl<'a, T> Entry<'a, T> {
     ///
     /// <details><summary>Contract</summary>
     ///
-    /// In the words of the folder `specs/` of crate `ent_storage`:
-    ///
-    /// ```text
+    /// <code style="display: block; tab-size: 4; white-space: pre-wrap">// In the words of [contracts](crate::contracts):
     /// requires { F.IsAlwaysCallable change }
     /// ensures same_map { (entry_ref result).ghost_name ≡ (entry_ref self.entry).ghost_name }
     /// ensures handle { entry_handle result ≡ entry_handle self.entry }
-    /// ensures value { ModifiesValue F.FnOnce change (entry_value self.entry) (entry_value result) }
-    /// ensures gives { (w : T) (m : _) → Gives result w m → Gives self.entry w m }
-    /// ```
+    /// ensures value { [ModifiesValue](crate::contracts::logic#ModifiesValue) F.FnOnce change (entry_value self.entry) (entry_value result) }
+    /// ensures gives { (w : T) (m : \_) → Gives result w m → Gives self.entry w m }
+    /// </code>
     ///
     /// </details>
     #[must_use]
@@ -238,11 +230,9 @@ impl<'a, T> OccupiedEntry<'a, T> {
     ///
     /// <details><summary>Contract</summary>
     ///
-    /// In the words of the folder `specs/` of crate `ent_storage`:
-    ///
-    /// ```text
+    /// <code style="display: block; tab-size: 4; white-space: pre-wrap">// In the words of [contracts](crate::contracts):
     /// ensures { result ≡ entry_handle (Occupied self.now) }
-    /// ```
+    /// </code>
     ///
     /// </details>
     #[must_use]
@@ -255,11 +245,9 @@ impl<'a, T> OccupiedEntry<'a, T> {
     ///
     /// <details><summary>Contract</summary>
     ///
-    /// In the words of the folder `specs/` of crate `ent_storage`:
-    ///
-    /// ```text
-    /// ensures { entry_value (Occupied self.now) ≡ Some result.now }
-    /// ```
+    /// <code style="display: block; tab-size: 4; white-space: pre-wrap">// In the words of [contracts](crate::contracts):
+    /// ensures { entry_value (Occupied self.now) ≡ [Some](crate::contracts::logic#Some) result.now }
+    /// </code>
     ///
     /// </details>
     #[must_use]
@@ -275,13 +263,11 @@ impl<'a, T> OccupiedEntry<'a, T> {
     ///
     /// <details><summary>Contract</summary>
     ///
-    /// In the words of the folder `specs/` of crate `ent_storage`:
-    ///
-    /// ```text
-    /// ensures* writes_back { sem 𝓛 (lends_in T.row self.entry result) }
-    /// ensures value { entry_value (Occupied self.old) ≡ Some result.now }
+    /// <code style="display: block; tab-size: 4; white-space: pre-wrap">// In the words of [contracts](crate::contracts):
+    /// ensures\* writes_back { [sem](crate::contracts::logic#sem) 𝓛 (lends_in T.row self.entry result) }
+    /// ensures value { entry_value (Occupied self.old) ≡ [Some](crate::contracts::logic#Some) result.now }
     /// ensures written { (w : T) → IsWritten self.old w (with_value self.old w) }
-    /// ```
+    /// </code>
     ///
     /// </details>
     #[must_use]
@@ -313,12 +299,10 @@ impl<'a, T> OccupiedEntry<'a, T> {
     ///
     /// <details><summary>Contract</summary>
     ///
-    /// In the words of the folder `specs/` of crate `ent_storage`:
-    ///
-    /// ```text
-    /// ensures* writes_back { sem 𝓛 (occupied_lends T.row self.entry result) }
-    /// ensures value { entry_value (Occupied self.entry) ≡ Some result.now }
-    /// ```
+    /// <code style="display: block; tab-size: 4; white-space: pre-wrap">// In the words of [contracts](crate::contracts):
+    /// ensures\* writes_back { [sem](crate::contracts::logic#sem) 𝓛 (occupied_lends T.row self.entry result) }
+    /// ensures value { entry_value (Occupied self.entry) ≡ [Some](crate::contracts::logic#Some) result.now }
+    /// </code>
     ///
     /// </details>
     #[must_use]
@@ -344,12 +328,10 @@ impl<'a, T> OccupiedEntry<'a, T> {
     ///
     /// <details><summary>Contract</summary>
     ///
-    /// In the words of the folder `specs/` of crate `ent_storage`:
-    ///
-    /// ```text
-    /// ensures before { entry_value (Occupied self.old) ≡ Some result }
+    /// <code style="display: block; tab-size: 4; white-space: pre-wrap">// In the words of [contracts](crate::contracts):
+    /// ensures before { entry_value (Occupied self.old) ≡ [Some](crate::contracts::logic#Some) result }
     /// ensures written { IsWritten self.old value self.new }
-    /// ```
+    /// </code>
     ///
     /// </details>
     #[inline]
@@ -374,15 +356,13 @@ impl<'a, T> OccupiedEntry<'a, T> {
     ///
     /// <details><summary>Contract</summary>
     ///
-    /// In the words of the folder `specs/` of crate `ent_storage`:
-    ///
-    /// ```text
-    /// ensures value { entry_value (Occupied self.entry) ≡ Some result }
+    /// <code style="display: block; tab-size: 4; white-space: pre-wrap">// In the words of [contracts](crate::contracts):
+    /// ensures value { entry_value (Occupied self.entry) ≡ [Some](crate::contracts::logic#Some) result }
     /// ensures map { self.exit.0.now ≡ record (entry_map (Occupied self.entry)) {
-    ///   values = finite.remove (entry_map (Occupied self.entry)).values
-    ///       (entry_handle (Occupied self.entry));
+    /// &#32;&#32;values = [finite.remove](crate::contracts::logic#FinMap.remove) (entry_map (Occupied self.entry)).values
+    /// &#9;&#32;&#32;(entry_handle (Occupied self.entry));
     /// } }
-    /// ```
+    /// </code>
     ///
     /// </details>
     #[inline]
@@ -400,11 +380,9 @@ impl<'a, T> VacantEntry<'a, T> {
     ///
     /// <details><summary>Contract</summary>
     ///
-    /// In the words of the folder `specs/` of crate `ent_storage`:
-    ///
-    /// ```text
+    /// <code style="display: block; tab-size: 4; white-space: pre-wrap">// In the words of [contracts](crate::contracts):
     /// ensures { result ≡ entry_handle (Vacant self.now) }
-    /// ```
+    /// </code>
     ///
     /// </details>
     #[must_use]
@@ -434,15 +412,13 @@ impl<'a, T> VacantEntry<'a, T> {
     ///
     /// <details><summary>Contract</summary>
     ///
-    /// In the words of the folder `specs/` of crate `ent_storage`:
-    ///
-    /// ```text
-    /// ensures* writes_back { sem 𝓛 (entry_lends T.row (Vacant self.entry) result) }
-    /// ensures value { IfOk result (λ x. x.now ≡ value) }
+    /// <code style="display: block; tab-size: 4; white-space: pre-wrap">// In the words of [contracts](crate::contracts):
+    /// ensures\* writes_back { [sem](crate::contracts::logic#sem) 𝓛 (entry_lends T.row (Vacant self.entry) result) }
+    /// ensures value { [IfOk](crate::contracts::logic#IfOk) result (λ x. x.now ≡ value) }
     /// ensures refused { IsRefusal (entry_map (Vacant self.entry))
-    ///     (entry_handle (Vacant self.entry)) (error_of result) }
-    /// ensures back { IfErr result (λ refused. refused.value ≡ value) }
-    /// ```
+    /// &#9;(entry_handle (Vacant self.entry)) ([error_of](crate::contracts::ent_storage::handle_map#error_of) result) }
+    /// ensures back { [IfErr](crate::contracts::logic#IfErr) result (λ refused. refused.value ≡ value) }
+    /// </code>
     ///
     /// </details>
     #[inline]

@@ -1,0 +1,613 @@
+// Made of crates/ent_storage/specs by .ci/contracts.py. It isn't edited by hand.
+
+//! The definitions of crate `ent_storage`, in the order in which one reads them:
+//! [`position`], [`bundle`], [`components`], [`entity_map`], [`birth_order`], [`places`], [`sparse_set`], [`living`], [`indexed`], [`handle_map`], [`retained`], [`copies`], [`image`], [`first_fault`], [`sparse_map`].
+
+#[doc(alias("IsAt"))]
+/// The position of a key in a list of pairs whose keys strictly rise, or where it would go.
+///
+/// <pre>
+/// module _ {K X : Type 0} (R : K → K → Ordering) where
+///   -- the pair at position i has the key
+///   pub record <b id="IsAt">IsAt</b> (pairs : <a href="../../logic/index.html#List">List</a> (K × X)) (key : K) (i : <a href="../../logic/index.html#ℕ">ℕ</a>) : Type 0 where
+///     pub in_range : i &lt; <a href="../../logic/index.html#length">length</a> pairs
+///     pub has_key : HoldsAt (λ pair. R pair.0 key ≡ Equal) pairs i
+/// </pre>
+pub mod position {}
+
+#[doc(alias("Bundle", "IsBundle", "IsItem", "bundle_of", "with_put"))]
+/// A bundle: the components that an entity is given, and their values.
+///
+/// <pre>
+/// -- components and their values, by strictly rising number
+/// abbrev pub <b id="Bundle">Bundle</b> : Type 0
+/// <a href="#Bundle">Bundle</a> = <a href="../../logic/index.html#List">List</a> (ComponentId × <a href="../../logic/index.html#ℤ">ℤ</a>)
+/// </pre>
+///
+/// <pre>
+/// -- a component's number is a byte, and its value has 64 bits
+/// pub record <b id="IsItem">IsItem</b> (item : ComponentId × <a href="../../logic/index.html#ℤ">ℤ</a>) : Type 0 where
+///   pub id : item.0.0 &lt; 2 ^ 8
+///   pub value : FitsSigned w64 item.1
+/// </pre>
+///
+/// <pre>
+/// pub record <b id="IsBundle">IsBundle</b> (items : <a href="#Bundle">Bundle</a>) : Type 0 where
+///   pub rising : <a href="../../logic/index.html#T">T</a> (<a href="../../logic/index.html#FinMap.is_sorted">is_sorted</a> <a href="../../ent_handle/component/index.html#component_cmp">component_cmp</a> items)
+///   pub each : <a href="../../logic/index.html#All">All</a> <a href="#IsItem">IsItem</a> items
+/// </pre>
+///
+/// <pre>
+/// -- the bundle after each of the items was put into it, the first item first
+/// abbrev pub <b id="with_put">with_put</b> : <a href="#Bundle">Bundle</a> → <a href="../../logic/index.html#List">List</a> (ComponentId × <a href="../../logic/index.html#ℤ">ℤ</a>) → <a href="#Bundle">Bundle</a>
+/// <a href="#with_put">with_put</a> held [] = held
+/// <a href="#with_put">with_put</a> held (item ∷ items) = <a href="#with_put">with_put</a> (<a href="../../logic/index.html#FinMap.put">put</a> <a href="../../ent_handle/component/index.html#component_cmp">component_cmp</a> item.0 item.1 held) items
+/// </pre>
+///
+/// <pre>
+/// -- the bundle of these components: of one that stands there twice the last value
+/// abbrev pub <b id="bundle_of">bundle_of</b> : <a href="../../logic/index.html#List">List</a> (ComponentId × <a href="../../logic/index.html#ℤ">ℤ</a>) → <a href="#Bundle">Bundle</a>
+/// <a href="#bundle_of">bundle_of</a> items = <a href="#with_put">with_put</a> [] items
+/// </pre>
+pub mod bundle {}
+
+#[doc(alias("Components", "missing", "with_items"))]
+/// The components of one entity: a finite map from component numbers to values.
+///
+/// <pre>
+/// -- the value of each component that an entity has
+/// abbrev pub <b id="Components">Components</b> : Type 0
+/// <a href="#Components">Components</a> = <a href="../../logic/index.html#FinMap.FinMap">map.FinMap</a> <a href="../../ent_handle/component/index.html#component_cmp">component_cmp</a> <a href="../../logic/index.html#ℤ">ℤ</a>
+/// </pre>
+///
+/// <pre>
+/// -- the components after each item was set, the first item first
+/// abbrev pub <b id="with_items">with_items</b> : <a href="#Components">Components</a> → <a href="../../logic/index.html#List">List</a> (ComponentId × <a href="../../logic/index.html#ℤ">ℤ</a>) → <a href="#Components">Components</a>
+/// <a href="#with_items">with_items</a> held [] = held
+/// <a href="#with_items">with_items</a> held (item ∷ items) = <a href="#with_items">with_items</a> (<a href="../../logic/index.html#FinMap.insert">map.insert</a> held item.0 item.1) items
+/// </pre>
+///
+/// <pre>
+/// -- how many of the items set a component that is not there
+/// abbrev pub <b id="missing">missing</b> : <a href="#Components">Components</a> → <a href="../../logic/index.html#List">List</a> (ComponentId × <a href="../../logic/index.html#ℤ">ℤ</a>) → <a href="../../logic/index.html#ℕ">ℕ</a>
+/// <a href="#missing">missing</a> held items = count_by (λ item. is_none (<a href="../../logic/index.html#FinMap.get">map.get</a> held item.0)) items
+/// </pre>
+pub mod components {}
+
+#[doc(alias("AreBare", "Entity", "EntityMap", "Store", "birth_of", "components_of", "newborn", "value_at_place", "value_of", "with_components"))]
+/// The living entities: a finite map from handles to births and components.
+///
+/// <pre>
+/// -- when an entity was brought to life, and the components that it has
+/// pub record <b id="Entity">Entity</b> : Type 0 where
+///   pub birth : Birth
+///   pub components : <a href="../components/index.html#Components">Components</a>
+/// </pre>
+///
+/// <pre>
+/// -- each living entity, under its handle
+/// abbrev pub <b id="EntityMap">EntityMap</b> : Type 0
+/// <a href="#EntityMap">EntityMap</a> = <a href="../../logic/index.html#FinMap.FinMap">map.FinMap</a> <a href="../../ent_handle/handle/index.html#handle_cmp">handle_cmp</a> <a href="#Entity">Entity</a>
+/// </pre>
+///
+/// <pre>
+/// -- an entity as it is born: without components
+/// abbrev pub <b id="newborn">newborn</b> : Birth → <a href="#Entity">Entity</a>
+/// <a href="#newborn">newborn</a> birth = record { birth = birth; components = <a href="../../logic/index.html#FinMap.empty">map.empty</a> }
+/// </pre>
+///
+/// <pre>
+/// -- the birth of the entity, if it is there
+/// abbrev pub <b id="birth_of">birth_of</b> : <a href="#EntityMap">EntityMap</a> → <a href="../../ent_handle/handle/index.html#Handle">Handle</a> → <a href="../../logic/index.html#Option">Option</a> Birth
+/// <a href="#birth_of">birth_of</a> m h = <a href="../../logic/index.html#option_map">option_map</a> (λ e. e.birth) (<a href="../../logic/index.html#FinMap.get">map.get</a> m h)
+/// </pre>
+///
+/// <pre>
+/// -- its components
+/// abbrev pub <b id="components_of">components_of</b> : <a href="#EntityMap">EntityMap</a> → <a href="../../ent_handle/handle/index.html#Handle">Handle</a> → <a href="../../logic/index.html#Option">Option</a> <a href="../components/index.html#Components">Components</a>
+/// <a href="#components_of">components_of</a> m h = <a href="../../logic/index.html#option_map">option_map</a> (λ e. e.components) (<a href="../../logic/index.html#FinMap.get">map.get</a> m h)
+/// </pre>
+///
+/// <pre>
+/// -- the value of one component, if the entity is there and has it
+/// abbrev pub <b id="value_of">value_of</b> : <a href="#EntityMap">EntityMap</a> → <a href="../../ent_handle/handle/index.html#Handle">Handle</a> → ComponentId → <a href="../../logic/index.html#Option">Option</a> <a href="../../logic/index.html#ℤ">ℤ</a>
+/// <a href="#value_of">value_of</a> m h id = option_and_then (λ e. <a href="../../logic/index.html#FinMap.get">map.get</a> e.components id) (<a href="../../logic/index.html#FinMap.get">map.get</a> m h)
+/// </pre>
+///
+/// <pre>
+/// -- no entity has any component
+/// abbrev pub <b id="AreBare">AreBare</b> : <a href="#EntityMap">EntityMap</a> → Type 0
+/// <a href="#AreBare">AreBare</a> m = (h : <a href="../../ent_handle/handle/index.html#Handle">Handle</a>) (e : <a href="#Entity">Entity</a>) → <a href="../../logic/index.html#FinMap.get">map.get</a> m h ≡ <a href="../../logic/index.html#Some">Some</a> e → e.components ≡ <a href="../../logic/index.html#FinMap.empty">map.empty</a>
+/// </pre>
+///
+/// <pre>
+/// -- the map after the components of one entity were changed; the same map if the entity is not there
+/// abbrev pub <b id="with_components">with_components</b> : <a href="#EntityMap">EntityMap</a> → <a href="../../ent_handle/handle/index.html#Handle">Handle</a> → (<a href="../components/index.html#Components">Components</a> → <a href="../components/index.html#Components">Components</a>) → <a href="#EntityMap">EntityMap</a>
+/// <a href="#with_components">with_components</a> m h change =
+///     option_map_or (λ e. <a href="../../logic/index.html#FinMap.insert">map.insert</a> m h (record e { components = change e.components }))
+///     (<a href="../../logic/index.html#FinMap.get">map.get</a> m h) m
+/// </pre>
+///
+/// <pre>
+/// -- what contracts see of a storage: its entities, the handle at each place, and for how many more
+/// -- it has room
+/// pub record <b id="Store">Store</b> : Type 0 where
+///   pub entities : <a href="#EntityMap">EntityMap</a>
+///   pub places : <a href="../../logic/index.html#List">List</a> <a href="../../ent_handle/handle/index.html#Handle">Handle</a>
+///   pub spare : <a href="../../logic/index.html#ℕ">ℕ</a>
+/// </pre>
+///
+/// <pre>
+/// -- the value of one component of the entity at a place, if there is an entity and has it
+/// abbrev pub <b id="value_at_place">value_at_place</b> : <a href="#Store">Store</a> → <a href="../../logic/index.html#ℕ">ℕ</a> → ComponentId → <a href="../../logic/index.html#Option">Option</a> <a href="../../logic/index.html#ℤ">ℤ</a>
+/// <a href="#value_at_place">value_at_place</a> s place id =
+///     option_and_then (λ h. <a href="#value_of">value_of</a> s.entities h id) (<a href="../../logic/index.html#slice_get">slice_get</a> s.places place)
+/// </pre>
+pub mod entity_map {}
+
+#[doc(alias("IsInOrder", "IsLeastOf", "ListsAll", "ListsByBirth", "ListsWith", "pair_cmp"))]
+/// Lists of handles in the order of births.
+///
+/// <pre>
+/// -- entities by birth, then by handle
+/// abbrev pub <b id="birth_order">birth_order</b> : <a href="../entity_map/index.html#EntityMap">EntityMap</a> → <a href="../../ent_handle/handle/index.html#Handle">Handle</a> → <a href="../../ent_handle/handle/index.html#Handle">Handle</a> → Ordering
+/// <a href="#birth_order">birth_order</a> m = then_cmp (on (<a href="../entity_map/index.html#birth_of">birth_of</a> m) (option_cmp <a href="../../ent_handle/birth/index.html#birth_cmp">birth_cmp</a>)) <a href="../../ent_handle/handle/index.html#handle_cmp">handle_cmp</a>
+/// </pre>
+///
+/// <pre>
+/// -- the list has the handles of the entities that pass and no others, each once, in the order of
+/// -- births
+/// pub record <b id="ListsByBirth">ListsByBirth</b> (passes : <a href="../entity_map/index.html#Entity">Entity</a> → <a href="../../logic/index.html#Bool">Bool</a>) (m : <a href="../entity_map/index.html#EntityMap">EntityMap</a>) (handles : <a href="../../logic/index.html#List">List</a> <a href="../../ent_handle/handle/index.html#Handle">Handle</a>)
+///     : Type 0 where
+///   pub rising : <a href="../../logic/index.html#AllPairs">AllPairs</a> (λ a b. <a href="#birth_order">birth_order</a> m a b ≡ Less) handles
+///   pub holds : (h : <a href="../../ent_handle/handle/index.html#Handle">Handle</a>) → <a href="../../logic/index.html#Contains">Contains</a> handles h
+///       ↔ IsSomeAnd (<a href="../../logic/index.html#FinMap.get">finite.get</a> m h) (λ e. <a href="../../logic/index.html#IsTrue">IsTrue</a> (passes e))
+/// </pre>
+///
+/// <pre>
+/// -- all entities
+/// abbrev pub <b id="ListsAll">ListsAll</b> : <a href="../entity_map/index.html#EntityMap">EntityMap</a> → <a href="../../logic/index.html#List">List</a> <a href="../../ent_handle/handle/index.html#Handle">Handle</a> → Type 0
+/// <a href="#ListsAll">ListsAll</a> = <a href="#ListsByBirth">ListsByBirth</a> (λ _. <a href="../../logic/index.html#true">true</a>)
+/// </pre>
+///
+/// <pre>
+/// -- the entities that have the component
+/// abbrev pub <b id="ListsWith">ListsWith</b> : ComponentId → <a href="../entity_map/index.html#EntityMap">EntityMap</a> → <a href="../../logic/index.html#List">List</a> <a href="../../ent_handle/handle/index.html#Handle">Handle</a> → Type 0
+/// <a href="#ListsWith">ListsWith</a> id = <a href="#ListsByBirth">ListsByBirth</a> (λ e. <a href="../../logic/index.html#FinMap.contains_key">finite.contains_key</a> e.components id)
+/// </pre>
+///
+/// <pre>
+/// -- pairs of a birth and a handle, in the same order
+/// abbrev pub <b id="pair_cmp">pair_cmp</b> : Birth × <a href="../../ent_handle/handle/index.html#Handle">Handle</a> → Birth × <a href="../../ent_handle/handle/index.html#Handle">Handle</a> → Ordering
+/// <a href="#pair_cmp">pair_cmp</a> = then_cmp (on (λ pair. pair.0) <a href="../../ent_handle/birth/index.html#birth_cmp">birth_cmp</a>) (on (λ pair. pair.1) <a href="../../ent_handle/handle/index.html#handle_cmp">handle_cmp</a>)
+/// </pre>
+///
+/// <pre>
+/// -- the handles are those of the pairs, in order
+/// pub record <b id="IsInOrder">IsInOrder</b> (pairs : <a href="../../logic/index.html#List">List</a> (Birth × <a href="../../ent_handle/handle/index.html#Handle">Handle</a>)) (handles : <a href="../../logic/index.html#List">List</a> <a href="../../ent_handle/handle/index.html#Handle">Handle</a>) : Type 0 where
+///   pub sorted : <a href="../../logic/index.html#List">List</a> (Birth × <a href="../../ent_handle/handle/index.html#Handle">Handle</a>)
+///   pub permutation : IsPermutation pairs sorted
+///   pub in_order : IsSorted <a href="#pair_cmp">pair_cmp</a> sorted
+///   pub are : handles ≡ <a href="../../logic/index.html#map">map</a> (λ pair. pair.1) sorted
+/// </pre>
+///
+/// <pre>
+/// -- the handle is the least of those that the pairs have with the birth; without one, none has it
+/// pub record <b id="IsLeastOf">IsLeastOf</b> (birth : Birth) (pairs : <a href="../../logic/index.html#List">List</a> (Birth × <a href="../../ent_handle/handle/index.html#Handle">Handle</a>)) (least : <a href="../../logic/index.html#Option">Option</a> <a href="../../ent_handle/handle/index.html#Handle">Handle</a>)
+///     : Type 0 where
+///   pub listed : <a href="../../logic/index.html#IfSome">IfSome</a> least (λ h. <a href="../../logic/index.html#Contains">Contains</a> pairs (birth, h))
+///   pub before : (h : <a href="../../ent_handle/handle/index.html#Handle">Handle</a>) → <a href="../../logic/index.html#Contains">Contains</a> pairs (birth, h)
+///       → IsSomeAnd least (λ l. <a href="../../ent_handle/handle/index.html#handle_cmp">handle_cmp</a> l h ≢ Greater)
+/// </pre>
+pub mod birth_order {}
+
+#[doc(alias("AreWithout"))]
+/// The places of entities: where each of them stands in the vectors of a storage.
+///
+/// <pre>
+/// -- the handles at the places after one was taken out: the last one has moved into its place
+/// pub record <b id="AreWithout">AreWithout</b> (place : <a href="../../logic/index.html#ℕ">ℕ</a>) (old new : <a href="../../logic/index.html#List">List</a> <a href="../../ent_handle/handle/index.html#Handle">Handle</a>) : Type 0 where
+///   pub one_less : <a href="../../logic/index.html#length">length</a> new + 1 ≡ <a href="../../logic/index.html#length">length</a> old
+///   pub moved : place + 1 &lt; <a href="../../logic/index.html#length">length</a> old → <a href="../../logic/index.html#slice_get">slice_get</a> new place ≡ <a href="../../logic/index.html#slice_get">slice_get</a> old (<a href="../../logic/index.html#length">length</a> old - 1)
+///   pub others : (k : <a href="../../logic/index.html#ℕ">ℕ</a>) → k ≢ place → k + 1 &lt; <a href="../../logic/index.html#length">length</a> old → <a href="../../logic/index.html#slice_get">slice_get</a> new k ≡ <a href="../../logic/index.html#slice_get">slice_get</a> old k
+/// </pre>
+pub mod places {}
+
+#[doc(alias("Column", "Fits", "HasRoomAt", "HasRoomFor", "Values", "no_column"))]
+/// The values of one component: a finite map from places, and the two vectors that stand for it.
+///
+/// <pre>
+/// -- the value at each place that has one
+/// abbrev pub <b id="Values">Values</b> : Type 0
+/// <a href="#Values">Values</a> = <a href="../../logic/index.html#FinMap.FinMap">map.FinMap</a> <a href="../../logic/index.html#nat_cmp">nat_cmp</a> <a href="../../logic/index.html#ℤ">ℤ</a>
+/// </pre>
+///
+/// <pre>
+/// -- The values of one component, for how many more of them there is room, and for how many places.
+/// -- Then the length and the capacity of the dense vector, and the capacity of the sparse one.
+/// pub record <b id="Column">Column</b> : Type 0 where
+///   pub values : <a href="#Values">Values</a>
+///   pub spare : <a href="../../logic/index.html#ℕ">ℕ</a>
+///   pub places : <a href="../../logic/index.html#ℕ">ℕ</a>
+///   pub count : <a href="../../logic/index.html#ℕ">ℕ</a>
+///   pub value_room : <a href="../../logic/index.html#ℕ">ℕ</a>
+///   pub place_room : <a href="../../logic/index.html#ℕ">ℕ</a>
+/// </pre>
+///
+/// <pre>
+/// -- a column of no values, without room
+/// abbrev pub <b id="no_column">no_column</b> : <a href="#Column">Column</a>
+/// <a href="#no_column">no_column</a> = record {
+///   values = <a href="../../logic/index.html#FinMap.empty">map.empty</a>;
+///   spare = 0;
+///   places = 0;
+///   count = 0;
+///   value_room = 0;
+///   place_room = 0;
+/// }
+/// </pre>
+///
+/// <pre>
+/// -- a value can be set at the place without memory
+/// pub record <b id="HasRoomAt">HasRoomAt</b> (column : <a href="#Column">Column</a>) (place : <a href="../../logic/index.html#ℕ">ℕ</a>) : Type 0 where
+///   pub spare : <a href="../../logic/index.html#FinMap.get">map.get</a> column.values place ≡ <a href="../../logic/index.html#None">None</a> → 0 &lt; column.spare
+///   pub in_range : <a href="../../logic/index.html#FinMap.get">map.get</a> column.values place ≡ <a href="../../logic/index.html#None">None</a> → place &lt; column.places
+/// </pre>
+///
+/// <pre>
+/// -- the vectors of the source fit into those of the column
+/// pub record <b id="Fits">Fits</b> (column source : <a href="#Column">Column</a>) : Type 0 where
+///   pub some : 0 &lt; source.count
+///   pub values : source.count ≤ column.value_room
+///   pub places : source.places ≤ column.place_room
+/// </pre>
+///
+/// <pre>
+/// -- the column can take over the values of the source without memory
+/// abbrev pub <b id="HasRoomFor">HasRoomFor</b> : <a href="#Column">Column</a> → <a href="#Column">Column</a> → Type 0
+/// <a href="#HasRoomFor">HasRoomFor</a> column source = (source.values ≡ <a href="../../logic/index.html#FinMap.empty">map.empty</a>) ⊎ <a href="#Fits">Fits</a> column source
+/// </pre>
+pub mod sparse_set {}
+
+#[doc(alias("IsValueAt", "LivingEntity", "column_at", "components_at", "items_from", "value_at", "with_value"))]
+/// The living entities place by place, and the residents and columns that stand for them.
+///
+/// <pre>
+/// -- one living entity
+/// pub record <b id="LivingEntity">LivingEntity</b> : Type 0 where
+///   pub handle : <a href="../../ent_handle/handle/index.html#Handle">Handle</a>
+///   pub birth : Birth
+///   pub components : <a href="../components/index.html#Components">Components</a>
+/// </pre>
+///
+/// <pre>
+/// -- the column of a component number
+/// abbrev pub <b id="column_at">column_at</b> : <a href="../../logic/index.html#List">List</a> <a href="../sparse_set/index.html#Column">Column</a> → <a href="../../logic/index.html#ℕ">ℕ</a> → <a href="../sparse_set/index.html#Column">Column</a>
+/// <a href="#column_at">column_at</a> columns number = slice_index_or columns number <a href="../sparse_set/index.html#no_column">no_column</a>
+/// </pre>
+///
+/// <pre>
+/// -- the value of a component at a place
+/// abbrev pub <b id="value_at">value_at</b> : <a href="../../logic/index.html#List">List</a> <a href="../sparse_set/index.html#Column">Column</a> → <a href="../../logic/index.html#ℕ">ℕ</a> → ComponentId → <a href="../../logic/index.html#Option">Option</a> <a href="../../logic/index.html#ℤ">ℤ</a>
+/// <a href="#value_at">value_at</a> columns place id = <a href="../../logic/index.html#FinMap.get">map.get</a> (<a href="#column_at">column_at</a> columns id.0).values place
+/// </pre>
+///
+/// <pre>
+/// -- the items after one component's value is put before the others'
+/// abbrev pub <b id="with_value">with_value</b> : <a href="../../logic/index.html#Option">Option</a> <a href="../../logic/index.html#ℤ">ℤ</a> → <a href="../../logic/index.html#ℕ">ℕ</a> → <a href="../../logic/index.html#List">List</a> (ComponentId × <a href="../../logic/index.html#ℤ">ℤ</a>) → <a href="../../logic/index.html#List">List</a> (ComponentId × <a href="../../logic/index.html#ℤ">ℤ</a>)
+/// <a href="#with_value">with_value</a> <a href="../../logic/index.html#None">None</a> number items = items
+/// <a href="#with_value">with_value</a> (<a href="../../logic/index.html#Some">Some</a> v) number items = (record { 0 = number }, v) ∷ items
+/// </pre>
+///
+/// <pre>
+/// -- the components at a place and their values, if the first column is that of the number
+/// abbrev pub <b id="items_from">items_from</b> : <a href="../../logic/index.html#ℕ">ℕ</a> → <a href="../../logic/index.html#List">List</a> <a href="../sparse_set/index.html#Column">Column</a> → <a href="../../logic/index.html#ℕ">ℕ</a> → <a href="../../logic/index.html#List">List</a> (ComponentId × <a href="../../logic/index.html#ℤ">ℤ</a>)
+/// <a href="#items_from">items_from</a> number [] place = []
+/// <a href="#items_from">items_from</a> number (column ∷ columns) place =
+///     <a href="#with_value">with_value</a> (<a href="../../logic/index.html#FinMap.get">map.get</a> column.values place) number (<a href="#items_from">items_from</a> (suc number) columns place)
+/// </pre>
+///
+/// <pre>
+/// abbrev pub <b id="components_at">components_at</b> : <a href="../../logic/index.html#List">List</a> <a href="../sparse_set/index.html#Column">Column</a> → <a href="../../logic/index.html#ℕ">ℕ</a> → <a href="../components/index.html#Components">Components</a>
+/// <a href="#components_at">components_at</a> columns place = map.from_sorted (<a href="#items_from">items_from</a> 0 columns place)
+/// </pre>
+///
+/// <pre>
+/// -- the component of the entity at the place has that value
+/// abbrev pub <b id="IsValueAt">IsValueAt</b> : <a href="../../logic/index.html#List">List</a> <a href="#LivingEntity">LivingEntity</a> → <a href="../../logic/index.html#ℕ">ℕ</a> → ComponentId → <a href="../../logic/index.html#ℤ">ℤ</a> → Type 0
+/// <a href="#IsValueAt">IsValueAt</a> living place id v =
+///     option_and_then (λ e. <a href="../../logic/index.html#FinMap.get">map.get</a> e.components id) (<a href="../../logic/index.html#slice_get">slice_get</a> living place) ≡ <a href="../../logic/index.html#Some">Some</a> v
+/// </pre>
+pub mod living {}
+
+#[doc(alias("Keeps", "counted", "has_handle_at"))]
+/// The living entities as a list, and the index that has the place of each handle.
+///
+/// <pre>
+/// -- whether the entity at the place has that handle
+/// abbrev pub <b id="has_handle_at">has_handle_at</b> : <a href="../../logic/index.html#List">List</a> <a href="../living/index.html#LivingEntity">LivingEntity</a> → <a href="../../ent_handle/handle/index.html#Handle">Handle</a> → <a href="../../logic/index.html#Option">Option</a> <a href="../../logic/index.html#ℕ">ℕ</a> → <a href="../../logic/index.html#Bool">Bool</a>
+/// <a href="#has_handle_at">has_handle_at</a> living h <a href="../../logic/index.html#None">None</a> = <a href="../../logic/index.html#false">false</a>
+/// <a href="#has_handle_at">has_handle_at</a> living h (<a href="../../logic/index.html#Some">Some</a> i) =
+///     option_map_or (λ entity. eq_by_cmp <a href="../../ent_handle/handle/index.html#handle_cmp">handle_cmp</a> entity.handle h) (<a href="../../logic/index.html#slice_get">slice_get</a> living i) <a href="../../logic/index.html#false">false</a>
+/// </pre>
+///
+/// <pre>
+/// -- The places that count: an index also keeps handles of entities that are gone.
+/// abbrev pub <b id="counted">counted</b> : <a href="../../logic/index.html#List">List</a> <a href="../living/index.html#LivingEntity">LivingEntity</a> → <a href="../../logic/index.html#FinMap.FinMap">finite.FinMap</a> <a href="../../ent_handle/handle/index.html#handle_cmp">handle_cmp</a> <a href="../../logic/index.html#ℕ">ℕ</a> → <a href="../../logic/index.html#FinMap.FinMap">finite.FinMap</a> <a href="../../ent_handle/handle/index.html#handle_cmp">handle_cmp</a> <a href="../../logic/index.html#ℕ">ℕ</a>
+/// <a href="#counted">counted</a> living index =
+///     finite.retain_keys index (λ h. <a href="#has_handle_at">has_handle_at</a> living h (<a href="../../logic/index.html#FinMap.get">finite.get</a> index h))
+/// </pre>
+///
+/// <pre>
+/// -- an index keeps the places of all handles but one
+/// abbrev pub <b id="Keeps">Keeps</b> : <a href="../../ent_handle/handle/index.html#Handle">Handle</a> → <a href="../../logic/index.html#FinMap.FinMap">finite.FinMap</a> <a href="../../ent_handle/handle/index.html#handle_cmp">handle_cmp</a> <a href="../../logic/index.html#ℕ">ℕ</a> → <a href="../../logic/index.html#FinMap.FinMap">finite.FinMap</a> <a href="../../ent_handle/handle/index.html#handle_cmp">handle_cmp</a> <a href="../../logic/index.html#ℕ">ℕ</a> → Type 0
+/// <a href="#Keeps">Keeps</a> h old new =
+///     (q : <a href="../../ent_handle/handle/index.html#Handle">Handle</a>) (i : <a href="../../logic/index.html#ℕ">ℕ</a>) → q ≢ h → <a href="../../logic/index.html#FinMap.get">finite.get</a> old q ≡ <a href="../../logic/index.html#Some">Some</a> i → <a href="../../logic/index.html#FinMap.get">finite.get</a> new q ≡ <a href="../../logic/index.html#Some">Some</a> i
+/// </pre>
+pub mod indexed {}
+
+#[doc(alias("HandleValues", "HasLater", "IsBeyond", "error_of", "no_limit", "placeholder", "without_slot"))]
+/// What contracts see of a map from handles.
+///
+/// <pre>
+/// -- a value for each of some handles
+/// abbrev pub <b id="HandleValues">HandleValues</b> : Type 0 → Type 0
+/// <a href="#HandleValues">HandleValues</a> T = <a href="../../logic/index.html#FinMap.FinMap">map.FinMap</a> <a href="../../ent_handle/handle/index.html#handle_cmp">handle_cmp</a> T
+/// </pre>
+///
+/// <pre>
+/// -- the limit of a map that has none: as many as there are slots
+/// abbrev pub <b id="no_limit">no_limit</b> : <a href="../../logic/index.html#ℕ">ℕ</a>
+/// <a href="#no_limit">no_limit</a> = 2 ^ 32 - 1
+/// </pre>
+///
+/// <pre>
+/// -- the last handle, which no map takes
+/// abbrev pub <b id="placeholder">placeholder</b> : <a href="../../ent_handle/handle/index.html#Handle">Handle</a>
+/// <a href="#placeholder">placeholder</a> = record { index = 2 ^ 32 - 2; generation = 2 ^ 31 - 1 }
+/// </pre>
+///
+/// <pre>
+/// -- a map with the limit takes no value for the handle
+/// abbrev pub <b id="IsBeyond">IsBeyond</b> : <a href="../../logic/index.html#ℕ">ℕ</a> → <a href="../../ent_handle/handle/index.html#Handle">Handle</a> → Type 0
+/// <a href="#IsBeyond">IsBeyond</a> limit h = (limit ≤ h.index) ⊎ (h ≡ <a href="#placeholder">placeholder</a>)
+/// </pre>
+///
+/// <pre>
+/// module _ {T : Type 0} where
+///   -- the values without that of the slot
+///   abbrev pub <b id="without_slot">without_slot</b> : <a href="#HandleValues">HandleValues</a> T → <a href="../../logic/index.html#ℕ">ℕ</a> → <a href="#HandleValues">HandleValues</a> T
+///   <a href="#without_slot">without_slot</a> m index = map.retain_keys m (λ h. not (h.index == index))
+/// </pre>
+///
+/// <pre>
+///   -- a later occupant of the handle's slot has a value
+///   abbrev pub <b id="HasLater">HasLater</b> : <a href="#HandleValues">HandleValues</a> T → <a href="../../ent_handle/handle/index.html#Handle">Handle</a> → Type 0
+///   <a href="#HasLater">HasLater</a> m h = (generation : <a href="../../logic/index.html#ℕ">ℕ</a>) × (h.generation &lt; generation)
+///       × <a href="../../logic/index.html#IsSome">IsSome</a> (<a href="../../logic/index.html#FinMap.get">map.get</a> m (record { index = h.index; generation = generation }))
+/// </pre>
+///
+/// <pre>
+///   -- why a value was not inserted
+///   abbrev pub <b id="error_of">error_of</b> : {A : Type 0} → <a href="../../logic/index.html#Result">Result</a> A (<a href="../../ent_handle/handed_back/index.html#HandedBack">HandedBack</a> T InsertError) → <a href="../../logic/index.html#Option">Option</a> InsertError
+///   <a href="#error_of">error_of</a> (<a href="../../logic/index.html#Ok">Ok</a> _) = <a href="../../logic/index.html#None">None</a>
+///   <a href="#error_of">error_of</a> (<a href="../../logic/index.html#Err">Err</a> refused) = <a href="../../logic/index.html#Some">Some</a> refused.error
+/// </pre>
+pub mod handle_map {}
+
+#[doc(alias("CalledAt", "Retains"))]
+/// What a closure leaves of the values that it is called at.
+///
+/// <pre>
+/// module _ {T F : Type 0} (step : F → <a href="../../ent_handle/handle/index.html#Handle">Handle</a> → MutBor T → <a href="../../logic/index.html#Bool">Bool</a> → MutBor T → F → Type 0) where
+///   -- a call of f at this handle and value may return `keep`, and leave this value and closure
+///   pub record <b id="CalledAt">CalledAt</b> (f : F) (h : <a href="../../ent_handle/handle/index.html#Handle">Handle</a>) (old : T) (keep : <a href="../../logic/index.html#Bool">Bool</a>) (new : T) (next : F)
+///       : Type 0 where
+///     pub shown : MutBor T
+///     pub shows : shown.now ≡ old
+///     pub left : MutBor T
+///     pub called : step f h shown keep left next
+///     pub leaves : left.now ≡ new
+/// </pre>
+///
+/// <pre>
+///   -- f was called at each entry in turn, and the second list has those at which it returned `true`,
+///   -- with the values that it left there
+///   abbrev pub <b id="Retains">Retains</b> : F → <a href="../../logic/index.html#List">List</a> (<a href="../../ent_handle/handle/index.html#Handle">Handle</a> × T) → <a href="../../logic/index.html#List">List</a> (<a href="../../ent_handle/handle/index.html#Handle">Handle</a> × T) → Type 0
+///   <a href="#Retains">Retains</a> = RetainsPairs <a href="#CalledAt">CalledAt</a>
+/// </pre>
+pub mod retained {}
+
+#[doc(alias("IsCopy"))]
+/// A copy of a column.
+///
+/// <pre>
+/// -- the same values, and no room where the first one has neither values nor room
+/// pub record <b id="IsCopy">IsCopy</b> (old new : <a href="../sparse_set/index.html#Column">Column</a>) : Type 0 where
+///   pub values : new.values ≡ old.values
+///   pub none : old ≡ <a href="../sparse_set/index.html#no_column">no_column</a> → new ≡ <a href="../sparse_set/index.html#no_column">no_column</a>
+/// </pre>
+pub mod copies {}
+
+#[doc(alias("AreStored", "IsBirth", "IsStored", "birth_bytes", "component", "entities_bytes", "entity_bytes", "is_held", "value_bytes", "values_bytes", "width", "width_below"))]
+/// The bytes of entities: what the image of a world has of its living ones.
+///
+/// <pre>
+/// abbrev pub <b id="birth_bytes">birth_bytes</b> : Birth → <a href="../../logic/index.html#List">List</a> <a href="../../logic/index.html#ℕ">ℕ</a>
+/// <a href="#birth_bytes">birth_bytes</a> b = <a href="../../ent_handle/bytes/index.html#long">long</a> b.frame ++ (<a href="../../ent_handle/bytes/index.html#word">word</a> b.system ++ <a href="../../ent_handle/bytes/index.html#word">word</a> b.ordinal)
+/// </pre>
+///
+/// <pre>
+/// -- a value in two's complement after a 1, or a 0 if there is none
+/// abbrev pub <b id="value_bytes">value_bytes</b> : <a href="../../logic/index.html#Option">Option</a> <a href="../../logic/index.html#ℤ">ℤ</a> → <a href="../../logic/index.html#List">List</a> <a href="../../logic/index.html#ℕ">ℕ</a>
+/// <a href="#value_bytes">value_bytes</a> <a href="../../logic/index.html#None">None</a> = 0 ∷ []
+/// <a href="#value_bytes">value_bytes</a> (<a href="../../logic/index.html#Some">Some</a> v) = 1 ∷ <a href="../../ent_handle/bytes/index.html#long">long</a> (cast_unsigned w64 v)
+/// </pre>
+///
+/// <pre>
+/// -- the component of a number
+/// abbrev pub <b id="component">component</b> : <a href="../../logic/index.html#ℕ">ℕ</a> → ComponentId
+/// <a href="#component">component</a> number = record { 0 = number }
+/// </pre>
+///
+/// <pre>
+/// -- the values of the first components, by rising number
+/// abbrev pub <b id="values_bytes">values_bytes</b> : (ComponentId → <a href="../../logic/index.html#Option">Option</a> <a href="../../logic/index.html#ℤ">ℤ</a>) → <a href="../../logic/index.html#ℕ">ℕ</a> → <a href="../../logic/index.html#List">List</a> <a href="../../logic/index.html#ℕ">ℕ</a>
+/// <a href="#values_bytes">values_bytes</a> value width =
+///     flat_map (λ number. <a href="#value_bytes">value_bytes</a> (value (<a href="#component">component</a> number))) (range_with_len 0 width)
+/// </pre>
+///
+/// <pre>
+/// -- the birth of the entity, and the values of its first components
+/// unfoldable pub <b id="entity_bytes">entity_bytes</b> : <a href="../../logic/index.html#ℕ">ℕ</a> → <a href="../entity_map/index.html#EntityMap">EntityMap</a> → <a href="../../ent_handle/handle/index.html#Handle">Handle</a> → <a href="../../logic/index.html#List">List</a> <a href="../../logic/index.html#ℕ">ℕ</a>
+/// <a href="#entity_bytes">entity_bytes</a> width m h =
+///     option_map_or <a href="#birth_bytes">birth_bytes</a> (<a href="../entity_map/index.html#birth_of">birth_of</a> m h) [] ++ <a href="#values_bytes">values_bytes</a> (<a href="../entity_map/index.html#value_of">value_of</a> m h) width
+/// </pre>
+///
+/// <pre>
+/// -- one of the entities has the component
+/// abbrev pub <b id="is_held">is_held</b> : <a href="../entity_map/index.html#EntityMap">EntityMap</a> → <a href="../../logic/index.html#List">List</a> <a href="../../ent_handle/handle/index.html#Handle">Handle</a> → <a href="../../logic/index.html#ℕ">ℕ</a> → <a href="../../logic/index.html#Bool">Bool</a>
+/// <a href="#is_held">is_held</a> m handles number = list_any (λ h. <a href="../../logic/index.html#is_some">is_some</a> (<a href="../entity_map/index.html#value_of">value_of</a> m h (<a href="#component">component</a> number))) handles
+/// </pre>
+///
+/// <pre>
+/// -- How many components there are up to the last one that any of the entities has, if none has one
+/// -- past these.
+/// abbrev pub <b id="width_below">width_below</b> : <a href="../entity_map/index.html#EntityMap">EntityMap</a> → <a href="../../logic/index.html#List">List</a> <a href="../../ent_handle/handle/index.html#Handle">Handle</a> → <a href="../../logic/index.html#ℕ">ℕ</a> → <a href="../../logic/index.html#ℕ">ℕ</a>
+/// <a href="#width_below">width_below</a> m handles zero = 0
+/// <a href="#width_below">width_below</a> m handles (suc number) =
+///     if <a href="#is_held">is_held</a> m handles number then suc number else <a href="#width_below">width_below</a> m handles number
+/// </pre>
+///
+/// <pre>
+/// unfoldable pub <b id="width">width</b> : <a href="../entity_map/index.html#EntityMap">EntityMap</a> → <a href="../../logic/index.html#List">List</a> <a href="../../ent_handle/handle/index.html#Handle">Handle</a> → <a href="../../logic/index.html#ℕ">ℕ</a>
+/// <a href="#width">width</a> m handles = <a href="#width_below">width_below</a> m handles 256
+/// </pre>
+///
+/// <pre>
+/// -- how many components have a byte in each entity, and the entities in the order of the handles
+/// abbrev pub <b id="entities_bytes">entities_bytes</b> : <a href="../entity_map/index.html#EntityMap">EntityMap</a> → <a href="../../logic/index.html#List">List</a> <a href="../../ent_handle/handle/index.html#Handle">Handle</a> → <a href="../../logic/index.html#List">List</a> <a href="../../logic/index.html#ℕ">ℕ</a>
+/// <a href="#entities_bytes">entities_bytes</a> m handles =
+///     <a href="../../ent_handle/bytes/index.html#word">word</a> (<a href="#width">width</a> m handles) ++ flat_map (<a href="#entity_bytes">entity_bytes</a> (<a href="#width">width</a> m handles) m) handles
+/// </pre>
+///
+/// <pre>
+/// -- the numbers of a birth fit
+/// pub record <b id="IsBirth">IsBirth</b> (b : Birth) : Type 0 where
+///   pub frame : b.frame &lt; 2 ^ 64
+///   pub system : b.system &lt; 2 ^ 32
+///   pub ordinal : b.ordinal &lt; 2 ^ 32
+/// </pre>
+///
+/// <pre>
+/// -- The entity is there, and its numbers fit. So it is with each entity of a storage.
+/// pub record <b id="IsStored">IsStored</b> (m : <a href="../entity_map/index.html#EntityMap">EntityMap</a>) (h : <a href="../../ent_handle/handle/index.html#Handle">Handle</a>) : Type 0 where
+///   pub birth : IsSomeAnd (<a href="../entity_map/index.html#birth_of">birth_of</a> m h) <a href="#IsBirth">IsBirth</a>
+///   pub numbered : (id : ComponentId) (v : <a href="../../logic/index.html#ℤ">ℤ</a>) → <a href="../entity_map/index.html#value_of">value_of</a> m h id ≡ <a href="../../logic/index.html#Some">Some</a> v → id.0 &lt; 256
+///   pub values : (id : ComponentId) (v : <a href="../../logic/index.html#ℤ">ℤ</a>) → <a href="../entity_map/index.html#value_of">value_of</a> m h id ≡ <a href="../../logic/index.html#Some">Some</a> v → FitsSigned w64 v
+/// </pre>
+///
+/// <pre>
+/// -- the map has these entities and no others
+/// pub record <b id="AreStored">AreStored</b> (m : <a href="../entity_map/index.html#EntityMap">EntityMap</a>) (handles : <a href="../../logic/index.html#List">List</a> <a href="../../ent_handle/handle/index.html#Handle">Handle</a>) : Type 0 where
+///   pub each : (h : <a href="../../ent_handle/handle/index.html#Handle">Handle</a>) → <a href="../../logic/index.html#Contains">Contains</a> handles h → <a href="#IsStored">IsStored</a> m h
+///   pub only : (h : <a href="../../ent_handle/handle/index.html#Handle">Handle</a>) → <a href="../../logic/index.html#IsTrue">IsTrue</a> (<a href="../../logic/index.html#FinMap.contains_key">map.contains_key</a> m h) → <a href="../../logic/index.html#Contains">Contains</a> handles h
+/// </pre>
+pub mod image {}
+
+#[doc(alias("AreFirst", "HasFault", "IsNoEntity"))]
+/// Which fault bytes have that are those of no entities: that of the first part that can\'t be read.
+///
+/// <pre>
+/// -- The bytes begin with those of the first entities, so many, after a width that there may be. What
+/// -- is left is told by them.
+/// pub record <b id="AreFirst">AreFirst</b> (handles : <a href="../../logic/index.html#List">List</a> <a href="../../ent_handle/handle/index.html#Handle">Handle</a>) (bytes : <a href="../../logic/index.html#List">List</a> <a href="../../logic/index.html#ℕ">ℕ</a>) (count : <a href="../../logic/index.html#ℕ">ℕ</a>) : Type 0 where
+///   pub <a href="../image/index.html#width">width</a> : <a href="../../logic/index.html#ℕ">ℕ</a>
+///   pub few : <a href="../image/index.html#width">width</a> ≤ 256
+///   pub entities : <a href="../entity_map/index.html#EntityMap">EntityMap</a>
+///   pub stored : (h : <a href="../../ent_handle/handle/index.html#Handle">Handle</a>) → <a href="../../logic/index.html#Contains">Contains</a> (<a href="../../logic/index.html#take">take</a> count handles) h → <a href="../image/index.html#IsStored">IsStored</a> entities h
+///   pub beyond : (h : <a href="../../ent_handle/handle/index.html#Handle">Handle</a>) → <a href="../../logic/index.html#Contains">Contains</a> (<a href="../../logic/index.html#take">take</a> count handles) h → (id : ComponentId) → <a href="../image/index.html#width">width</a> ≤ id.0
+///       → <a href="../entity_map/index.html#value_of">value_of</a> entities h id ≡ <a href="../../logic/index.html#None">None</a>
+///   pub left : <a href="../../logic/index.html#List">List</a> <a href="../../logic/index.html#ℕ">ℕ</a>
+///   pub spelled : bytes
+///       ≡ <a href="../../ent_handle/bytes/index.html#word">word</a> <a href="../image/index.html#width">width</a> ++ (flat_map (<a href="../image/index.html#entity_bytes">entity_bytes</a> <a href="../image/index.html#width">width</a> entities) (<a href="../../logic/index.html#take">take</a> count handles) ++ left)
+/// </pre>
+///
+/// <pre>
+/// -- no entity of this handle is written in their first bytes
+/// abbrev pub <b id="IsNoEntity">IsNoEntity</b> : <a href="../../logic/index.html#ℕ">ℕ</a> → <a href="../../logic/index.html#List">List</a> <a href="../../logic/index.html#ℕ">ℕ</a> → <a href="../../ent_handle/handle/index.html#Handle">Handle</a> → Type 0
+/// <a href="#IsNoEntity">IsNoEntity</a> <a href="../image/index.html#width">width</a> bytes h = (m : <a href="../entity_map/index.html#EntityMap">EntityMap</a>) (rest : <a href="../../logic/index.html#List">List</a> <a href="../../logic/index.html#ℕ">ℕ</a>) → <a href="../image/index.html#IsStored">IsStored</a> m h
+///     → bytes ≢ <a href="../image/index.html#entity_bytes">entity_bytes</a> <a href="../image/index.html#width">width</a> m h ++ rest
+/// </pre>
+///
+/// <pre>
+/// -- Too few bytes for a width, or bytes behind the entities; a width that there may not be, or not
+/// -- that of the entities; or behind the first entities, so many, the bytes of no entity.
+/// abbrev pub <b id="HasFault">HasFault</b> : <a href="../../logic/index.html#List">List</a> <a href="../../ent_handle/handle/index.html#Handle">Handle</a> → <a href="../../logic/index.html#List">List</a> <a href="../../logic/index.html#ℕ">ℕ</a> → StorageImageFault → Type 0
+/// <a href="#HasFault">HasFault</a> handles bytes Length =
+///     (<a href="../../logic/index.html#length">length</a> bytes &lt; 4) ⊎ ((all : <a href="#AreFirst">AreFirst</a> handles bytes (<a href="../../logic/index.html#length">length</a> handles)) × (all.left ≢ []))
+/// <a href="#HasFault">HasFault</a> handles bytes (Width number) =
+///     ((256 &lt; number) × (number &lt; 2 ^ 32) × ((rest : <a href="../../logic/index.html#List">List</a> <a href="../../logic/index.html#ℕ">ℕ</a>) × (bytes ≡ <a href="../../ent_handle/bytes/index.html#word">word</a> number ++ rest)))
+///     ⊎ ((all : <a href="#AreFirst">AreFirst</a> handles bytes (<a href="../../logic/index.html#length">length</a> handles)) × (all.left ≡ [])
+///     × (all.width ≡ number) × (<a href="../image/index.html#width">width</a> all.entities handles ≢ number))
+/// <a href="#HasFault">HasFault</a> handles bytes (Entity place) =
+///     (place &lt; <a href="../../logic/index.html#length">length</a> handles) × ((first : <a href="#AreFirst">AreFirst</a> handles bytes place)
+///     × HoldsAt (<a href="#IsNoEntity">IsNoEntity</a> first.width first.left) handles place)
+/// <a href="#HasFault">HasFault</a> handles bytes Memory = ⊥
+/// </pre>
+pub mod first_fault {}
+
+#[doc(alias("AreCloned", "AreEntries", "HasNone", "IsClonedOption", "IsFullFor", "SparseMap", "values_of"))]
+/// What contracts see of a sparse map, and the two vectors that stand for it.
+///
+/// <pre>
+/// -- the values, for how many values there is room, for how many slots, and how many may have values
+/// pub record <b id="SparseMap">SparseMap</b> (T : Type 0) : Type 0 where
+///   pub values : <a href="../handle_map/index.html#HandleValues">HandleValues</a> T
+///   pub room : <a href="../../logic/index.html#ℕ">ℕ</a>
+///   pub slots : <a href="../../logic/index.html#ℕ">ℕ</a>
+///   pub limit : <a href="../../logic/index.html#ℕ">ℕ</a>
+/// </pre>
+///
+/// <pre>
+/// module _ {T : Type 0} where
+///   -- the values of a list of handles and values
+///   abbrev pub <b id="values_of">values_of</b> : <a href="../../logic/index.html#List">List</a> (<a href="../../ent_handle/handle/index.html#Handle">Handle</a> × T) → <a href="../handle_map/index.html#HandleValues">HandleValues</a> T
+///   <a href="#values_of">values_of</a> entries = map.from_entries {R = <a href="../../ent_handle/handle/index.html#handle_cmp">handle_cmp</a>} entries
+/// </pre>
+///
+/// <pre>
+///   -- The list has each value of the map once, in some order.
+///   pub record <b id="AreEntries">AreEntries</b> (values : <a href="../handle_map/index.html#HandleValues">HandleValues</a> T) (entries : <a href="../../logic/index.html#List">List</a> (<a href="../../ent_handle/handle/index.html#Handle">Handle</a> × T)) : Type 0 where
+///     pub same : <a href="#values_of">values_of</a> entries ≡ values
+///     pub once : <a href="../../logic/index.html#length">length</a> entries ≡ <a href="../../logic/index.html#FinMap.len">map.len</a> values
+/// </pre>
+///
+/// <pre>
+///   -- there is no room for the value of a slot, or for one value more
+///   abbrev pub <b id="IsFullFor">IsFullFor</b> : <a href="#SparseMap">SparseMap</a> T → <a href="../../logic/index.html#ℕ">ℕ</a> → Type 0
+///   <a href="#IsFullFor">IsFullFor</a> m index = (m.slots ≤ index) ⊎ (m.room ≤ <a href="../../logic/index.html#FinMap.len">map.len</a> m.values)
+/// </pre>
+///
+/// <pre>
+///   -- no occupant of the slot has a value
+///   abbrev pub <b id="HasNone">HasNone</b> : <a href="../handle_map/index.html#HandleValues">HandleValues</a> T → <a href="../../logic/index.html#ℕ">ℕ</a> → Type 0
+///   <a href="#HasNone">HasNone</a> m index = (h : <a href="../../ent_handle/handle/index.html#Handle">Handle</a>) → h.index ≡ index → <a href="../../logic/index.html#FinMap.get">map.get</a> m h ≡ <a href="../../logic/index.html#None">None</a>
+/// </pre>
+///
+/// <pre>
+///   -- the second value is a clone of the first one, or there is neither
+///   abbrev pub <b id="IsClonedOption">IsClonedOption</b> : (T → T → Type 0) → <a href="../../logic/index.html#Option">Option</a> T → <a href="../../logic/index.html#Option">Option</a> T → Type 0
+///   <a href="#IsClonedOption">IsClonedOption</a> is_clone <a href="../../logic/index.html#None">None</a> <a href="../../logic/index.html#None">None</a> = ⊤
+///   <a href="#IsClonedOption">IsClonedOption</a> is_clone <a href="../../logic/index.html#None">None</a> (<a href="../../logic/index.html#Some">Some</a> w) = ⊥
+///   <a href="#IsClonedOption">IsClonedOption</a> is_clone (<a href="../../logic/index.html#Some">Some</a> v) <a href="../../logic/index.html#None">None</a> = ⊥
+///   <a href="#IsClonedOption">IsClonedOption</a> is_clone (<a href="../../logic/index.html#Some">Some</a> v) (<a href="../../logic/index.html#Some">Some</a> w) = is_clone v w
+/// </pre>
+///
+/// <pre>
+///   -- the second map has a clone of each value of the first one, and no other value
+///   abbrev pub <b id="AreCloned">AreCloned</b> : (T → T → Type 0) → <a href="../handle_map/index.html#HandleValues">HandleValues</a> T → <a href="../handle_map/index.html#HandleValues">HandleValues</a> T → Type 0
+///   <a href="#AreCloned">AreCloned</a> is_clone old new = (h : <a href="../../ent_handle/handle/index.html#Handle">Handle</a>)
+///       → <a href="#IsClonedOption">IsClonedOption</a> is_clone (<a href="../../logic/index.html#FinMap.get">map.get</a> old h) (<a href="../../logic/index.html#FinMap.get">map.get</a> new h)
+/// </pre>
+pub mod sparse_map {}

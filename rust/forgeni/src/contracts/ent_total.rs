@@ -1,0 +1,564 @@
+// Made of crates/ent_total/specs by .ci/contracts.py. It isn't edited by hand.
+
+//! The definitions of crate `ent_total`, in the order in which one reads them:
+//! [`batch`], [`applying`], [`closing`], [`faults`], [`framing`], [`issuing`], [`sharing`], [`image`], [`unframed`].
+
+#[doc(alias("IsFinished", "IsLeftUntil", "IsSynced", "IsSyncedUntil", "Queues", "Stopped"))]
+/// Queues that are applied together, and where their sync point stopped.
+///
+/// <pre>
+/// -- the number of the world, and the queues in the order of their effect
+/// pub record <b id="Queues">Queues</b> : Type 0 where
+///   pub world : <a href="../../logic/index.html#ℕ">ℕ</a>
+///   pub queues : <a href="../../logic/index.html#List">List</a> (<a href="../../logic/index.html#List">List</a> <a href="../../ent_queue/command/index.html#Command">Command</a>)
+/// </pre>
+///
+/// <pre>
+/// -- the queues, where they stopped, and the report so far
+/// pub record <b id="Stopped">Stopped</b> : Type 0 where
+///   pub queues : <a href="#Queues">Queues</a>
+///   pub stop : Stop
+///   pub so_far : SyncReport
+/// </pre>
+///
+/// <pre>
+/// -- The sync point of the queues was done: the world after it, and what it reports.
+/// pub record <b id="IsSynced">IsSynced</b> (queues : <a href="../../logic/index.html#List">List</a> (<a href="../../logic/index.html#List">List</a> <a href="../../ent_queue/command/index.html#Command">Command</a>)) (before after : <a href="../../ent_world/world/index.html#World">World</a>) (r : SyncReport)
+///     : Type 0 where
+///   pub world : after ≡ (<a href="../../ent_world/sync/index.html#sync">sync</a> queues before).world
+///   pub flushed : after.allocator.asked ≡ 0
+///   pub born_are : r.born.items ≡ <a href="../../ent_alloc/sequential/index.html#born">born</a> before.allocator
+///   pub faults_are : r.faults.items ≡ (<a href="../../ent_world/sync/index.html#sync">sync</a> queues before).faults
+/// </pre>
+///
+/// <pre>
+/// -- It stopped there for lack of memory: all births stand, and of the commands just those before.
+/// pub record <b id="IsSyncedUntil">IsSyncedUntil</b> (s : Stop) (queues : <a href="../../logic/index.html#List">List</a> (<a href="../../logic/index.html#List">List</a> <a href="../../ent_queue/command/index.html#Command">Command</a>)) (before after : <a href="../../ent_world/world/index.html#World">World</a>)
+///     (r : SyncReport) : Type 0 where
+///   pub stop : <a href="../../ent_world/sync/index.html#IsStop">IsStop</a> s.system s.command s.done queues
+///   pub world : after ≡ (<a href="../../ent_world/sync/index.html#sync_until">sync_until</a> s.system s.command s.done queues before).world
+///   pub flushed : after.allocator.asked ≡ 0
+///   pub born_are : r.born.items ≡ <a href="../../ent_alloc/sequential/index.html#born">born</a> before.allocator
+///   pub faults_are : r.faults.items
+///       ≡ (<a href="../../ent_world/sync/index.html#sync_until">sync_until</a> s.system s.command s.done queues before).faults
+///   pub memory : <a href="../../ent_world/memory/index.html#TakesMemoryAt">TakesMemoryAt</a> after s.system s.command s.done queues
+/// </pre>
+///
+/// <pre>
+/// -- What was left of the queues after a stop was done. If the sync point of a world had stopped so,
+/// -- the whole of it is done now, and the faults before and after the stop are its faults.
+/// pub record <b id="IsFinished">IsFinished</b> (s : Stop) (queues : <a href="../../logic/index.html#List">List</a> (<a href="../../logic/index.html#List">List</a> <a href="../../ent_queue/command/index.html#Command">Command</a>)) (before after : <a href="../../ent_world/world/index.html#World">World</a>)
+///     (r : SyncReport) : Type 0 where
+///   pub world : after
+///       ≡ (<a href="../../ent_world/rest/index.html#after_left">after_left</a> s.system s.command s.done queues (<a href="../../ent_world/effects/index.html#applied">applied</a> before [])).world
+///   pub flushed : after.allocator.asked ≡ 0
+///   pub born_are : r.born.items ≡ []
+///   pub faults_are : r.faults.items
+///       ≡ (<a href="../../ent_world/rest/index.html#after_left">after_left</a> s.system s.command s.done queues (<a href="../../ent_world/effects/index.html#applied">applied</a> before [])).faults
+///   pub whole_world : (w : <a href="../../ent_world/world/index.html#World">World</a>) (earlier : <a href="../../logic/index.html#List">List</a> Fault)
+///       → <a href="../../ent_world/rest/index.html#HasStoppedSo">HasStoppedSo</a> s.system s.command s.done queues w before earlier
+///       → after ≡ (<a href="../../ent_world/sync/index.html#sync">sync</a> queues w).world
+///   pub whole_faults : (w : <a href="../../ent_world/world/index.html#World">World</a>) (earlier : <a href="../../logic/index.html#List">List</a> Fault)
+///       → <a href="../../ent_world/rest/index.html#HasStoppedSo">HasStoppedSo</a> s.system s.command s.done queues w before earlier
+///       → earlier ++ r.faults.items ≡ (<a href="../../ent_world/sync/index.html#sync">sync</a> queues w).faults
+/// </pre>
+///
+/// <pre>
+/// -- It stopped again, there or later. If the sync point of a world had stopped so, it has now stopped
+/// -- at the later place, with the faults before and after.
+/// pub record <b id="IsLeftUntil">IsLeftUntil</b> (s later : Stop) (queues : <a href="../../logic/index.html#List">List</a> (<a href="../../logic/index.html#List">List</a> <a href="../../ent_queue/command/index.html#Command">Command</a>)) (before after : <a href="../../ent_world/world/index.html#World">World</a>)
+///     (r : SyncReport) : Type 0 where
+///   pub stop : <a href="../../ent_world/sync/index.html#IsStop">IsStop</a> later.system later.command later.done queues
+///   pub is_later : <a href="../../ent_world/rest/index.html#IsLater">IsLater</a> s.system s.command s.done later.system later.command later.done
+///   pub world : after ≡ (<a href="../../ent_world/rest/index.html#after_left">after_left</a> s.system s.command s.done
+///       (<a href="../../ent_world/sync/index.html#cut">cut</a> later.system later.command later.done queues) (<a href="../../ent_world/effects/index.html#applied">applied</a> before [])).world
+///   pub flushed : after.allocator.asked ≡ 0
+///   pub born_are : r.born.items ≡ []
+///   pub faults_are : r.faults.items ≡ (<a href="../../ent_world/rest/index.html#after_left">after_left</a> s.system s.command s.done
+///       (<a href="../../ent_world/sync/index.html#cut">cut</a> later.system later.command later.done queues) (<a href="../../ent_world/effects/index.html#applied">applied</a> before [])).faults
+///   pub memory : <a href="../../ent_world/memory/index.html#TakesMemoryAt">TakesMemoryAt</a> after later.system later.command later.done queues
+///   pub whole_world : (w : <a href="../../ent_world/world/index.html#World">World</a>) (earlier : <a href="../../logic/index.html#List">List</a> Fault)
+///       → <a href="../../ent_world/rest/index.html#HasStoppedSo">HasStoppedSo</a> s.system s.command s.done queues w before earlier
+///       → after ≡ (<a href="../../ent_world/sync/index.html#sync_until">sync_until</a> later.system later.command later.done queues w).world
+///   pub whole_faults : (w : <a href="../../ent_world/world/index.html#World">World</a>) (earlier : <a href="../../logic/index.html#List">List</a> Fault)
+///       → <a href="../../ent_world/rest/index.html#HasStoppedSo">HasStoppedSo</a> s.system s.command s.done queues w before earlier
+///       → earlier ++ r.faults.items
+///       ≡ (<a href="../../ent_world/sync/index.html#sync_until">sync_until</a> later.system later.command later.done queues w).faults
+/// </pre>
+pub mod batch {}
+
+#[doc(alias("IfStopped", "IfStoppedAgain", "IsCounted", "IsMemory", "IsOfOtherWorld", "IsOtherWorld", "IsUnbegun", "IsUnflushed", "IsUnmoved", "parts_of", "queues_in", "stopped_in"))]
+/// What is said of a sync point that didn\'t do all.
+///
+/// <pre>
+/// -- the queues that come back
+/// abbrev pub <b id="queues_in">queues_in</b> : SyncError → <a href="../batch/index.html#Queues">Queues</a>
+/// <a href="#queues_in">queues_in</a> (applied.OtherWorld queues) = queues
+/// <a href="#queues_in">queues_in</a> (applied.Memory queues) = queues
+/// <a href="#queues_in">queues_in</a> (applied.Stopped stopped) = stopped.queues
+/// </pre>
+///
+/// <pre>
+/// -- what comes back: the queues if nothing was done, and else where it stopped
+/// abbrev pub <b id="parts_of">parts_of</b> : SyncError → <a href="../../logic/index.html#Result">Result</a> <a href="../batch/index.html#Queues">Queues</a> <a href="../batch/index.html#Stopped">Stopped</a>
+/// <a href="#parts_of">parts_of</a> (applied.OtherWorld queues) = <a href="../../logic/index.html#Ok">Ok</a> queues
+/// <a href="#parts_of">parts_of</a> (applied.Memory queues) = <a href="../../logic/index.html#Ok">Ok</a> queues
+/// <a href="#parts_of">parts_of</a> (applied.Stopped stopped) = <a href="../../logic/index.html#Err">Err</a> stopped
+/// </pre>
+///
+/// <pre>
+/// -- if it stopped at a command, this is true of the stop
+/// abbrev pub <b id="IfStopped">IfStopped</b> : SyncError → (<a href="../batch/index.html#Stopped">Stopped</a> → Type 0) → Type 0
+/// <a href="#IfStopped">IfStopped</a> (applied.OtherWorld queues) P = Unit {0}
+/// <a href="#IfStopped">IfStopped</a> (applied.Memory queues) P = Unit {0}
+/// <a href="#IfStopped">IfStopped</a> (applied.Stopped stopped) P = P stopped
+/// </pre>
+///
+/// <pre>
+/// -- nothing was done
+/// abbrev pub <b id="IsUnbegun">IsUnbegun</b> : SyncError → Type 0
+/// <a href="#IsUnbegun">IsUnbegun</a> (applied.OtherWorld queues) = Unit {0}
+/// <a href="#IsUnbegun">IsUnbegun</a> (applied.Memory queues) = Unit {0}
+/// <a href="#IsUnbegun">IsUnbegun</a> (applied.Stopped stopped) = ⊥
+/// </pre>
+///
+/// <pre>
+/// -- each reason
+/// abbrev pub <b id="IsOtherWorld">IsOtherWorld</b> : SyncError → Type 0
+/// <a href="#IsOtherWorld">IsOtherWorld</a> (applied.OtherWorld queues) = Unit {0}
+/// <a href="#IsOtherWorld">IsOtherWorld</a> (applied.Memory queues) = ⊥
+/// <a href="#IsOtherWorld">IsOtherWorld</a> (applied.Stopped stopped) = ⊥
+/// </pre>
+///
+/// <pre>
+/// abbrev pub <b id="IsMemory">IsMemory</b> : SyncError → Type 0
+/// <a href="#IsMemory">IsMemory</a> (applied.OtherWorld queues) = ⊥
+/// <a href="#IsMemory">IsMemory</a> (applied.Memory queues) = Unit {0}
+/// <a href="#IsMemory">IsMemory</a> (applied.Stopped stopped) = ⊥
+/// </pre>
+///
+/// <pre>
+/// -- How many entities were spawned since the last flush, before and after: none if it flushed, and
+/// -- else as many as before.
+/// abbrev pub <b id="IsCounted">IsCounted</b> : <a href="../../logic/index.html#Result">Result</a> SyncReport SyncError → <a href="../../logic/index.html#ℕ">ℕ</a> → <a href="../../logic/index.html#ℕ">ℕ</a> → Type 0
+/// <a href="#IsCounted">IsCounted</a> (<a href="../../logic/index.html#Ok">Ok</a> report) before after = after ≡ 0
+/// <a href="#IsCounted">IsCounted</a> (<a href="../../logic/index.html#Err">Err</a> (applied.OtherWorld queues)) before after = after ≡ before
+/// <a href="#IsCounted">IsCounted</a> (<a href="../../logic/index.html#Err">Err</a> (applied.Memory queues)) before after = after ≡ before
+/// <a href="#IsCounted">IsCounted</a> (<a href="../../logic/index.html#Err">Err</a> (applied.Stopped stopped)) before after = after ≡ 0
+/// </pre>
+///
+/// <pre>
+/// -- the sync point that comes back
+/// abbrev pub <b id="stopped_in">stopped_in</b> : GoOnError → <a href="../batch/index.html#Stopped">Stopped</a>
+/// <a href="#stopped_in">stopped_in</a> (gone.OtherWorld stopped) = stopped
+/// <a href="#stopped_in">stopped_in</a> (gone.NeedsFlush stopped) = stopped
+/// <a href="#stopped_in">stopped_in</a> (gone.Stopped stopped) = stopped
+/// </pre>
+///
+/// <pre>
+/// -- if it stopped again, this is true of the later stop
+/// abbrev pub <b id="IfStoppedAgain">IfStoppedAgain</b> : GoOnError → (<a href="../batch/index.html#Stopped">Stopped</a> → Type 0) → Type 0
+/// <a href="#IfStoppedAgain">IfStoppedAgain</a> (gone.OtherWorld stopped) P = Unit {0}
+/// <a href="#IfStoppedAgain">IfStoppedAgain</a> (gone.NeedsFlush stopped) P = Unit {0}
+/// <a href="#IfStoppedAgain">IfStoppedAgain</a> (gone.Stopped stopped) P = P stopped
+/// </pre>
+///
+/// <pre>
+/// -- it did not go on
+/// abbrev pub <b id="IsUnmoved">IsUnmoved</b> : GoOnError → Type 0
+/// <a href="#IsUnmoved">IsUnmoved</a> (gone.OtherWorld stopped) = Unit {0}
+/// <a href="#IsUnmoved">IsUnmoved</a> (gone.NeedsFlush stopped) = Unit {0}
+/// <a href="#IsUnmoved">IsUnmoved</a> (gone.Stopped stopped) = ⊥
+/// </pre>
+///
+/// <pre>
+/// -- each reason
+/// abbrev pub <b id="IsOfOtherWorld">IsOfOtherWorld</b> : GoOnError → Type 0
+/// <a href="#IsOfOtherWorld">IsOfOtherWorld</a> (gone.OtherWorld stopped) = Unit {0}
+/// <a href="#IsOfOtherWorld">IsOfOtherWorld</a> (gone.NeedsFlush stopped) = ⊥
+/// <a href="#IsOfOtherWorld">IsOfOtherWorld</a> (gone.Stopped stopped) = ⊥
+/// </pre>
+///
+/// <pre>
+/// abbrev pub <b id="IsUnflushed">IsUnflushed</b> : GoOnError → Type 0
+/// <a href="#IsUnflushed">IsUnflushed</a> (gone.OtherWorld stopped) = ⊥
+/// <a href="#IsUnflushed">IsUnflushed</a> (gone.NeedsFlush stopped) = Unit {0}
+/// <a href="#IsUnflushed">IsUnflushed</a> (gone.Stopped stopped) = ⊥
+/// </pre>
+pub mod applying {}
+
+#[doc(alias("IsMissing", "count_missing"))]
+/// Why a phase was not closed.
+///
+/// <pre>
+/// -- callers are missing
+/// abbrev pub <b id="IsMissing">IsMissing</b> : CloseError → Type 0
+/// <a href="#IsMissing">IsMissing</a> (Missing count) = Unit {0}
+/// <a href="#IsMissing">IsMissing</a> OtherPhase = ⊥
+/// <a href="#IsMissing">IsMissing</a> InUse = ⊥
+/// </pre>
+///
+/// <pre>
+/// -- how many of them, if that is the error
+/// abbrev pub <b id="count_missing">count_missing</b> : CloseError → <a href="../../logic/index.html#ℕ">ℕ</a>
+/// <a href="#count_missing">count_missing</a> (Missing count) = count
+/// <a href="#count_missing">count_missing</a> OtherPhase = 0
+/// <a href="#count_missing">count_missing</a> InUse = 0
+/// </pre>
+pub mod closing {}
+
+#[doc(alias("IfQuota", "IfSpace", "IsSpace"))]
+/// What is said of a refusal.
+///
+/// <pre>
+/// -- the pool had too few
+/// abbrev pub <b id="IsSpace">IsSpace</b> : ReserveError → Type 0
+/// <a href="#IsSpace">IsSpace</a> (failed.Space wanted left) = Unit {0}
+/// <a href="#IsSpace">IsSpace</a> (failed.Quota left) = ⊥
+/// <a href="#IsSpace">IsSpace</a> failed.Memory = ⊥
+/// </pre>
+///
+/// <pre>
+/// -- this is true of the refusal, if the pool had too few
+/// abbrev pub <b id="IfSpace">IfSpace</b> : ReserveError → (Refused → Type 0) → Type 0
+/// <a href="#IfSpace">IfSpace</a> (failed.Space wanted left) P = P (refused.Space wanted left)
+/// <a href="#IfSpace">IfSpace</a> (failed.Quota left) P = Unit {0}
+/// <a href="#IfSpace">IfSpace</a> failed.Memory P = Unit {0}
+/// </pre>
+///
+/// <pre>
+/// -- this is true of the quota that was left, if it was too little
+/// abbrev pub <b id="IfQuota">IfQuota</b> : ReserveError → (<a href="../../logic/index.html#ℕ">ℕ</a> → Type 0) → Type 0
+/// <a href="#IfQuota">IfQuota</a> (failed.Space wanted left) P = Unit {0}
+/// <a href="#IfQuota">IfQuota</a> (failed.Quota left) P = P left
+/// <a href="#IfQuota">IfQuota</a> failed.Memory P = Unit {0}
+/// </pre>
+pub mod faults {}
+
+#[doc(alias("AreBrokenOff", "IsHeld", "IsLeft", "spawned_after"))]
+/// What is said of a frame that didn\'t do all.
+///
+/// <pre>
+/// -- How many are counted after a sync point that stopped so: none if it had flushed.
+/// abbrev pub <b id="spawned_after">spawned_after</b> : SyncFault → <a href="../../logic/index.html#ℕ">ℕ</a> → <a href="../../logic/index.html#ℕ">ℕ</a>
+/// <a href="#spawned_after">spawned_after</a> fault.FlushMemory spawned = spawned
+/// <a href="#spawned_after">spawned_after</a> (fault.Memory system command done so_far) spawned = 0
+/// </pre>
+///
+/// <pre>
+/// module _ {S : Type 0} (may leave : S → <a href="../../ent_world/open_world/index.html#View">View</a> → <a href="../../logic/index.html#List">List</a> <a href="../../ent_queue/command/index.html#Command">Command</a> → Type 0) (systems : <a href="../../logic/index.html#List">List</a> S)
+///     (workers : <a href="../../logic/index.html#ℕ">ℕ</a>) where
+///   -- What is left of a frame that was broken off.
+///   pub record <b id="AreBrokenOff">AreBrokenOff</b> (before after : World) : Type 0 where
+///     pub history : <a href="../../logic/index.html#List">List</a> <a href="../../ent_alloc/history/index.html#Call">Call</a>
+///     pub broken_off : <a href="../../ent_runner/frame/index.html#IsBrokenOff">IsBrokenOff</a> may leave systems workers before.world history
+///     pub reserved : after.world ≡ <a href="../../ent_runner/frame/index.html#reserved_by">reserved_by</a> history before.world
+///     pub still : <a href="../../ent_runner/frame/index.html#IsLost">IsLost</a> before.world after.world
+///     pub some : 0 &lt; <a href="../../logic/index.html#length">length</a> systems
+///     pub counted : after.spawned ≡ before.spawned
+/// </pre>
+///
+/// <pre>
+///   -- What holds if all systems ran, and the sync point stopped.
+///   pub record <b id="IsHeld">IsHeld</b> (before after : World) (why : SyncFault) (queues : <a href="../batch/index.html#Queues">Queues</a>) : Type 0 where
+///     pub stops : <a href="../../ent_runner/frame/index.html#StopsAt">StopsAt</a> may systems workers before.world queues.queues after.world why
+///     pub of_world : queues.world ≡ before.number
+///     pub counted : after.spawned ≡ <a href="#spawned_after">spawned_after</a> why before.spawned
+/// </pre>
+///
+/// <pre>
+///   -- A frame of these systems left this, for this reason.
+///   abbrev pub <b id="IsLeft">IsLeft</b> : World → World → FrameError → Type 0
+///   <a href="#IsLeft">IsLeft</a> before after frame.NeedsFlush = after ≡ before
+///   <a href="#IsLeft">IsLeft</a> before after frame.Workers = after ≡ before
+///   <a href="#IsLeft">IsLeft</a> before after frame.Systems = after ≡ before
+///   <a href="#IsLeft">IsLeft</a> before after frame.Memory = (after ≡ before) × (0 &lt; <a href="../../logic/index.html#length">length</a> systems)
+///   <a href="#IsLeft">IsLeft</a> before after frame.Lost = <a href="#AreBrokenOff">AreBrokenOff</a> before after
+///   <a href="#IsLeft">IsLeft</a> before after (frame.Unapplied queues) =
+///       <a href="#IsHeld">IsHeld</a> before after fault.FlushMemory queues × (0 &lt; <a href="../../logic/index.html#length">length</a> after.world.allocator.taken)
+///   <a href="#IsLeft">IsLeft</a> before after (frame.Stopped stopped) =
+///       <a href="#IsHeld">IsHeld</a> before after (fault.Memory stopped.stop.system stopped.stop.command stopped.stop.done
+///       stopped.so_far) stopped.queues × (after.world.allocator.asked ≡ 0)
+///       × <a href="../../ent_world/memory/index.html#TakesMemoryAt">TakesMemoryAt</a> after.world stopped.stop.system stopped.stop.command stopped.stop.done
+///       stopped.queues.queues
+/// </pre>
+pub mod framing {}
+
+#[doc(alias("AreCommandsOf", "Commands", "IsClosed", "IsClosedLost", "IsWorldOf", "MayReturn", "OpenWorld", "issued", "queues_returned", "reservers_returned", "with_returned"))]
+/// What contracts see of a world in a phase, and of a system that issues commands in it.
+///
+/// <pre>
+/// -- the number by which phases are told apart, the number of the world and how many entities were
+/// -- spawned in it since the last flush, the world that is open, the reservers that no system has, and
+/// -- the queues that came back
+/// pub record <b id="OpenWorld">OpenWorld</b> : Type 0 where
+///   pub number : <a href="../../logic/index.html#ℕ">ℕ</a>
+///   pub of_world : <a href="../../logic/index.html#ℕ">ℕ</a>
+///   pub spawned : <a href="../../logic/index.html#ℕ">ℕ</a>
+///   pub world : <a href="../../ent_world/open_world/index.html#OpenWorld">Opened</a>
+///   pub returned : <a href="../../logic/index.html#List">List</a> <a href="../../ent_shared/phase/index.html#Reserver">Reserver</a>
+///   pub queues : <a href="../../logic/index.html#List">List</a> (<a href="../../logic/index.html#List">List</a> <a href="../../ent_queue/command/index.html#Command">Command</a>)
+/// </pre>
+///
+/// <pre>
+/// -- the number of its phase, the world that it views, its reserver, and its commands so far
+/// pub record <b id="Commands">Commands</b> : Type 0 where
+///   pub number : <a href="../../logic/index.html#ℕ">ℕ</a>
+///   pub world : <a href="../../ent_world/open_world/index.html#OpenWorld">Opened</a>
+///   pub reserver : <a href="../../ent_shared/phase/index.html#Reserver">Reserver</a>
+///   pub queue : <a href="../../logic/index.html#List">List</a> <a href="../../ent_queue/command/index.html#Command">Command</a>
+/// </pre>
+///
+/// <pre>
+/// -- all of them are of the phase of this number
+/// abbrev pub <b id="AreCommandsOf">AreCommandsOf</b> : <a href="../../logic/index.html#ℕ">ℕ</a> → <a href="../../logic/index.html#List">List</a> <a href="#Commands">Commands</a> → Type 0
+/// <a href="#AreCommandsOf">AreCommandsOf</a> number all = <a href="../../logic/index.html#All">All</a> (λ (i : <a href="#Commands">Commands</a>). i.number ≡ number) all
+/// </pre>
+///
+/// <pre>
+/// -- the reservers of these systems, and their queues
+/// abbrev pub <b id="issuing">issuing</b> : <a href="../../logic/index.html#List">List</a> <a href="#Commands">Commands</a> → <a href="../../logic/index.html#List">List</a> <a href="../../ent_shared/phase/index.html#Reserver">Reserver</a>
+/// <a href="#issuing">issuing</a> all = <a href="../../logic/index.html#map">map</a> (λ (i : <a href="#Commands">Commands</a>). i.reserver) all
+/// </pre>
+///
+/// <pre>
+/// abbrev pub <b id="issued">issued</b> : <a href="../../logic/index.html#List">List</a> <a href="#Commands">Commands</a> → <a href="../../logic/index.html#List">List</a> (<a href="../../logic/index.html#List">List</a> <a href="../../ent_queue/command/index.html#Command">Command</a>)
+/// <a href="#issued">issued</a> all = <a href="../../logic/index.html#map">map</a> (λ (i : <a href="#Commands">Commands</a>). i.queue) all
+/// </pre>
+///
+/// <pre>
+/// -- what is returned and what these bring, behind it
+/// abbrev pub <b id="reservers_returned">reservers_returned</b> : <a href="#OpenWorld">OpenWorld</a> → <a href="../../logic/index.html#List">List</a> <a href="#Commands">Commands</a> → <a href="../../logic/index.html#List">List</a> <a href="../../ent_shared/phase/index.html#Reserver">Reserver</a>
+/// <a href="#reservers_returned">reservers_returned</a> p all = p.returned ++ <a href="#issuing">issuing</a> all
+/// </pre>
+///
+/// <pre>
+/// abbrev pub <b id="queues_returned">queues_returned</b> : <a href="#OpenWorld">OpenWorld</a> → <a href="../../logic/index.html#List">List</a> <a href="#Commands">Commands</a> → <a href="../../logic/index.html#List">List</a> (<a href="../../logic/index.html#List">List</a> <a href="../../ent_queue/command/index.html#Command">Command</a>)
+/// <a href="#queues_returned">queues_returned</a> p all = p.queues ++ <a href="#issued">issued</a> all
+/// </pre>
+///
+/// <pre>
+/// -- They are all of this phase, and with those returned no more than it has.
+/// abbrev pub <b id="MayReturn">MayReturn</b> : <a href="#OpenWorld">OpenWorld</a> → <a href="../../logic/index.html#List">List</a> <a href="#Commands">Commands</a> → Type 0
+/// <a href="#MayReturn">MayReturn</a> p all =
+///     <a href="#AreCommandsOf">AreCommandsOf</a> p.number all × (<a href="../../logic/index.html#length">length</a> (<a href="#reservers_returned">reservers_returned</a> p all) ≤ p.world.shared.count)
+/// </pre>
+///
+/// <pre>
+/// abbrev pub <b id="with_returned">with_returned</b> : <a href="#OpenWorld">OpenWorld</a> → <a href="../../logic/index.html#List">List</a> <a href="#Commands">Commands</a> → <a href="#OpenWorld">OpenWorld</a>
+/// <a href="#with_returned">with_returned</a> p all = record p {
+///   returned = <a href="#reservers_returned">reservers_returned</a> p all;
+///   queues = <a href="#queues_returned">queues_returned</a> p all;
+/// }
+/// </pre>
+///
+/// <pre>
+/// -- The world is the one that was opened, but for its allocator.
+/// pub record <b id="IsWorldOf">IsWorldOf</b> (opened : <a href="../../ent_world/open_world/index.html#OpenWorld">Opened</a>) (after : <a href="../../ent_world/world/index.html#World">World</a>) : Type 0 where
+///   pub phase : after.phase ≡ opened.phase
+///   pub entities : after.entities ≡ opened.entities
+///   pub world : <a href="../../ent_world/world/index.html#IsWorld">IsWorld</a> after
+/// </pre>
+///
+/// <pre>
+/// -- The phase ended with all its reservers, or with those that are returned.
+/// pub record <b id="IsClosed">IsClosed</b> (opened : <a href="../../ent_world/open_world/index.html#OpenWorld">Opened</a>) (returned : <a href="../../logic/index.html#List">List</a> <a href="../../ent_shared/phase/index.html#Reserver">Reserver</a>) (after : <a href="../../ent_world/world/index.html#World">World</a>) : Type 0 where
+///   pub same : <a href="#IsWorldOf">IsWorldOf</a> opened after
+///   pub ended : <a href="../../ent_shared/ending/index.html#EndsWithAll">EndsWithAll</a> opened.shared returned after.allocator
+/// </pre>
+///
+/// <pre>
+/// pub record <b id="IsClosedLost">IsClosedLost</b> (opened : <a href="../../ent_world/open_world/index.html#OpenWorld">Opened</a>) (returned : <a href="../../logic/index.html#List">List</a> <a href="../../ent_shared/phase/index.html#Reserver">Reserver</a>) (after : <a href="../../ent_world/world/index.html#World">World</a>) : Type 0 where
+///   pub same : <a href="#IsWorldOf">IsWorldOf</a> opened after
+///   pub ended : <a href="../../ent_shared/ending/index.html#EndsWithSome">EndsWithSome</a> opened.shared returned after.allocator
+/// </pre>
+pub mod issuing {}
+
+#[doc(alias("AreOf", "GivesReply", "IsUnserved", "MakesReservation", "MayBeServed", "MayReturn", "Reserver", "Shared", "all_returned", "reservers_of"))]
+/// What contracts see of a phase and of its reservers.
+///
+/// <pre>
+/// -- the number by which phases are told apart, the allocator that is shared, and the reservers that
+/// -- are returned
+/// pub record <b id="Shared">Shared</b> : Type 0 where
+///   pub number : <a href="../../logic/index.html#ℕ">ℕ</a>
+///   pub shared : <a href="../../ent_shared/phase/index.html#Shared">inner.Shared</a>
+///   pub returned : <a href="../../logic/index.html#List">List</a> <a href="../../ent_shared/phase/index.html#Reserver">inner.Reserver</a>
+/// </pre>
+///
+/// <pre>
+/// -- the number of its phase, the allocator that it reserves from, and its reserver
+/// pub record <b id="Reserver">Reserver</b> : Type 0 where
+///   pub number : <a href="../../logic/index.html#ℕ">ℕ</a>
+///   pub shared : <a href="../../ent_shared/phase/index.html#Shared">inner.Shared</a>
+///   pub reserver : <a href="../../ent_shared/phase/index.html#Reserver">inner.Reserver</a>
+/// </pre>
+///
+/// <pre>
+/// -- what these reservers reserve with
+/// abbrev pub <b id="reservers_of">reservers_of</b> : <a href="../../logic/index.html#List">List</a> <a href="#Reserver">Reserver</a> → <a href="../../logic/index.html#List">List</a> <a href="../../ent_shared/phase/index.html#Reserver">inner.Reserver</a>
+/// <a href="#reservers_of">reservers_of</a> reservers = <a href="../../logic/index.html#map">map</a> (λ (r : <a href="#Reserver">Reserver</a>). r.reserver) reservers
+/// </pre>
+///
+/// <pre>
+/// -- all of them are of the phase of this number
+/// abbrev pub <b id="AreOf">AreOf</b> : <a href="../../logic/index.html#ℕ">ℕ</a> → <a href="../../logic/index.html#List">List</a> <a href="#Reserver">Reserver</a> → Type 0
+/// <a href="#AreOf">AreOf</a> number reservers = <a href="../../logic/index.html#All">All</a> (λ (r : <a href="#Reserver">Reserver</a>). r.number ≡ number) reservers
+/// </pre>
+///
+/// <pre>
+/// -- the reservers returned, and these behind them
+/// abbrev pub <b id="all_returned">all_returned</b> : <a href="#Shared">Shared</a> → <a href="../../logic/index.html#List">List</a> <a href="#Reserver">Reserver</a> → <a href="../../logic/index.html#List">List</a> <a href="../../ent_shared/phase/index.html#Reserver">inner.Reserver</a>
+/// <a href="#all_returned">all_returned</a> s reservers = s.returned ++ <a href="#reservers_of">reservers_of</a> reservers
+/// </pre>
+///
+/// <pre>
+/// -- They are all of this phase, and with those returned no more than it has.
+/// abbrev pub <b id="MayReturn">MayReturn</b> : <a href="#Shared">Shared</a> → <a href="../../logic/index.html#List">List</a> <a href="#Reserver">Reserver</a> → Type 0
+/// <a href="#MayReturn">MayReturn</a> s reservers =
+///     <a href="#AreOf">AreOf</a> s.number reservers × (<a href="../../logic/index.html#length">length</a> (<a href="#all_returned">all_returned</a> s reservers) ≤ s.shared.count)
+/// </pre>
+///
+/// <pre>
+/// -- The quota has so many handles, and the pool had so many when the phase was opened.
+/// abbrev pub <b id="MayBeServed">MayBeServed</b> : <a href="#Reserver">Reserver</a> → <a href="../../logic/index.html#ℕ">ℕ</a> → Type 0
+/// <a href="#MayBeServed">MayBeServed</a> r n = (n ≤ r.reserver.own.left) × (n ≤ <a href="../../logic/index.html#length">length</a> r.shared.start.pool)
+/// </pre>
+///
+/// <pre>
+/// -- The reserver has made one more reservation, of n handles, and nothing else has changed.
+/// pub record <b id="MakesReservation">MakesReservation</b> (before after : <a href="#Reserver">Reserver</a>) (n : <a href="../../logic/index.html#ℕ">ℕ</a>)
+///     (returned : <a href="../../logic/index.html#Result">Result</a> (<a href="../../logic/index.html#List">List</a> <a href="../../ent_handle/handle/index.html#Handle">Handle</a>) Refused) : Type 0 where
+///   pub same : after ≡ record before { reserver = after.reserver }
+///   pub reserves : <a href="../../ent_shared/replies/index.html#Reserves">Reserves</a> before.shared before.reserver after.reserver n returned
+/// </pre>
+///
+/// <pre>
+/// -- So many handles were reserved. The list has them after those that it had before, and the
+/// -- reserver's record after those that the reserver was given before.
+/// pub record <b id="GivesReply">GivesReply</b> (before after : <a href="#Reserver">Reserver</a>) (n : <a href="../../logic/index.html#ℕ">ℕ</a>) (old new : <a href="../../logic/index.html#List">List</a> <a href="../../ent_handle/handle/index.html#Handle">Handle</a>) : Type 0 where
+///   pub given : <a href="../../logic/index.html#List">List</a> <a href="../../ent_handle/handle/index.html#Handle">Handle</a>
+///   pub behind : new ≡ old ++ given
+///   pub reserves : <a href="#MakesReservation">MakesReservation</a> before after n (<a href="../../logic/index.html#Ok">Ok</a> given)
+///   pub many : <a href="../../logic/index.html#length">length</a> given ≡ n
+///   pub recorded : <a href="../../ent_shared/order/index.html#handles_given">handles_given</a> after.reserver.own ≡ <a href="../../ent_shared/order/index.html#handles_given">handles_given</a> before.reserver.own ++ given
+/// </pre>
+///
+/// <pre>
+/// -- A request for n handles was refused, for the first of these that holds: the quota has too few,
+/// -- there is no memory, the pool has too few. Only in the last case a reservation was made. Nothing
+/// -- is recorded as given.
+/// pub record <b id="IsUnserved">IsUnserved</b> (before after : <a href="#Reserver">Reserver</a>) (n : <a href="../../logic/index.html#ℕ">ℕ</a>) (error : ReserveError) : Type 0 where
+///   pub quota_left : <a href="../faults/index.html#IfQuota">IfQuota</a> error (λ left. left ≡ before.reserver.own.left)
+///   pub memory : error ≡ failed.Memory → <a href="#MayBeServed">MayBeServed</a> before n
+///   pub space : <a href="../faults/index.html#IfSpace">IfSpace</a> error (λ why. <a href="#MakesReservation">MakesReservation</a> before after n (<a href="../../logic/index.html#Err">Err</a> why))
+///   pub unchanged : ¬ (<a href="../faults/index.html#IsSpace">IsSpace</a> error) → after ≡ before
+///   pub recorded : <a href="../../ent_shared/order/index.html#handles_given">handles_given</a> after.reserver.own ≡ <a href="../../ent_shared/order/index.html#handles_given">handles_given</a> before.reserver.own
+/// </pre>
+pub mod sharing {}
+
+#[doc(alias("IsBeyond", "before_count"))]
+/// The image of a world of the package: that of its world, and how many entities `spawn` made since the last flush.
+///
+/// <pre>
+/// -- the image of the world, and the number in four bytes
+/// abbrev pub <b id="image">image</b> : <a href="../../ent_world/world/index.html#World">World</a> → <a href="../../logic/index.html#ℕ">ℕ</a> → <a href="../../logic/index.html#List">List</a> <a href="../../logic/index.html#ℕ">ℕ</a>
+/// <a href="#image">image</a> w spawned = <a href="../../ent_world/image/index.html#image">world_image</a> w ++ <a href="../../ent_handle/bytes/index.html#word">word</a> spawned
+/// </pre>
+///
+/// <pre>
+/// -- the bytes of the world alone
+/// abbrev pub <b id="before_count">before_count</b> : <a href="../../logic/index.html#List">List</a> <a href="../../logic/index.html#ℕ">ℕ</a> → <a href="../../logic/index.html#List">List</a> <a href="../../logic/index.html#ℕ">ℕ</a>
+/// <a href="#before_count">before_count</a> bytes = <a href="../../logic/index.html#take">take</a> (<a href="../../logic/index.html#length">length</a> bytes - 4) bytes
+/// </pre>
+///
+/// <pre>
+/// -- the bytes are an image, and it is refused for the bound by this fault
+/// abbrev pub <b id="IsBeyond">IsBeyond</b> : <a href="../../logic/index.html#List">List</a> <a href="../../logic/index.html#ℕ">ℕ</a> → <a href="../../logic/index.html#ℕ">ℕ</a> → WorldImageFault → Type 0
+/// <a href="#IsBeyond">IsBeyond</a> bytes most fault =
+///     (w : <a href="../../ent_world/world/index.html#World">World</a>) × (spawned : <a href="../../logic/index.html#ℕ">ℕ</a>) × <a href="../../ent_world/image/index.html#HasImage">HasImage</a> w × (<a href="#image">image</a> w spawned ≡ bytes)
+///     × (most &lt; <a href="../../ent_alloc/within/index.html#slots_after_flush">slots_after_flush</a> w.allocator) × (fault ≡ Bound (<a href="../../ent_alloc/within/index.html#slots_after_flush">slots_after_flush</a> w.allocator))
+/// </pre>
+pub mod image {}
+
+#[doc(alias("AreUnfilled", "IsHeld", "IsLeft", "IsStopped", "IsUnended", "IsUnrunFor"))]
+/// What is said of a frame in blocks that didn\'t end.
+///
+/// <pre>
+/// -- no queues were filled, for this reason
+/// abbrev pub <b id="IsUnrunFor">IsUnrunFor</b> : {J : Type 0} → Unframed J → RunError → Type 0
+/// <a href="#IsUnrunFor">IsUnrunFor</a> (unframed.Unrun world reservers error) why = error ≡ why
+/// <a href="#IsUnrunFor">IsUnrunFor</a> (unframed.Unended left queues) why = ⊥
+/// <a href="#IsUnrunFor">IsUnrunFor</a> (unframed.Unapplied world queues) why = ⊥
+/// <a href="#IsUnrunFor">IsUnrunFor</a> (unframed.Stopped world stopped) why = ⊥
+/// </pre>
+///
+/// <pre>
+/// module _ {S : Type 0} (may leave : S → <a href="../../ent_world/open_world/index.html#View">View</a> → <a href="../../logic/index.html#List">List</a> <a href="../../ent_queue/command/index.html#Command">Command</a> → Type 0) (systems : <a href="../../logic/index.html#List">List</a> S)
+///     (workers : <a href="../../logic/index.html#ℕ">ℕ</a>) where
+///   -- What holds if these systems, with reservers of these, filled no queues. Only if they were
+///   -- broken off are the reservers lost.
+///   pub record <b id="AreUnfilled">AreUnfilled</b> {J : Type 0} (opened : WorldInBlocks J) (reservers left : <a href="../../logic/index.html#List">List</a> <a href="../../ent_blocks/blocks/index.html#Reserver">Reserver</a>)
+///       (error : RunError) : Type 0 where
+///     pub handed_back : error ≢ failed.Lost → left ≡ reservers
+///     pub memory_some : error ≡ failed.Memory → 0 &lt; <a href="../../logic/index.html#length">length</a> systems
+///     pub lost : error ≡ failed.Lost → <a href="../../ent_runner/blocks_queues/index.html#HaveStopped">HaveStopped</a> may leave systems workers
+///         (<a href="../../ent_runner/blocks_frame/index.html#view_in_blocks">view_in_blocks</a> opened.world) opened.world.blocks.phase.start (<a href="../../ent_blocks/blocks/index.html#blocks_of">blocks_of</a> reservers)
+///     pub lost_some : error ≡ failed.Lost → 0 &lt; <a href="../../logic/index.html#length">length</a> systems
+///     pub lost_reservers : error ≡ failed.Lost → left ≡ []
+/// </pre>
+///
+/// <pre>
+///   -- What holds if all systems ran, and the world was not closed. If the reservers are those of all
+///   -- blocks, in their order, it is because memory ran out.
+///   pub record <b id="IsUnended">IsUnended</b> {J : Type 0} (opened world : WorldInBlocks J)
+///       (reservers left : <a href="../../logic/index.html#List">List</a> <a href="../../ent_blocks/blocks/index.html#Reserver">Reserver</a>)
+///       (error : EndError) (queues : <a href="../batch/index.html#Queues">Queues</a>) : Type 0 where
+///     pub same : world ≡ opened
+///     pub issued : <a href="../../ent_runner/blocks_queues/index.html#HaveIssued">HaveIssued</a> may systems (<a href="../../ent_runner/blocks_frame/index.html#view_in_blocks">view_in_blocks</a> opened.world)
+///         opened.world.blocks.phase.start (<a href="../../ent_blocks/blocks/index.html#blocks_of">blocks_of</a> reservers) queues.queues (<a href="../../ent_blocks/blocks/index.html#blocks_of">blocks_of</a> left)
+///     pub of : <a href="../../logic/index.html#All">All</a> (λ (r : <a href="../../ent_blocks/blocks/index.html#Reserver">Reserver</a>). r.number ≡ opened.world.blocks.number) left
+///     pub of_world : queues.world ≡ opened.of_world
+///     pub why : <a href="../../ent_runner/blocks_unframed/index.html#IsWhyUnended">IsWhyUnended</a> opened.world.blocks.phase.blocks (<a href="../../ent_blocks/blocks/index.html#blocks_of">blocks_of</a> reservers) error
+///     pub whole : <a href="../../logic/index.html#map">map</a> <a href="../../ent_blocks/blocks/index.html#unused">unused</a> (<a href="../../ent_blocks/blocks/index.html#blocks_of">blocks_of</a> reservers) ≡ opened.world.blocks.phase.blocks
+///         → error ≡ unended.Memory
+/// </pre>
+///
+/// <pre>
+///   -- What holds if all systems ran, with the reservers of all blocks, and the sync point stopped.
+///   pub record <b id="IsHeld">IsHeld</b> {J : Type 0} (opened : WorldInBlocks J) (reservers : <a href="../../logic/index.html#List">List</a> <a href="../../ent_blocks/blocks/index.html#Reserver">Reserver</a>)
+///       (world : World)
+///       (why : SyncFault) (queues : <a href="../batch/index.html#Queues">Queues</a>) : Type 0 where
+///     pub all : <a href="../../logic/index.html#map">map</a> <a href="../../ent_blocks/blocks/index.html#unused">unused</a> (<a href="../../ent_blocks/blocks/index.html#blocks_of">blocks_of</a> reservers) ≡ opened.world.blocks.phase.blocks
+///     pub stops : <a href="../../ent_runner/blocks_frame/index.html#StopsInBlocks">StopsInBlocks</a> may systems opened.world (<a href="../../ent_blocks/blocks/index.html#blocks_of">blocks_of</a> reservers) queues.queues
+///         world.world why
+///     pub number : world.number ≡ opened.of_world
+///     pub counted : world.spawned ≡ <a href="../framing/index.html#spawned_after">spawned_after</a> why opened.spawned
+///     pub of_world : queues.world ≡ opened.of_world
+/// </pre>
+///
+/// <pre>
+///   -- and if it stopped at a command
+///   pub record <b id="IsStopped">IsStopped</b> {J : Type 0} (opened : WorldInBlocks J) (reservers : <a href="../../logic/index.html#List">List</a> <a href="../../ent_blocks/blocks/index.html#Reserver">Reserver</a>)
+///       (world : World) (stopped : <a href="../batch/index.html#Stopped">Stopped</a>) : Type 0 where
+///     pub held : <a href="#IsHeld">IsHeld</a> opened reservers world (fault.Memory stopped.stop.system
+///         stopped.stop.command stopped.stop.done stopped.so_far) stopped.queues
+///     pub flushed : world.world.allocator.asked ≡ 0
+///     pub memory : <a href="../../ent_world/memory/index.html#TakesMemoryAt">TakesMemoryAt</a> world.world stopped.stop.system stopped.stop.command
+///         stopped.stop.done stopped.queues.queues
+/// </pre>
+///
+/// <pre>
+///   -- A frame of these systems left this.
+///   abbrev pub <b id="IsLeft">IsLeft</b> : {J : Type 0} → WorldInBlocks J → <a href="../../logic/index.html#List">List</a> <a href="../../ent_blocks/blocks/index.html#Reserver">Reserver</a> → Unframed J → Type 0
+///   <a href="#IsLeft">IsLeft</a> opened reservers (unframed.Unrun world left error) =
+///       (world ≡ opened) × <a href="#AreUnfilled">AreUnfilled</a> opened reservers left.items error
+///   <a href="#IsLeft">IsLeft</a> opened reservers (unframed.Unended left queues) =
+///       <a href="#IsUnended">IsUnended</a> opened left.value.0 reservers left.value.1.items left.error queues
+///   <a href="#IsLeft">IsLeft</a> opened reservers (unframed.Unapplied world queues) =
+///       <a href="#IsHeld">IsHeld</a> opened reservers world fault.FlushMemory queues
+///       × (0 &lt; <a href="../../logic/index.html#length">length</a> world.world.allocator.taken)
+///   <a href="#IsLeft">IsLeft</a> opened reservers (unframed.Stopped world stopped) =
+///       <a href="#IsStopped">IsStopped</a> opened reservers world stopped
+/// </pre>
+pub mod unframed {}
