@@ -1,5 +1,5 @@
 #!/usr/bin/env bash
-# The package in plain Rust: its tests, its docs and its lints, with the standard library and without it, and each example, which must print
+# The package in plain Rust: its tests, its docs, the names in them and in what the compiler says of mistakes, and its lints, with the standard library and without it, and each example, which must print
 # what its first comment says. Cargo has no network and an empty folder of its own, as for somebody who has the repository and nothing else.
 # So have a package that depends on this one, and `cargo install`.
 set -eu
@@ -23,6 +23,8 @@ cargo test --offline --locked
 # The stand-ins for the kit, as optimised code that checks for overflow.
 CARGO_PROFILE_RELEASE_OVERFLOW_CHECKS=true ../../.ci/tested.sh .ci/forgeni.sh --release --lib kit::
 RUSTDOCFLAGS="-D warnings" cargo doc --offline --no-deps
+printf '%s\n' tests/ui/*.rs | sed 's,.*/,,' | python3 ../../.ci/picks.py .ci/forgeni.sh mistakes
+python3 ../../.ci/names.py
 if cargo clippy --version >/dev/null 2>&1; then
     cargo clippy --offline --all-targets -- -D warnings
     cargo clippy --offline --all-targets --no-default-features -- -D warnings
