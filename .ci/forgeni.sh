@@ -1,5 +1,6 @@
 #!/usr/bin/env bash
-# The package in plain Rust: its tests, its docs with their examples and links, and its lints, with the standard library and without it, and each example, which must print
+# The package in plain Rust: its tests, its docs with their examples and links, the names in them and in what the compiler says of mistakes,
+# and its lints, with the standard library and without it, and each example, which must print
 # what its first comment says. Cargo has no network and an empty folder of its own, as for somebody who has the repository and nothing else.
 # So have a package that depends on this one, and `cargo install`. The package's own folder needs the index of crates.io, so all runs in
 # rust/offline.
@@ -26,6 +27,8 @@ CARGO_PROFILE_RELEASE_OVERFLOW_CHECKS=true ../../.ci/tested.sh .ci/forgeni.sh --
 # In a new folder, where no page is one of an earlier run.
 RUSTDOCFLAGS="-D warnings" cargo doc --offline --no-deps --target-dir "$empty/docs"
 ../../.ci/shown_docs.py "$empty/docs/doc"
+printf '%s\n' ../forgeni/tests/ui/*.rs | sed 's,.*/,,' | python3 ../../.ci/picks.py .ci/forgeni.sh mistakes
+python3 ../../.ci/names.py "$empty/docs/doc"
 if cargo clippy --version >/dev/null 2>&1; then
     cargo clippy --offline --all-targets -- -D warnings
     cargo clippy --offline --all-targets --no-default-features -- -D warnings

@@ -1,7 +1,7 @@
 #!/usr/bin/env python3
 """Looks for names that a user of the package can't know, where a user looks: in its pages, and in what the compiler says of typical mistakes.
 
-    .ci/names.py            `cargo doc` has to have run: it reads rust/offline/target
+    .ci/names.py [DOCS]     reads the pages that `cargo doc` wrote into this folder, by default rust/offline/target/doc
     .ci/names.py --fit      writes what the compiler says into rust/forgeni/tests/ui
 
 It counts, and fails unless each is 0: names in signatures and docs that aren't public; links without a target; links whose text is a name other
@@ -19,8 +19,8 @@ import sys
 import tempfile
 
 TOP = pathlib.Path(__file__).resolve().parent.parent
-PACKAGE = TOP / "rust/offline"
-PAGES, MISTAKES = PACKAGE / "target/doc/forgeni", TOP / "rust/forgeni/tests/ui"
+PACKAGE, SOURCES, MISTAKES = TOP / "rust/offline", TOP / "rust/forgeni/src", TOP / "rust/forgeni/tests/ui"
+PAGES = pathlib.Path(next((it for it in sys.argv[1:] if not it.startswith("-")), PACKAGE / "target/doc")) / "forgeni"
 # The type or function that a page is of, by its file, and what an anchor of it is of.
 PAGE = re.compile(r"(?:^|/)(?:struct|enum|trait|type|fn|macro|constant|attr|derive)\.(\w+)\.html$")
 MEMBER = re.compile(r"^(?:method|tymethod|variant|associatedtype|associatedconstant|structfield)\.(?:\w+\.field\.)?(\w+?)(?:-\d+)?$")
@@ -29,7 +29,6 @@ OWN = re.compile(r'id="(?:variant|associatedtype|structfield|associatedconstant)
 NAME, PARAMETER = re.compile(r"(?<![\w':.])(?<!type )[A-Z]\w*"), re.compile(r"[A-Z][A-Z0-9_]*|Self|Item|Output")
 NAMED = re.compile(r"[A-Z]\w*|(?:\w+::)+\w+")
 DECLARED = re.compile(r"^ *(?:pub(?:\([a-z]+\))? )?(?:struct|enum|trait|type|mod) (\w+)", re.MULTILINE)
-PATH = re.compile(r"\bforgeni(?:::\w+)+")
 VOID = set("area base br col embed hr img input link meta param source track wbr".split())
 
 
@@ -91,11 +90,11 @@ def names_of(pages):
     places = [it.relative_to(PAGES) for it in pages]
     public = {it[1] for place in places if (it := PAGE.search(place.name))} | {part for place in places for part in place.parent.parts}
     # Some are there by a feature alone.
-    exports = re.findall(r"(?m)^pub use ([^;]*);", (PACKAGE / "src/lib.rs").read_text())
+    exports = [it for file in SOURCES.glob("*.rs") for it in re.findall(r"(?m)^pub use ([^;]*);", file.read_text())]
     public |= {name for text in exports for name in re.findall(r"\w+", text.split("::", 1)[-1])}
     own = {name for page in pages.values() for name in page.own}
     # What stands in for Rattle's library has std's names.
-    sources = [it.read_text() for it in (PACKAGE / "src").rglob("*.rs") if "kit" not in it.parts]
+    sources = [it.read_text() for it in SOURCES.rglob("*.rs") if "kit" not in it.parts]
     return public, {name for text in sources for name in DECLARED.findall(text)} - public - own
 
 
@@ -144,10 +143,9 @@ def said_of(path, library):
     def add(message, indent):
         code = f"[{message['code']['code']}]" if message["code"] else ""
         lines.append(f"{indent}{message['level']}{code}: {message['message']}")
-        for span in message["spans"]:
-            place = f"line {span['line_start']}" if span["file_name"] == str(path) else "the package"
+        for span in (it for it in message["spans"] if it["file_name"] == str(path)):
             new = span.get("suggested_replacement")
-            lines.extend([f"{indent}  {place}: {it}" for it in (span["label"], new and f"write `{new}`") if it])
+            lines.extend([f"{indent}  line {span['line_start']}: {it}" for it in (span["label"], new and f"write `{new}`") if it])
         for child in message["children"]:
             add(child, indent + "  ")
 
@@ -160,9 +158,10 @@ def said_of(path, library):
 
 def leaks_of(text, public, hidden):
     """The names in a text of the compiler that aren't public."""
-    paths = {it for path in PATH.findall(text) for it in path.split("::")[1:] if it not in public and not it[0].islower()}
-    modules = {it for path in PATH.findall(text) for it in path.split("::")[1:] if it in hidden}
-    return sorted(paths | modules | {it for it in re.findall(r"\b[A-Z]\w+", text) if it in hidden})
+    # A user may see the modules of what is erased, and the files in them.
+    made = {it.stem for it in (SOURCES / "proved").rglob("*.rs")} | set(re.findall(r"(?m)^mod (\w+);", (SOURCES / "proved/modules.rs").read_text()))
+    modules = {it for it in re.findall(r"\b(\w+)::", text) if it in hidden and it not in made or it == "proved"}
+    return sorted(modules | {it for it in re.findall(r"\b[A-Z]\w+", text) if it in hidden})
 
 
 def mistakes(public, hidden, fit):

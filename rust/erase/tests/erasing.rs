@@ -443,22 +443,6 @@ fn default_of_a_parameter() {
     }
 }
 
-/// A type with another name in the package shows that name, by hand. No other type of its crate or of another
-/// crate does, and the audit wants no `Debug` of it.
-#[test]
-fn shown_by_hand() {
-    let source = "/// A.\n#[derive(Clone, Copy, Debug)]\npub struct Memory;\n\n\
-                  /// B.\n#[derive(Debug, Drop)]\npub struct Memories;\n";
-    let wanted = "/// A.\n#[derive(Clone, Copy)]\npub struct Memory;\n\n\
-                  /// B.\n#[derive(Debug)]\npub struct Memories;\n";
-    let shown = wanted.replace("Clone, Copy", "Clone, Copy, Debug");
-    let (result, audited) = erased_of("ent_handle", PATH, source, &shown).expect("known forms");
-    assert_eq!(body(&result), Some(wanted));
-    assert!(audited.is_err());
-    let (result, _) = erased_of("ent_alloc", PATH, source, "").expect("known forms");
-    assert_eq!(body(&result), Some(shown.as_str()));
-}
-
 /// Plain data gets more derives, and no other type of the crate or of another crate does.
 #[test]
 fn data() {

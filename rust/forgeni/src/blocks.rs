@@ -1,4 +1,5 @@
-//! An allocator whose pool is dealt to callers in blocks, so that their handles don't depend on threads.
+//! Blocks: the handles that come next are [dealt](crate::Entities::open_in_blocks) to callers beforehand, so which
+//! thread is first makes no difference to them.
 
 use crate::in_blocks::open_in_blocks;
 use crate::numbers::next_number;
@@ -9,6 +10,7 @@ use alloc::vec::Vec;
 pub use crate::in_blocks::{BlockError, BlockReserver, BlockSize, Blocks};
 pub use crate::in_blocks::{DealError, EndError};
 
+/// # Blocks
 impl Entities {
     /// Deals the handles that would be given next to callers, in blocks of these sizes: each caller gets
     /// a reserver of its own block. A block is smaller where the allocator has no more handles.

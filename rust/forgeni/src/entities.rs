@@ -10,6 +10,7 @@ use core::iter::FusedIterator;
 
 pub use crate::allocator::{Entities, Freed, Living, State};
 
+/// # Making one
 impl Entities {
     /// An allocator with no entities and the greatest limits. It takes no memory.
     ///
@@ -23,7 +24,10 @@ impl Entities {
     pub const fn new() -> Self {
         Self::with_limits(Limits::GREATEST)
     }
+}
 
+/// # A flush by a closure
+impl Entities {
     /// Like [`flush`](Self::flush), but passes each handle to `each`, in the same order. All of them
     /// are alive before the first call, and stay alive if `each` panics.
     ///

@@ -3,13 +3,16 @@
 use crate::guarding::{caught, guarded};
 use crate::running::NoGate;
 use crate::{phases, running};
-use crate::{Entities, HandedBack, Handle, Log, LogSystem, Report, SyncPoint, System, World};
+use crate::{Entities, HandedBack, Handle, Log, Report, SyncPoint, World};
 use alloc::vec::Vec;
 
 pub use crate::kit::thread::{Join, StdThreads};
+#[cfg(feature = "rayon")]
+pub use crate::on_rayon::Rayon;
 pub use crate::phases::{fill_in_blocks, run_frame_in_blocks};
 pub use crate::phases::{FrameError, Unframed};
 pub use crate::running::{run_in_blocks, FrameReport, LogError, RunError};
+pub use crate::system::*;
 
 /// Runs each system once, on that many workers side by side, and then the sync point. It returns
 /// the report of the sync point.
@@ -139,7 +142,7 @@ pub fn run_frame_on<J: Join + Sync, S: System + Sync>(
 
 /// Runs each system once, on that many workers side by side, 1 to 64, each with a [`Log`] of its own.
 /// The logs are in the order of the systems, whichever ended first, for a
-/// [`SyncPoint`](crate::SyncPoint) of the allocator. There may be 65,536 systems. If there is none,
+/// [`SyncPoint`] of the allocator. There may be 65,536 systems. If there is none,
 /// nothing takes memory.
 ///
 /// Each worker takes the next system that isn't taken yet, until none is left. A spawn reserves at once,

@@ -1,6 +1,6 @@
 //! A reserver that is lent, and how anything is.
 
-use crate::sharing::{OtherPhase, Reserver};
+use crate::threads::{OtherPhase, Reserver};
 use crate::{Handle, Refused, ReserveError};
 use alloc::vec::Vec;
 

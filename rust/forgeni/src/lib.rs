@@ -11,7 +11,28 @@ extern crate alloc;
 #[cfg(any(feature = "std", test))]
 extern crate std;
 
-mod blocks;
+// A page of a type has its `impl` blocks in the order in which these modules are declared.
+mod entities;
+mod handle;
+pub mod world;
+
+include!("proved/modules.rs");
+
+pub mod handle_map;
+mod several;
+pub mod sparse_map;
+
+pub mod threads;
+
+mod phase;
+
+pub mod blocks;
+
+pub mod frames;
+pub mod log;
+pub mod map;
+pub mod trace;
+
 mod cloning;
 mod component;
 // Definitions, for those who read the docs. There is nothing to compile in it.
@@ -21,29 +42,23 @@ pub mod contracts;
 #[cfg(feature = "programs")]
 #[path = "../drawing/mod.rs"]
 mod drawing;
-mod entities;
 mod errors;
 mod follows;
-mod frames;
 #[cfg(feature = "std")]
 mod guarding;
 #[cfg(not(feature = "std"))]
 #[path = "unguarded.rs"]
 mod guarding;
-mod handle;
 mod handle_list;
-pub mod handle_map;
 mod history;
 mod joining;
 #[allow(dead_code, missing_docs, unreachable_pub)]
 mod kit;
 mod lending;
 mod lent;
-mod log;
 mod numbers;
 #[cfg(feature = "rayon")]
 mod on_rayon;
-mod phase;
 #[cfg(feature = "programs")]
 #[doc(hidden)]
 pub mod programs;
@@ -53,47 +68,24 @@ mod reservers;
 mod room;
 #[cfg(feature = "serde")]
 mod serde_impls;
-mod several;
-mod sharing;
 mod shown;
-pub mod sparse_map;
 mod storage;
 mod sync;
 mod system;
-pub mod trace;
 mod tracked;
 #[cfg(feature = "std")]
 mod waiting;
-mod world;
 mod world_phase;
 
-include!("proved/modules.rs");
-
 pub use allocator::Limits;
-pub use blocks::*;
-pub use component::{Birth, ComponentId};
 pub use entities::{Entities, Freed, Living, State};
-pub use errors::*;
-pub use follows::Follows;
-pub use frames::*;
+pub use errors::{Absent, AllocError, FreeError, HandedBack, ImageFault, OutOfMemory};
+pub use errors::{Refused, ReserveError};
 pub use handle::{Handle, ParseHandleError};
-pub use handle_map::{AnyMap, HandleMap, InsertError};
-pub use history::{Change, History};
-pub use joining::{JoinMaps, Leads};
-pub use lent::Lent;
-pub use log::{BeginError, Entry, Log, Reserves, SyncPoint};
-#[cfg(feature = "rayon")]
-pub use on_rayon::{ParIter, ParJoinMaps, Rayon};
-#[cfg(feature = "std")]
-pub use reservers::{Lends, Reservers};
 #[cfg(feature = "serde")]
 #[doc(hidden)]
 pub use serde_impls::for_tables;
-pub use sharing::{CloseError, OtherPhase, Reserver, ShareError, Shared};
-pub use sparse_map::SparseMap;
-pub use storage::{Bundle, InlineBundle, Items, Storage, StorageError};
-pub use sync::{Fault, FaultKind, GoOnError, Queues, Report, Stop, Stopped, SyncError};
-pub use system::*;
-pub use tracked::Tracked;
-pub use world::*;
-pub use world_phase::LentCommands;
+
+// What a module has is here too, by its name alone.
+#[doc(no_inline)]
+pub use self::{blocks::*, frames::*, log::*, map::*, threads::*, world::*};

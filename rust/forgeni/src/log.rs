@@ -1,4 +1,5 @@
-//! Logs and their sync points: what their proved sources can't have.
+//! Logs: spawns and commands of the caller's own type, which systems note, and a sync point hands to a closure in the
+//! order of the systems.
 
 use crate::lent::Lent;
 use crate::{Handle, Refused};

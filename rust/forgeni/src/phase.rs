@@ -2,10 +2,11 @@
 
 use crate::lending::Lending;
 use crate::lent::Lent;
-use crate::sharing::{Reserver, ShareError, Shared};
+use crate::threads::{Reserver, ShareError, Shared};
 use crate::{Entities, HandedBack};
 use alloc::vec::Vec;
 
+/// # Phases
 impl Entities {
     /// Shares the allocator among `callers` reservers, 1 to 1,024, for as long as `run` runs. The
     /// allocator is back when it returns, as after [`Shared::close`]: `run` can't lose a reserver,

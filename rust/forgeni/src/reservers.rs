@@ -1,8 +1,8 @@
 //! A pool of reservers, for threads that come and go.
 
 use crate::lent::Lent;
-use crate::sharing::Reserver;
 use crate::shown::shows;
+use crate::threads::Reserver;
 use crate::waiting::Waiting;
 use crate::{HandedBack, OutOfMemory};
 use alloc::vec::Vec;

@@ -1,18 +1,25 @@
-//! Worlds: what their proved sources can't have.
+//! Worlds: entities with numbered components of 64 bits, the birth of each, and the commands that systems issue.
+//!
+//! A [`World`] has it all. Its systems run in [`frames`](crate::frames), or on threads of the caller's own, by
+//! [`World::phase`] or [`World::open`]. A [`Storage`] keeps such components beside an allocator of the caller's.
 
 use crate::numbers::next_number;
 use crate::phases::{clone_world, clone_world_from, new_world};
 use crate::phases::{open, open_in_blocks, read_world, read_world_within};
 use crate::shown::shows;
 use crate::world_phase::closed;
-use crate::{
-    BlockReserver, DealError, HandedBack, Limits, OutOfMemory, ShareError, WorldImageFault,
-};
+use crate::{BlockReserver, DealError, HandedBack, Limits, OutOfMemory, ShareError};
 use alloc::vec::Vec;
 
+pub use crate::component::{Birth, ComponentId};
+pub use crate::errors::{StorageImageFault, WorldImageFault};
 pub use crate::phases::{CommandQueue, Commands, OpenWorld, World, WorldInBlocks};
+pub use crate::storage::{Bundle, InlineBundle, Items, Storage, StorageError};
+pub use crate::sync::{Fault, FaultKind, GoOnError, Queues, Report, Stop, Stopped, SyncError};
+pub use crate::world_phase::LentCommands;
 pub use crate::worlds::View;
 
+/// # Making one
 impl World {
     /// A world without entities, with the greatest limits. It takes no memory.
     ///
@@ -42,7 +49,10 @@ impl World {
     pub fn with_limits(limits: Limits) -> Self {
         new_world(limits, next_number())
     }
+}
 
+/// # Snapshots
+impl World {
     /// Another world in the same state: the same entities are alive, with the same births and
     /// components, the same handles are reserved, and the same calls return the same. From then on the
     /// two are independent.
@@ -98,7 +108,10 @@ impl World {
     pub fn try_clone_from(&mut self, source: &Self) -> Result<(), OutOfMemory> {
         clone_world_from(self, source, next_number())
     }
+}
 
+/// # Saves
+impl World {
     /// The world whose image these bytes are, all of them.
     ///
     /// The bytes may come from anywhere. Each image that [`write_image`](Self::write_image) writes is
@@ -160,7 +173,10 @@ impl World {
     pub fn read_image_within(bytes: &[u8], most: u32) -> Result<Self, WorldImageFault> {
         read_world_within(bytes, next_number(), most)
     }
+}
 
+/// # Opening it
+impl World {
     /// Opens the world for `count` systems, 1 to 1,024, each with its [`Commands`]. They may go to
     /// other threads. [`OpenWorld::close`] gives the world back, with the queues of the systems.
     ///

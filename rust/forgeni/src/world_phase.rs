@@ -6,6 +6,7 @@ use crate::{Commands, ComponentId, HandedBack, Handle, OpenWorld, OutOfMemory};
 use crate::{Queues, ReserveError, ShareError, World};
 use alloc::vec::Vec;
 
+/// # Phases
 impl World {
     /// Opens the world for `count` systems, 1 to 1,024, for as long as `run` takes. Then the world is
     /// back, with all that was reserved, and [`apply`](Self::apply) takes the queues. `run` can't lose

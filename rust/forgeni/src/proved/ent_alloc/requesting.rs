@@ -11,6 +11,33 @@ use crate::allocator::space::Space;
 use crate::allocator::span::Span;
 use crate::handles::Handle;
 
+/// # What is left
+impl Entities {
+    /// How many handles can still be requested before a flush: 0 once a request was refused.
+    ///
+    /// ```
+    /// use forgeni::{Entities, Limits};
+    ///
+    /// let mut entities = Entities::with_limits(Limits::new(10, 1).unwrap());
+    /// entities.request_many(4)?;
+    /// assert_eq!(entities.left(), 6);
+    /// # Ok::<(), Box<dyn std::error::Error>>(())
+    /// ```
+    ///
+    /// <details><summary>Contract</summary>
+    ///
+    /// <code style="display: block; tab-size: 4; white-space: pre-wrap">// In the words of [contracts](crate::contracts):
+    /// ensures { result ≡ [length](crate::contracts::logic#length) self.now.allocator.pool }
+    /// </code>
+    ///
+    /// </details>
+    #[must_use]
+    #[inline]
+    pub fn left(&self) -> u32 {
+        self.available().saturating_sub(self.requests.asked) as u32
+    }
+}
+
 impl Entities {
     /// Sets the state to the one after requests that leave the cursor and the floor at these
     /// positions. What is reserved is all from the top down to the floor. It is also the state
@@ -139,30 +166,6 @@ impl Entities {
         } else {
             Err(Space { wanted: 1, left: 0 })
         }
-    }
-
-    /// How many handles can still be requested before a flush: 0 once a request was refused.
-    ///
-    /// ```
-    /// use forgeni::{Entities, Limits};
-    ///
-    /// let mut entities = Entities::with_limits(Limits::new(10, 1).unwrap());
-    /// entities.request_many(4)?;
-    /// assert_eq!(entities.left(), 6);
-    /// # Ok::<(), Box<dyn std::error::Error>>(())
-    /// ```
-    ///
-    /// <details><summary>Contract</summary>
-    ///
-    /// <code style="display: block; tab-size: 4; white-space: pre-wrap">// In the words of [contracts](crate::contracts):
-    /// ensures { result ≡ [length](crate::contracts::logic#length) self.now.allocator.pool }
-    /// </code>
-    ///
-    /// </details>
-    #[must_use]
-    #[inline]
-    pub fn left(&self) -> u32 {
-        self.available().saturating_sub(self.requests.asked) as u32
     }
 
     /// How many handles a request finds that finds the cursor at `high`.

@@ -1,4 +1,6 @@
-//! An allocator that many threads reserve from at once.
+//! Threads that reserve at once: an allocator is [shared](crate::Entities::share) among [`Reserver`]s, each of which may
+//! go to a thread of its own, and [`Shared::close`] gives it back. [`Entities::phase`](crate::Entities::phase) lends them
+//! to a closure, and a pool of [`Reservers`] serves threads that come and go.
 
 use crate::numbers::next_number;
 use crate::phase::closed;
@@ -8,8 +10,12 @@ use crate::shown::shows;
 use crate::{Entities, HandedBack};
 use alloc::vec::Vec;
 
+pub use crate::lent::Lent;
 pub use crate::phases::{CloseError, OtherPhase, Reserver, ShareError, Shared};
+#[cfg(feature = "std")]
+pub use crate::reservers::{Lends, Reservers};
 
+/// # Threads
 impl Entities {
     /// Shares the allocator among `callers` reservers, 1 to 1,024, each of which can go to a thread
     /// of its own. [`Shared::close`] gives the allocator back, with all that they reserved.
