@@ -25,6 +25,7 @@ CARGO_PROFILE_RELEASE_OVERFLOW_CHECKS=true ../../.ci/tested.sh .ci/forgeni.sh --
 # In a new folder, where no page is one of an earlier run.
 RUSTDOCFLAGS="-D warnings" cargo doc --offline --no-deps --target-dir "$empty/docs"
 ../../.ci/shown_docs.py "$empty/docs/doc"
+(cd ../.. && .ci/contracts.py check "$empty/docs/doc")
 if cargo clippy --version >/dev/null 2>&1; then
     cargo clippy --offline --all-targets -- -D warnings
     cargo clippy --offline --all-targets --no-default-features -- -D warnings

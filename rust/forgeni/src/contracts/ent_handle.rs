@@ -3,7 +3,7 @@
 //! The definitions of crate `ent_handle`, in the order in which one reads them:
 //! [`handle`], [`birth`], [`component`], [`text`], [`handed_back`].
 
-#[doc(alias("Handle", "IsHandle", "bits", "handle_cmp", "placeholder"))]
+#[doc(alias("Handle", "IsHandle", "bits", "handle_cmp", "handle_cmp_total", "placeholder"))]
 /// Handles: a slot of the allocator, and one of its occupants.
 ///
 /// <pre>
@@ -38,6 +38,13 @@
 /// abbrev pub <b id="handle_cmp">handle_cmp</b> : <a href="#Handle">Handle</a> → <a href="#Handle">Handle</a> → Ordering
 /// <a href="#handle_cmp">handle_cmp</a> = then_cmp (on (λ h. h.index) <a href="../../logic/index.html#nat_cmp">nat_cmp</a>) (on (λ h. h.generation) <a href="../../logic/index.html#nat_cmp">nat_cmp</a>)
 /// </pre>
+///
+/// <pre>
+/// pub <b id="handle_cmp_total">handle_cmp_total</b> : IsTotalOrder <a href="#handle_cmp">handle_cmp</a>
+/// <a href="#handle_cmp_total">handle_cmp_total</a> =
+///     then_total (on_total (λ (h : <a href="#Handle">Handle</a>). h.index) nat_cmp_total)
+///     (on_total (λ (h : <a href="#Handle">Handle</a>). h.generation) nat_cmp_total)
+/// </pre>
 pub mod handle {}
 
 #[doc(alias("birth_cmp"))]
@@ -62,7 +69,7 @@ pub mod birth {}
 /// </pre>
 pub mod component {}
 
-#[doc(alias("HasHandleForm", "IsDecimal", "handle_of", "handle_of_parts", "handle_text", "is_decimal", "is_handle", "number_of", "written"))]
+#[doc(alias("HasHandleForm", "IsDecimal", "handle_of", "handle_of_parts", "handle_text", "is_decimal", "is_handle", "written"))]
 /// Decimals, the texts of handles, and what a text is read as.
 ///
 /// <pre>
@@ -76,15 +83,6 @@ pub mod component {}
 /// <pre>
 /// abbrev pub <b id="IsDecimal">IsDecimal</b> : <a href="../../logic/index.html#List">List</a> <a href="../../logic/index.html#ℕ">ℕ</a> → Type 0
 /// <a href="#IsDecimal">IsDecimal</a> bytes = <a href="../../logic/index.html#IsTrue">IsTrue</a> (<a href="#is_decimal">is_decimal</a> bytes)
-/// </pre>
-///
-/// <pre>
-/// -- the number below 2^32 that a decimal writes
-/// abbrev pub <b id="number_of">number_of</b> : <a href="../../logic/index.html#List">List</a> <a href="../../logic/index.html#ℕ">ℕ</a> → <a href="../../logic/index.html#Result">Result</a> <a href="../../logic/index.html#ℕ">ℕ</a> TextFault
-/// <a href="#number_of">number_of</a> bytes =
-///     if <a href="#is_decimal">is_decimal</a> bytes
-///     then (if nat_lt (<a href="../../logic/index.html#digits_value">digits_value</a> 10 bytes) (2 ^ 32) then <a href="../../logic/index.html#Ok">Ok</a> (<a href="../../logic/index.html#digits_value">digits_value</a> 10 bytes) else <a href="../../logic/index.html#Err">Err</a> Range)
-///     else <a href="../../logic/index.html#Err">Err</a> Shape
 /// </pre>
 ///
 /// <pre>

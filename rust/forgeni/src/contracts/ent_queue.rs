@@ -1,9 +1,9 @@
 // Made of crates/ent_queue/specs by .ci/contracts.py. It isn't edited by hand.
 
 //! The definitions of crate `ent_queue`, in the order in which one reads them:
-//! [`command`], [`packing`], [`reserving`], [`drawing`], [`issuing`], [`logging`], [`commands`].
+//! [`command`], [`reserving`], [`drawing`], [`issuing`], [`logging`], [`commands`].
 
-#[doc(alias("Command", "Despawn", "Insert", "IsCommand", "IsRefusal", "Refused", "Remove", "Spawn", "SpawnMany"))]
+#[doc(alias("Command", "Despawn", "Insert", "Refused", "Remove", "Spawn", "SpawnMany"))]
 /// Commands: what a system asks of the world. A queue of them stands for their list.
 ///
 /// <pre>
@@ -18,88 +18,9 @@
 ///   <b id="Despawn">Despawn</b> : <a href="../../ent_handle/handle/index.html#Handle">Handle</a> → <a href="#Command">Command</a>
 ///   <b id="Refused">Refused</b> : <a href="../../logic/index.html#ℕ">ℕ</a> → Refusal → <a href="#Command">Command</a>
 /// </pre>
-///
-/// <pre>
-/// -- A refusal for lack of handles says how many were requested, and is within its ranges.
-/// abbrev pub <b id="IsRefusal">IsRefusal</b> : <a href="../../logic/index.html#ℕ">ℕ</a> → Refusal → Type 0
-/// <a href="#IsRefusal">IsRefusal</a> requested (Space wanted left) = (wanted ≡ requested) × (left &lt; 2 ^ 32)
-/// <a href="#IsRefusal">IsRefusal</a> requested (Quota left) = left &lt; 2 ^ 64
-/// </pre>
-///
-/// <pre>
-/// -- the ranges of what a command names
-/// abbrev pub <b id="IsCommand">IsCommand</b> : <a href="#Command">Command</a> → Type 0
-/// <a href="#IsCommand">IsCommand</a> (<a href="#Spawn">Spawn</a> h items) = <a href="../../ent_handle/handle/index.html#IsHandle">IsHandle</a> h × <a href="../../ent_storage/bundle/index.html#IsBundle">IsBundle</a> items
-/// <a href="#IsCommand">IsCommand</a> (<a href="#SpawnMany">SpawnMany</a> hs items) = (<a href="../../logic/index.html#length">length</a> hs &lt; 2 ^ 32) × <a href="../../logic/index.html#All">All</a> <a href="../../ent_handle/handle/index.html#IsHandle">IsHandle</a> hs × <a href="../../ent_storage/bundle/index.html#IsBundle">IsBundle</a> items
-/// <a href="#IsCommand">IsCommand</a> (<a href="#Insert">Insert</a> h items) = <a href="../../ent_handle/handle/index.html#IsHandle">IsHandle</a> h × <a href="../../ent_storage/bundle/index.html#IsBundle">IsBundle</a> items
-/// <a href="#IsCommand">IsCommand</a> (<a href="#Remove">Remove</a> h id) = <a href="../../ent_handle/handle/index.html#IsHandle">IsHandle</a> h × (id.0 &lt; 2 ^ 8)
-/// <a href="#IsCommand">IsCommand</a> (<a href="#Despawn">Despawn</a> h) = <a href="../../ent_handle/handle/index.html#IsHandle">IsHandle</a> h
-/// <a href="#IsCommand">IsCommand</a> (<a href="#Refused">Refused</a> wanted why) = (wanted &lt; 2 ^ 32) × <a href="#IsRefusal">IsRefusal</a> wanted why
-/// </pre>
 pub mod command {}
 
-#[doc(alias("bundle_bytes", "bytes_2", "bytes_4", "bytes_8", "command_bytes", "handle_bytes", "item_bytes", "queue_bytes", "refusal_bytes"))]
-/// A queue as bytes: its commands one after the other, each a byte for its kind and then its parts. All numbers are little endian.
-///
-/// <pre>
-/// -- a number in 2, in 4 and in 8 bytes
-/// unfoldable pub <b id="bytes_2">bytes_2</b> : <a href="../../logic/index.html#ℕ">ℕ</a> → <a href="../../logic/index.html#List">List</a> <a href="../../logic/index.html#ℕ">ℕ</a>
-/// <a href="#bytes_2">bytes_2</a> n = to_le_bytes w16 n
-/// </pre>
-///
-/// <pre>
-/// unfoldable pub <b id="bytes_4">bytes_4</b> : <a href="../../logic/index.html#ℕ">ℕ</a> → <a href="../../logic/index.html#List">List</a> <a href="../../logic/index.html#ℕ">ℕ</a>
-/// <a href="#bytes_4">bytes_4</a> n = to_le_bytes w32 n
-/// </pre>
-///
-/// <pre>
-/// unfoldable pub <b id="bytes_8">bytes_8</b> : <a href="../../logic/index.html#ℕ">ℕ</a> → <a href="../../logic/index.html#List">List</a> <a href="../../logic/index.html#ℕ">ℕ</a>
-/// <a href="#bytes_8">bytes_8</a> n = to_le_bytes w64 n
-/// </pre>
-///
-/// <pre>
-/// -- a handle in its bits
-/// abbrev pub <b id="handle_bytes">handle_bytes</b> : <a href="../../ent_handle/handle/index.html#Handle">Handle</a> → <a href="../../logic/index.html#List">List</a> <a href="../../logic/index.html#ℕ">ℕ</a>
-/// <a href="#handle_bytes">handle_bytes</a> h = <a href="#bytes_8">bytes_8</a> (<a href="../../ent_handle/handle/index.html#bits">bits</a> h)
-/// </pre>
-///
-/// <pre>
-/// -- the component's number, and its value in two's complement
-/// abbrev pub <b id="item_bytes">item_bytes</b> : ComponentId × <a href="../../logic/index.html#ℤ">ℤ</a> → <a href="../../logic/index.html#List">List</a> <a href="../../logic/index.html#ℕ">ℕ</a>
-/// <a href="#item_bytes">item_bytes</a> item = item.0.0 ∷ <a href="#bytes_8">bytes_8</a> (cast_unsigned w64 item.1)
-/// </pre>
-///
-/// <pre>
-/// -- how many items, then the items
-/// abbrev pub <b id="bundle_bytes">bundle_bytes</b> : <a href="../../ent_storage/bundle/index.html#Bundle">Bundle</a> → <a href="../../logic/index.html#List">List</a> <a href="../../logic/index.html#ℕ">ℕ</a>
-/// <a href="#bundle_bytes">bundle_bytes</a> items = <a href="#bytes_2">bytes_2</a> (<a href="../../logic/index.html#length">length</a> items) ++ flat_map <a href="#item_bytes">item_bytes</a> items
-/// </pre>
-///
-/// <pre>
-/// -- 1 and how many handles were left, or 2 and how much quota
-/// abbrev pub <b id="refusal_bytes">refusal_bytes</b> : Refusal → <a href="../../logic/index.html#List">List</a> <a href="../../logic/index.html#ℕ">ℕ</a>
-/// <a href="#refusal_bytes">refusal_bytes</a> (Space wanted left) = 1 ∷ <a href="#bytes_8">bytes_8</a> left
-/// <a href="#refusal_bytes">refusal_bytes</a> (Quota left) = 2 ∷ <a href="#bytes_8">bytes_8</a> left
-/// </pre>
-///
-/// <pre>
-/// abbrev pub <b id="command_bytes">command_bytes</b> : <a href="../command/index.html#Command">Command</a> → <a href="../../logic/index.html#List">List</a> <a href="../../logic/index.html#ℕ">ℕ</a>
-/// <a href="#command_bytes">command_bytes</a> (<a href="../command/index.html#Spawn">Spawn</a> h items) = 0 ∷ (<a href="#handle_bytes">handle_bytes</a> h ++ <a href="#bundle_bytes">bundle_bytes</a> items)
-/// <a href="#command_bytes">command_bytes</a> (<a href="../command/index.html#SpawnMany">SpawnMany</a> hs items) =
-///     1 ∷ (<a href="#bytes_4">bytes_4</a> (<a href="../../logic/index.html#length">length</a> hs) ++ (flat_map <a href="#handle_bytes">handle_bytes</a> hs ++ <a href="#bundle_bytes">bundle_bytes</a> items))
-/// <a href="#command_bytes">command_bytes</a> (<a href="../command/index.html#Insert">Insert</a> h items) = 2 ∷ (<a href="#handle_bytes">handle_bytes</a> h ++ <a href="#bundle_bytes">bundle_bytes</a> items)
-/// <a href="#command_bytes">command_bytes</a> (<a href="../command/index.html#Remove">Remove</a> h id) = 3 ∷ (<a href="#handle_bytes">handle_bytes</a> h ++ id.0 ∷ [])
-/// <a href="#command_bytes">command_bytes</a> (<a href="../command/index.html#Despawn">Despawn</a> h) = 4 ∷ <a href="#handle_bytes">handle_bytes</a> h
-/// <a href="#command_bytes">command_bytes</a> (<a href="../command/index.html#Refused">Refused</a> wanted why) = 5 ∷ (<a href="#bytes_4">bytes_4</a> wanted ++ <a href="#refusal_bytes">refusal_bytes</a> why)
-/// </pre>
-///
-/// <pre>
-/// abbrev pub <b id="queue_bytes">queue_bytes</b> : <a href="../../logic/index.html#List">List</a> <a href="../command/index.html#Command">Command</a> → <a href="../../logic/index.html#List">List</a> <a href="../../logic/index.html#ℕ">ℕ</a>
-/// <a href="#queue_bytes">queue_bytes</a> commands = flat_map <a href="#command_bytes">command_bytes</a> commands
-/// </pre>
-pub mod packing {}
-
-#[doc(alias("FitQuota", "FitsQuota", "as_list", "cost", "queued", "refused_by", "requests_of", "stands_for"))]
+#[doc(alias("FitQuota", "FitsQuota", "Gains", "as_list", "cost", "queued", "refused_by", "requests_of", "stands_for"))]
 /// What the commands of a queue have asked of the reserver that was lent.
 ///
 /// <pre>
@@ -152,6 +73,20 @@ pub mod packing {}
 /// abbrev pub <b id="FitQuota">FitQuota</b> : <a href="../../logic/index.html#ℕ">ℕ</a> → <a href="../../logic/index.html#List">List</a> <a href="../command/index.html#Command">Command</a> → Type 0
 /// <a href="#FitQuota">FitQuota</a> left [] = Unit {0}
 /// <a href="#FitQuota">FitQuota</a> left (c ∷ cs) = <a href="#FitsQuota">FitsQuota</a> left c × <a href="#FitQuota">FitQuota</a> (left - <a href="#cost">cost</a> c) cs
+/// </pre>
+///
+/// <pre>
+/// -- The reserver has gained the reservations of these commands and no others, in order.
+/// pub record <b id="Gains">Gains</b> (before : Record) (commands : <a href="../../logic/index.html#List">List</a> <a href="../command/index.html#Command">Command</a>) (after : Record) : Type 0 where
+///   pub start : after.start ≡ before.start
+///   pub number : after.number ≡ before.number
+///   pub reservations : <a href="../../logic/index.html#List">List</a> Reservation
+///   pub entries : after.entries ≡ before.entries ++ <a href="../../logic/index.html#map">map</a> Own reservations
+///   pub requests : <a href="../../logic/index.html#map">map</a> (λ (r : Reservation). (r.requested, r.reply)) reservations
+///       ≡ flat_map <a href="#stands_for">stands_for</a> commands
+///   pub callers : <a href="../../logic/index.html#All">All</a> (λ (r : Reservation). r.caller ≡ before.number) reservations
+///   pub left : after.left + sum_by <a href="#cost">cost</a> commands ≡ before.left
+///   pub within : <a href="#FitQuota">FitQuota</a> before.left commands
 /// </pre>
 ///
 /// <pre>

@@ -50,7 +50,7 @@ impl Reserver {
     ///
     /// <code style="display: block; tab-size: 4; white-space: pre-wrap">// In the words of [contracts](crate::contracts):
     /// ensures left { result ≡ self.now.own.left }
-    /// ensures quota { result + requested_by self.now.own ≡ quota }
+    /// ensures quota { result + [requested_by](crate::contracts::ent_shared::record#requested_by) self.now.own ≡ [quota](crate::contracts::ent_alloc::limits#quota) }
     /// </code>
     ///
     /// </details>
