@@ -373,17 +373,21 @@ def pages(cited):
         "- [`logic`]: Rattle's own words and signs.",
     ]
     for crate in crates:
-        front.append(f"- [`{crate}`]: " + ", ".join(f"[`{page}`]({crate}::{page})" for its, page in map(definitions.pages.get, shown) if its == crate))
-    front += ["", "A definition is a statement or a function of values as contracts see them: a `Vec` is a list, an `Entities` a record. It is never run."]
+        its = [page for other, page in map(definitions.pages.get, shown) if other == crate]
+        front.append(f"- [`{crate}`]: " + ", ".join(f"[`{it}`]({crate}::{it})" for it in its))
+    front += ["", "A definition is a statement or a function of values as contracts see them: a `Vec` is a list, an `Entities` a record. It"]
+    front += ["is never run."]
     made = {}
     for crate in crates:
         its = [it for it in shown if definitions.pages[it][0] == crate]
-        text = [f"// Made of crates/{crate}/specs {MADE}", "", f"//! The definitions of crate `{crate}`, in the order in which one reads them:"]
+        text = [f"// Made of crates/{crate}/specs {MADE}", ""]
+        text += [f"//! The definitions of crate `{crate}`, in the order in which one reads them:"]
         text += [f"//! {', '.join(f'[`{definitions.pages[it][1]}`]' for it in its)}.", ""]
         for file in its:
             text += page_of(definitions, file)
         made[PAGES / f"{crate}.rs"] = text
-    made[PAGES / "mod.rs"] = [f"// Made of crates/*/specs {MADE}", "", *docs(front, "//!"), "", *logic(), *(f"pub mod {it};" for it in crates), ""]
+    head = [f"// Made of crates/*/specs {MADE}", "", *docs(front, "//!"), ""]
+    made[PAGES / "mod.rs"] = [*head, *logic(), *(f"pub mod {it};" for it in crates), ""]
     return {it: "\n".join(text) for it, text in made.items()}, definitions.faults
 
 

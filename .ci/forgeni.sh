@@ -1,7 +1,7 @@
 #!/usr/bin/env bash
 # The package in plain Rust: its tests, its docs with their examples and links, and its lints, with the standard library and without it, and
-# each example, which must print what its first comment says. Cargo has no network and an empty folder of its own, as for somebody who has the repository and nothing else.
-# So have a package that depends on this one, and `cargo install`.
+# each example, which must print what its first comment says. Cargo has no network and an empty folder of its own, as for somebody who has
+# the repository and nothing else. So have a package that depends on this one, and `cargo install`.
 set -eu
 cd "$(dirname "$0")/../rust/forgeni"
 empty=$(mktemp -d)

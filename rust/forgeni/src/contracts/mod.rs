@@ -18,7 +18,8 @@
 //! - [`ent_runner`]: [`runs`](ent_runner::runs), [`frame`](ent_runner::frame), [`logs`](ent_runner::logs), [`blocks_filling`](ent_runner::blocks_filling), [`blocks`](ent_runner::blocks), [`blocks_queues`](ent_runner::blocks_queues), [`blocks_frame`](ent_runner::blocks_frame), [`blocks_unframed`](ent_runner::blocks_unframed), [`blocks_refusing`](ent_runner::blocks_refusing)
 //! - [`ent_total`]: [`batch`](ent_total::batch), [`applying`](ent_total::applying), [`births`](ent_total::births), [`closing`](ent_total::closing), [`faults`](ent_total::faults), [`framing`](ent_total::framing), [`issuing`](ent_total::issuing), [`sharing`](ent_total::sharing), [`image`](ent_total::image), [`unframed`](ent_total::unframed)
 //!
-//! A definition is a statement or a function of values as contracts see them: a `Vec` is a list, an `Entities` a record. It is never run.
+//! A definition is a statement or a function of values as contracts see them: a `Vec` is a list, an `Entities` a record. It
+//! is never run.
 
 /// The words of the logic, a line each, and its signs.
 ///
