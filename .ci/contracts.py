@@ -1,13 +1,13 @@
 #!/usr/bin/env python3
 """The module `contracts` of the package: pages with all definitions that its contracts cite, for rustdoc.
 
-    contracts.py write    writes rust/forgeni/src/contracts
-    contracts.py check    fails if it is other than this would write
+    contracts.py write           writes rust/forgeni/src/contracts
+    contracts.py check FOLDER    fails if it isn't what the docs in this folder link to; `cargo doc` has written them
 
-The contracts in the docs of `rust/forgeni/src/proved` link to definitions. There are pages of these, of what they cite, and so on: one page for
-a file of `specs/`, crate by crate, in the order in which one reads them. A page has the text of the file without its imports and without what
-nobody cites. Names in it are links too. Those of Rattle's library have one page, LOGIC, with a line each: a contract may cite no other.
-The module is compiled for the docs alone. It needs no program, and runs at the top of the repository.
+The contracts in the docs of the package link to definitions (`rust/erase/src/contracts.rs`). There are pages of those to which a contract links
+that rustdoc shows, of what they cite, and so on: one page for a file of `specs/`, crate by crate, in the order in which one reads them. A page
+has the text of the file without its imports and without what nobody cites. Names in it are links too. Those of Rattle's library have one page,
+LOGIC, with a line each: a contract may cite no other. The module is compiled for the docs alone. It runs at the top of the repository.
 """
 
 import collections
@@ -15,12 +15,17 @@ import functools
 import html
 import pathlib
 import re
+import subprocess
 import sys
+import tempfile
+import urllib.parse
 
 import theorems
 
 PROVED, PAGES = pathlib.Path("rust/forgeni/src/proved"), pathlib.Path("rust/forgeni/src/contracts")
+# A link to a definition, in a source and in a page of rustdoc.
 LINK = re.compile(r"\]\(crate::contracts::(?:(\w+)::)?(\w+)#([^)]+)\)")
+SHOWN = re.compile(r'href="[^"]*contracts/(?:(\w+)/)?(\w+)/index\.html#([^"]+)"')
 WORD = re.compile(r"[^\W\d][\w']*(?:\.[^\W\d][\w']*)*")
 MADE = "by .ci/contracts.py. It isn't edited by hand."
 
@@ -180,7 +185,8 @@ class Definitions:
         order = [it for it in order if (theorems.CRATES / it / "specs").is_dir()]
         self.files = {(crate, page_name(module)): file for crate in order for module, file in files_of(crate)}
         self.pages = {file: page for page, file in self.files.items()}
-        self.shown = collections.defaultdict(set)
+        self.order = list(self.pages)
+        self.shown, self.passed = collections.defaultdict(set), collections.defaultdict(set)
         self.faults = []
 
     def named(self, file, name):
@@ -238,7 +244,9 @@ class Definitions:
             return
         file = self.files.get((crate, page))
         found = file and self.named(file, name)
-        if not found:
+        if file and not found and name in imports_of(file)[1]:
+            self.passed[file].add(name)
+        elif not found:
             self.faults.append(f"a contract cites {name}, which isn't in {crate}, {page}")
         elif found[0] == file:
             self.add(file, name)
@@ -268,6 +276,8 @@ def linked(definitions, file, number, own):
                 target = f"../../logic/index.html#{name}"
             else:
                 other, its_page = definitions.pages[there]
+                if definitions.order.index(there) > definitions.order.index(file):
+                    definitions.faults.append(f"{file} cites {name} of {there}, which comes later")
                 folder = "" if there == file else f"../{its_page}/index.html" if other == crate else f"../../{other}/{its_page}/index.html"
                 target = f"{folder}#{name}"
             out += f'<a href="{target}">{text}</a>{word[len(text) :]}'
@@ -305,6 +315,9 @@ def page_of(definitions, file):
     for name, item in made.items():
         names[item.lines].add(name)
     out, aliases, above = [head_of(file), ""], [], range(0)
+    if definitions.passed[file]:
+        variants = ", ".join(f'<b id="{it}">{it}</b>' for it in sorted(definitions.passed[file]))
+        out += ["<pre>", "-- the variants of the type in Rust", variants, "</pre>", ""]
     for span in sorted(definitions.shown[file], key=min):
         head = around(lines, span)
         if head and head != above and not span >= set(head):
@@ -330,13 +343,25 @@ def logic():
     return [*docs(lines), "pub mod logic {}", ""]
 
 
-def pages():
-    """The text of each file of the module, and what is wrong."""
+def cited_in_sources():
+    """What all contracts link to, also those that the package doesn't show."""
+    return {it for file in PROVED.rglob("*.rs") for it in LINK.findall(file.read_text())}
+
+
+def cited_in_docs(folder):
+    """What the contracts link to that these docs show."""
+    root = folder / "forgeni"
+    files = [it for it in root.rglob("*.html") if it.relative_to(root).parts[0] != "contracts"]
+    links = {it for file in files for it in SHOWN.findall(file.read_text())}
+    return {(crate, page, urllib.parse.unquote(html.unescape(name))) for crate, page, name in links}
+
+
+def pages(cited):
+    """The text of each file of the module if contracts link to these, and what is wrong."""
     definitions = Definitions()
-    for file in sorted(PROVED.rglob("*.rs")):
-        for crate, page, name in LINK.findall(file.read_text()):
-            definitions.cite(crate, page, name.replace("\\", ""))
-    shown = [it for it in definitions.pages if definitions.shown[it]]
+    for it in sorted(cited):
+        definitions.cite(*it)
+    shown = [it for it in definitions.pages if definitions.shown[it] or definitions.passed[it]]
     crates = list(dict.fromkeys(definitions.pages[it][0] for it in shown))
     count = sum(len(definitions.shown[it]) for it in shown)
     front = [
@@ -348,32 +373,45 @@ def pages():
         "- [`logic`]: Rattle's own words and signs.",
     ]
     for crate in crates:
-        front.append(f"- [`{crate}`]: " + ", ".join(f"[`{page}`]({crate}::{page})" for its, page in map(definitions.pages.get, shown) if its == crate))
-    front += ["", "A definition is a statement or a function of values as contracts see them: a `Vec` is a list, an `Entities` a record. It is never run."]
+        its = [page for other, page in map(definitions.pages.get, shown) if other == crate]
+        front.append(f"- [`{crate}`]: " + ", ".join(f"[`{it}`]({crate}::{it})" for it in its))
+    front += ["", "A definition is a statement or a function of values as contracts see them: a `Vec` is a list, an `Entities` a record. It"]
+    front += ["is never run."]
     made = {}
     for crate in crates:
         its = [it for it in shown if definitions.pages[it][0] == crate]
-        text = [f"// Made of crates/{crate}/specs {MADE}", "", f"//! The definitions of crate `{crate}`, in the order in which one reads them:"]
+        text = [f"// Made of crates/{crate}/specs {MADE}", ""]
+        text += [f"//! The definitions of crate `{crate}`, in the order in which one reads them:"]
         text += [f"//! {', '.join(f'[`{definitions.pages[it][1]}`]' for it in its)}.", ""]
         for file in its:
             text += page_of(definitions, file)
         made[PAGES / f"{crate}.rs"] = text
-    made[PAGES / "mod.rs"] = [f"// Made of crates/*/specs {MADE}", "", *docs(front, "//!"), "", *logic(), *(f"pub mod {it};" for it in crates), ""]
+    head = [f"// Made of crates/*/specs {MADE}", "", *docs(front, "//!"), ""]
+    made[PAGES / "mod.rs"] = [*head, *logic(), *(f"pub mod {it};" for it in crates), ""]
     return {it: "\n".join(text) for it, text in made.items()}, definitions.faults
 
 
+def write(made):
+    PAGES.mkdir(exist_ok=True)
+    for file in set(PAGES.glob("*.rs")) - made.keys():
+        file.unlink()
+    for file, text in made.items():
+        file.write_text(text)
+
+
 def main():
-    (what,) = sys.argv[1:]
-    made, faults = pages()
-    old = {it: it.read_text() for it in PAGES.glob("*.rs")}
+    what, *folders = sys.argv[1:]
     if what == "write":
-        PAGES.mkdir(exist_ok=True)
-        for file in old.keys() - made.keys():
-            file.unlink()
-        for file, text in made.items():
-            file.write_text(text)
-    elif old != made:
-        faults.append(f"{PAGES} is not what the sources give: `.ci/contracts.py write`")
+        # rustdoc says which contracts it shows, if all that they may link to is there.
+        write(pages(cited_in_sources())[0])
+        with tempfile.TemporaryDirectory() as folder:
+            subprocess.run(["cargo", "doc", "--offline", "--quiet", "--no-deps", "--target-dir", folder], cwd=PAGES.parent.parent, check=True)
+            made, faults = pages(cited_in_docs(pathlib.Path(folder, "doc")))
+        write(made)
+    else:
+        made, faults = pages(cited_in_docs(pathlib.Path(folders[0])))
+        if {it: it.read_text() for it in PAGES.glob("*.rs")} != made:
+            faults.append(f"{PAGES} is not what the docs link to: `.ci/contracts.py write`")
     lines = sum(text.count("\n") for text in made.values())
     print(*faults, f"contracts: {len(made)} files with {lines} lines, {len(faults)} faults", sep="\n")
     return 1 if faults else 0

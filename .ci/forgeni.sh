@@ -27,6 +27,7 @@ CARGO_PROFILE_RELEASE_OVERFLOW_CHECKS=true ../../.ci/tested.sh .ci/forgeni.sh --
 # In a new folder, where no page is one of an earlier run.
 RUSTDOCFLAGS="-D warnings" cargo doc --offline --no-deps --target-dir "$empty/docs"
 ../../.ci/shown_docs.py "$empty/docs/doc"
+(cd ../.. && .ci/contracts.py check "$empty/docs/doc")
 printf '%s\n' ../forgeni/tests/ui/*.rs | sed 's,.*/,,' | python3 ../../.ci/picks.py .ci/forgeni.sh mistakes
 python3 ../../.ci/names.py "$empty/docs/doc"
 if cargo clippy --version >/dev/null 2>&1; then

@@ -3,10 +3,10 @@
 
     shown_docs.py FOLDER    the folder that `cargo doc` wrote, with its folder `forgeni`
 
-It reads the pages of rustdoc that `all.html` lists. A type has an example if the docs above its fields, variants and functions have one. Functions
-are those of the pages: free ones, those of a type and those of a trait. What a type has from a trait isn't counted again, so `fmt` or `clone`
-never is. An example is code that `cargo test` runs or compiles: code that has to fail is none. LIMITS says what is wanted.
-A link leads nowhere if its file isn't there, or if the file has no such place. Links to other sites aren't followed.
+It reads the pages of rustdoc that `all.html` lists. A type has an example if the docs above its fields, variants and functions have one.
+Functions are those of the pages: free ones, those of a type and those of a trait. What a type has from a trait isn't counted again, so `fmt`
+or `clone` never is. An example is code that `cargo test` runs or compiles: code that has to fail is none. LIMITS says what is wanted. A link
+leads nowhere if its file isn't there, or if the file has no such place. Links to other sites aren't followed.
 """
 
 import collections
@@ -23,7 +23,7 @@ TYPES = ("struct", "enum", "trait", "type", "union")
 METHOD = re.compile(r'id="((?:ty)?method\.\w+)" class="method"')
 # Where the docs of a type end, and where its own functions do.
 PARTS = re.compile(r'<h2 id="(?:fields|variants|implementations|required-|provided-|object-safety|dyn-compatibility|aliased-type)')
-REST = re.compile(r'<h2 id="(?:trait-implementations|synthetic-implementations|blanket-implementations|deref-methods|implementors|foreign-impls)')
+REST = re.compile(r'<h2 id="(?:(?:trait|synthetic|blanket)-implementations|deref-methods|implementors|foreign-impls)')
 EXAMPLE = re.compile(r'<div class="example-wrap(?! compile_fail)[^"]*"><pre class="rust rust-example-rendered')
 
 

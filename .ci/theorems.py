@@ -66,23 +66,15 @@ def specs_of(file):
 
 
 def rust_span(lines, at):
-    """The lines of the item at this line, with its attributes and its comments, but without their examples."""
+    """The lines of the item at this line, its comments and attributes with it, but not the examples in its docs."""
     first = last = at
     while first and lines[first - 1].startswith(("///", "#[")):
         first -= 1
     if not lines[at].endswith((";", "}")):
         last = next(it for it in range(at, len(lines)) if lines[it].startswith("}"))
-    return [*without_examples(lines, range(first, at)), *range(at, last + 1)]
-
-
-def without_examples(lines, numbers):
-    """These lines of a comment, without those of its examples and the empty one before each."""
-    example = False
-    for number in numbers:
-        fence = lines[number] == "/// ```"
-        if not (example or fence or lines[number : number + 2] == ["///", "/// ```"]):
-            yield number
-        example ^= fence
+    fences = [it for it in range(first, at) if lines[it].startswith("/// ```")]
+    examples = {it for begin, end in zip(fences[::2], fences[1::2]) for it in range(begin, end + 1)}
+    return [it for it in range(first, last + 1) if it not in examples]
 
 
 @functools.cache

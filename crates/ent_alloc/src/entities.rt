@@ -47,8 +47,8 @@ use std::marker::Model;
 /// Contracts see it as a state of the
 /// [sequential allocator](forgeni::contracts::ent_alloc::sequential#Allocator): the living handles,
 /// the pool of those that can be given, those that are reserved, and those that a refused request
-/// passed over. Beside it they see the [rows](forgeni::contracts::ent_alloc::entities#Entities) that
-/// a program keeps with living handles.
+/// passed over. Beside it they see the [rows](forgeni::contracts::ent_alloc::entities#Entities)
+/// that a program keeps with living handles.
 #[derive(Drop)]
 pub struct Entities {
     pub(crate) slots: Slots,

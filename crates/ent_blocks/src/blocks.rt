@@ -37,17 +37,15 @@ use std::marker::{Model, PhantomData};
 /// ```
 /// use forgeni::Entities;
 ///
-/// let (blocks, mut reservers) = Entities::new().open_in_blocks(&[3; 2])?;
+/// let (blocks, mut reservers) = Entities::new().open_in_blocks(&[10; 2])?;
+/// let mut firsts = [None; 2];
 /// std::thread::scope(|scope| {
-///     for mine in &mut reservers {
-///         scope.spawn(|| blocks.reserve_many(mine, 3));
+///     for (mine, first) in reservers.iter_mut().zip(&mut firsts) {
+///         scope.spawn(|| *first = blocks.reserve(mine).ok());
 ///     }
 /// });
-/// let mut entities = blocks.close(reservers)?;
-/// let mut born = Vec::new();
-/// entities.flush(&mut born)?;
 /// // On every machine, whichever thread came first.
-/// assert_eq!(born.len(), 6);
+/// assert_eq!(firsts.map(|it| it.map(|one| one.index())), [Some(0), Some(10)]);
 /// # Ok::<(), Box<dyn std::error::Error>>(())
 /// ```
 #[must_use]

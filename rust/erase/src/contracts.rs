@@ -29,8 +29,10 @@ const BLANKS: [(&str, &str); 2] = [("    ", "&#9;"), (" ", "&#32;")];
 const SIGNS: &str = "\\`*_[]<>&~'\"|";
 
 /// What the names of a source's contracts lead to.
-#[derive(Default)]
+#[derive(Clone, Default)]
 pub(crate) struct Words<'a> {
+    /// Whether the package shows the crate.
+    is_shown: bool,
     /// For each name its page, and its name there.
     names: BTreeMap<&'a str, (String, String)>,
     /// For each name of a module the page, and what names on it begin with.
@@ -40,11 +42,29 @@ pub(crate) struct Words<'a> {
 impl<'a> Words<'a> {
     /// Those that a source of this crate imports. The package doesn't show the crates of the programs.
     pub(crate) fn of(source: &Source<'a>, krate: &str) -> Self {
-        let mut words = Words::default();
-        if PROGRAM_CRATES.contains(&krate) {
-            return words;
+        let mut words = Words {
+            is_shown: !PROGRAM_CRATES.contains(&krate),
+            ..Words::default()
+        };
+        words.import(source.text, "");
+        words
+    }
+
+    /// These, and those that the block imports in which the source ends here.
+    fn within(&self, source: &'a str) -> Self {
+        let mut words = self.clone();
+        let heads = ["\nimpl", "\ntrait", "\npub trait"];
+        let block = heads.iter().filter_map(|head| source.rfind(head)).max();
+        if let Some(block) = block {
+            words.import(&source[block..], "    ");
         }
-        let imports = source.text.lines();
+        words
+    }
+
+    /// Adds what the lines of a text import that have this margin.
+    fn import(&mut self, text: &'a str, margin: &str) {
+        let lines = text.lines().filter(|_| self.is_shown);
+        let imports = lines.filter_map(|line| line.strip_prefix(margin));
         for import in imports.filter_map(|line| line.strip_prefix("ghost use Rattle.")) {
             if let Some((path, names)) = import.split_once(".{") {
                 let Some((page, begin)) = page(path) else {
@@ -53,13 +73,12 @@ impl<'a> Words<'a> {
                 for name in names.trim_end_matches("};").split(", ") {
                     let (there, here) = name.split_once(" as ").unwrap_or((name, name));
                     let there = format!("{begin}{there}");
-                    words.names.insert(here, (page.clone(), there));
+                    self.names.insert(here, (page.clone(), there));
                 }
             } else if let Some((path, here)) = import.trim_end_matches(';').split_once(" as ") {
-                words.modules.extend(page(path).map(|page| (here, page)));
+                self.modules.extend(page(path).map(|page| (here, page)));
             }
         }
-        words
     }
 
     /// The page of a word, and its name there, if it is a definition's. Of `map.empty` it is one word.
@@ -234,10 +253,13 @@ impl Walk<'_> {
             line.map(|line| line.trim_end().to_owned())
         };
         let bound = bound(clauses);
+        let words = self
+            .words
+            .within(&self.source.text[..self.source.token(item).from]);
         let lines = clauses.trim_start_matches(' ').trim_start_matches('\n');
         let lines = lines.lines().map(|line| {
             let line = own(line).unwrap_or_else(|| line.trim().to_owned());
-            self.words.shown(&line, &bound)
+            words.shown(&line, &bound)
         });
         let indent = self.indent(item)?;
         let all = BEGIN.into_iter().map(str::to_owned).chain(lines);

@@ -161,6 +161,24 @@ fn names_of_definitions_are_links_in_the_docs() {
 }
 
 #[test]
+fn names_that_a_block_imports_are_links_in_it() {
+    let linked = shown(
+        "    ",
+        &["ensures { [P](crate::contracts::ent_here::here#P) b }"],
+    );
+    let plain = shown("    ", &["ensures { P b }"]);
+    gives(
+        "ghost use Rattle.ent_here.specs.Here.{Q};\n\nimpl A {\n    ghost use Rattle.ent_here.specs.Here.{P};\n\n    \
+         /// Of a.\n    pub fn a(b: u8)\n        ensures { P b }\n    {\n    }\n}\n\n\
+         impl A {\n    /// Of c.\n    pub fn c(b: u8)\n        ensures { P b }\n    {\n    }\n}\n",
+        &format!(
+            "impl A {{\n    /// Of a.\n{linked}    #[inline]\n    pub fn a(b: u8) {{\n    }}\n}}\n\n\
+             impl A {{\n    /// Of c.\n{plain}    #[inline]\n    pub fn c(b: u8) {{\n    }}\n}}\n"
+        ),
+    );
+}
+
+#[test]
 fn clauses_of_what_the_package_shows_go_to_its_docs() {
     let contract = shown(
         "    ",

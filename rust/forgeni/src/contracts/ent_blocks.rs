@@ -3,7 +3,7 @@
 //! The definitions of crate `ent_blocks`, in the order in which one reads them:
 //! [`blocks`], [`faults`], [`drawing`], [`ending`].
 
-#[doc(alias("Block", "Blocks", "Phase", "Reserver", "accounted", "after_blocks", "after_refusal", "after_use", "are_among", "blocks_from", "blocks_of", "dealt", "handles_of", "is_same", "lesser", "portion_of", "portions_of", "rest_of", "unused", "used_of"))]
+#[doc(alias("Block", "Blocks", "Phase", "Reserver", "accounted", "after_blocks", "after_refusal", "after_use", "are_among", "blocks_from", "blocks_of", "dealt", "handles_of", "is_same", "lesser", "portion_of", "portions_of", "rest_of", "unused", "used_of", "wanted_by"))]
 /// Handles in blocks: the front of the pool is dealt to callers, and each is given the handles of its own block, in the pool\'s order, whatever the others do.
 ///
 /// <pre>
@@ -119,6 +119,13 @@
 /// -- after a request for so many that the block didn't have
 /// abbrev pub <b id="after_refusal">after_refusal</b> : <a href="#Reserver">Reserver</a> → <a href="../../logic/index.html#ℕ">ℕ</a> → <a href="#Reserver">Reserver</a>
 /// <a href="#after_refusal">after_refusal</a> r n = record r { refused = <a href="../../logic/index.html#max">max</a> r.refused n }
+/// </pre>
+///
+/// <pre>
+/// -- How many handles would have been enough: those that were used, and the largest request that was
+/// -- refused. A number of 32 bits holds it.
+/// abbrev pub <b id="wanted_by">wanted_by</b> : <a href="#Reserver">Reserver</a> → <a href="../../logic/index.html#ℕ">ℕ</a>
+/// <a href="#wanted_by">wanted_by</a> r = <a href="../../logic/index.html#min">min</a> (r.block.used + r.refused) (2 ^ 32 - 1)
 /// </pre>
 ///
 /// <pre>

@@ -3,7 +3,7 @@
 //! The definitions of crate `ent_handle`, in the order in which one reads them:
 //! [`handle`], [`birth`], [`bytes`], [`component`], [`text`], [`handed_back`].
 
-#[doc(alias("Handle", "IsHandle", "bits", "handle_cmp", "placeholder"))]
+#[doc(alias("Handle", "IsHandle", "bits", "handle_cmp", "handle_cmp_total", "placeholder"))]
 /// Handles: a slot of the allocator, and one of its occupants.
 ///
 /// <pre>
@@ -37,6 +37,13 @@
 /// -- by index, then by generation
 /// abbrev pub <b id="handle_cmp">handle_cmp</b> : <a href="#Handle">Handle</a> → <a href="#Handle">Handle</a> → Ordering
 /// <a href="#handle_cmp">handle_cmp</a> = then_cmp (on (λ h. h.index) <a href="../../logic/index.html#nat_cmp">nat_cmp</a>) (on (λ h. h.generation) <a href="../../logic/index.html#nat_cmp">nat_cmp</a>)
+/// </pre>
+///
+/// <pre>
+/// pub <b id="handle_cmp_total">handle_cmp_total</b> : IsTotalOrder <a href="#handle_cmp">handle_cmp</a>
+/// <a href="#handle_cmp_total">handle_cmp_total</a> =
+///     then_total (on_total (λ (h : <a href="#Handle">Handle</a>). h.index) nat_cmp_total)
+///     (on_total (λ (h : <a href="#Handle">Handle</a>). h.generation) nat_cmp_total)
 /// </pre>
 pub mod handle {}
 

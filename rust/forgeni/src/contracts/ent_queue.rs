@@ -20,7 +20,7 @@
 /// </pre>
 pub mod command {}
 
-#[doc(alias("FitQuota", "FitsQuota", "as_list", "cost", "queued", "refused_by", "requests_of", "stands_for"))]
+#[doc(alias("FitQuota", "FitsQuota", "Gains", "as_list", "cost", "queued", "refused_by", "requests_of", "stands_for"))]
 /// What the commands of a queue have asked of the reserver that was lent.
 ///
 /// <pre>
@@ -73,6 +73,20 @@ pub mod command {}
 /// abbrev pub <b id="FitQuota">FitQuota</b> : <a href="../../logic/index.html#ℕ">ℕ</a> → <a href="../../logic/index.html#List">List</a> <a href="../command/index.html#Command">Command</a> → Type 0
 /// <a href="#FitQuota">FitQuota</a> left [] = Unit {0}
 /// <a href="#FitQuota">FitQuota</a> left (c ∷ cs) = <a href="#FitsQuota">FitsQuota</a> left c × <a href="#FitQuota">FitQuota</a> (left - <a href="#cost">cost</a> c) cs
+/// </pre>
+///
+/// <pre>
+/// -- The reserver has gained the reservations of these commands and no others, in order.
+/// pub record <b id="Gains">Gains</b> (before : Record) (commands : <a href="../../logic/index.html#List">List</a> <a href="../command/index.html#Command">Command</a>) (after : Record) : Type 0 where
+///   pub start : after.start ≡ before.start
+///   pub number : after.number ≡ before.number
+///   pub reservations : <a href="../../logic/index.html#List">List</a> Reservation
+///   pub entries : after.entries ≡ before.entries ++ <a href="../../logic/index.html#map">map</a> Own reservations
+///   pub requests : <a href="../../logic/index.html#map">map</a> (λ (r : Reservation). (r.requested, r.reply)) reservations
+///       ≡ flat_map <a href="#stands_for">stands_for</a> commands
+///   pub callers : <a href="../../logic/index.html#All">All</a> (λ (r : Reservation). r.caller ≡ before.number) reservations
+///   pub left : after.left + sum_by <a href="#cost">cost</a> commands ≡ before.left
+///   pub within : <a href="#FitQuota">FitQuota</a> before.left commands
 /// </pre>
 ///
 /// <pre>

@@ -97,7 +97,7 @@ pub mod record {}
 /// </pre>
 pub mod moves {}
 
-#[doc(alias("IsBelow", "Reserver", "Shared", "after_loss", "records_of"))]
+#[doc(alias("IsBelow", "IsOf", "Reserver", "Shared", "after_loss", "records_of"))]
 /// What contracts see of a shared allocator and of its reservers.
 ///
 /// <pre>
@@ -121,6 +121,16 @@ pub mod moves {}
 /// -- what these reservers have done
 /// abbrev pub <b id="records_of">records_of</b> : <a href="../../logic/index.html#List">List</a> <a href="#Reserver">Reserver</a> → <a href="../../logic/index.html#List">List</a> Record
 /// <a href="#records_of">records_of</a> reservers = <a href="../../logic/index.html#map">map</a> (λ (r : <a href="#Reserver">Reserver</a>). r.own) reservers
+/// </pre>
+///
+/// <pre>
+/// -- The reserver is one of those that came with this allocator.
+/// pub record <b id="IsOf">IsOf</b> (shared : <a href="#Shared">Shared</a>) (r : <a href="#Reserver">Reserver</a>) : Type 0 where
+///   pub word : r.word ≡ shared.word
+///   pub start : r.own.start ≡ shared.start
+///   pub number : r.own.number &lt; shared.count
+///   -- the quota adds up: what is left and what it has requested
+///   pub <a href="../../ent_alloc/limits/index.html#quota">quota</a> : r.own.left + <a href="../record/index.html#requested_by">requested_by</a> r.own ≡ <a href="../../ent_alloc/limits/index.html#quota">quota</a>
 /// </pre>
 ///
 /// <pre>

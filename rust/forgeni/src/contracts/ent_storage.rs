@@ -1,7 +1,7 @@
 // Made of crates/ent_storage/specs by .ci/contracts.py. It isn't edited by hand.
 
 //! The definitions of crate `ent_storage`, in the order in which one reads them:
-//! [`position`], [`bundle`], [`components`], [`entity_map`], [`birth_order`], [`places`], [`sparse_set`], [`living`], [`indexed`], [`handle_map`], [`retained`], [`copies`], [`image`], [`first_fault`], [`sparse_map`].
+//! [`position`], [`bundle`], [`components`], [`entity_map`], [`birth_order`], [`places`], [`sparse_set`], [`living`], [`indexed`], [`handle_map`], [`lends`], [`entry`], [`retained`], [`copies`], [`image`], [`first_fault`], [`sparse_map`], [`sparse_entry`], [`sparse_lends`].
 
 #[doc(alias("IsAt"))]
 /// The position of a key in a list of pairs whose keys strictly rise, or where it would go.
@@ -346,13 +346,22 @@ pub mod living {}
 /// </pre>
 pub mod indexed {}
 
-#[doc(alias("HandleValues", "HasLater", "IsBeyond", "error_of", "no_limit", "placeholder", "without_slot"))]
+#[doc(alias("HandleMap", "HandleValues", "HasLater", "IsBeyond", "error_of", "no_limit", "placeholder", "same_handle", "with_written", "without_slot"))]
 /// What contracts see of a map from handles.
 ///
 /// <pre>
 /// -- a value for each of some handles
 /// abbrev pub <b id="HandleValues">HandleValues</b> : Type 0 → Type 0
 /// <a href="#HandleValues">HandleValues</a> T = <a href="../../logic/index.html#FinMap.FinMap">map.FinMap</a> <a href="../../ent_handle/handle/index.html#handle_cmp">handle_cmp</a> T
+/// </pre>
+///
+/// <pre>
+/// -- the values, how many slots there are, for how many there is room, and how many may have values
+/// pub record <b id="HandleMap">HandleMap</b> (T : Type 0) : Type 0 where
+///   pub values : <a href="#HandleValues">HandleValues</a> T
+///   pub slots : <a href="../../logic/index.html#ℕ">ℕ</a>
+///   pub room : <a href="../../logic/index.html#ℕ">ℕ</a>
+///   pub limit : <a href="../../logic/index.html#ℕ">ℕ</a>
 /// </pre>
 ///
 /// <pre>
@@ -374,6 +383,12 @@ pub mod indexed {}
 /// </pre>
 ///
 /// <pre>
+/// -- a handle is equal to itself
+/// pub <b id="same_handle">same_handle</b> : (h : <a href="../../ent_handle/handle/index.html#Handle">Handle</a>) → eq_by_cmp <a href="../../ent_handle/handle/index.html#handle_cmp">handle_cmp</a> h h ≡ <a href="../../logic/index.html#true">true</a>
+/// <a href="#same_handle">same_handle</a> h = (eq_by_cmp_equiv <a href="../../ent_handle/handle/index.html#handle_cmp_total">handle_cmp_total</a>).refl h
+/// </pre>
+///
+/// <pre>
 /// module _ {T : Type 0} where
 ///   -- the values without that of the slot
 ///   abbrev pub <b id="without_slot">without_slot</b> : <a href="#HandleValues">HandleValues</a> T → <a href="../../logic/index.html#ℕ">ℕ</a> → <a href="#HandleValues">HandleValues</a> T
@@ -388,12 +403,147 @@ pub mod indexed {}
 /// </pre>
 ///
 /// <pre>
+///   -- the map after a write to the value of a handle
+///   abbrev pub <b id="with_written">with_written</b> : <a href="#HandleMap">HandleMap</a> T → <a href="../../ent_handle/handle/index.html#Handle">Handle</a> → T → <a href="#HandleMap">HandleMap</a> T
+///   <a href="#with_written">with_written</a> m h value = record m { values = <a href="../../logic/index.html#FinMap.insert">map.insert</a> m.values h value }
+///
+///   -- a handle that was given a value has one
+///   pub some_written : (m : <a href="#HandleMap">HandleMap</a> T) (h : <a href="../../ent_handle/handle/index.html#Handle">Handle</a>) (value : T)
+///       → <a href="../../logic/index.html#IsSome">IsSome</a> (<a href="../../logic/index.html#FinMap.get">map.get</a> (<a href="#with_written">with_written</a> m h value).values h)
+///   some_written m h value =
+///       ap <a href="../../logic/index.html#is_some">is_some</a> (<a href="../../logic/index.html#FinMap.get">map.get</a>-insert <a href="../../ent_handle/handle/index.html#handle_cmp_total">handle_cmp_total</a> m.values h value h
+///       ∙ ap (λ same. cond same (<a href="../../logic/index.html#Some">Some</a> value) (<a href="../../logic/index.html#FinMap.get">map.get</a> m.values h)) (<a href="#same_handle">same_handle</a> h))
+/// </pre>
+///
+/// <pre>
 ///   -- why a value was not inserted
 ///   abbrev pub <b id="error_of">error_of</b> : {A : Type 0} → <a href="../../logic/index.html#Result">Result</a> A (<a href="../../ent_handle/handed_back/index.html#HandedBack">HandedBack</a> T InsertError) → <a href="../../logic/index.html#Option">Option</a> InsertError
 ///   <a href="#error_of">error_of</a> (<a href="../../logic/index.html#Ok">Ok</a> _) = <a href="../../logic/index.html#None">None</a>
 ///   <a href="#error_of">error_of</a> (<a href="../../logic/index.html#Err">Err</a> refused) = <a href="../../logic/index.html#Some">Some</a> refused.error
 /// </pre>
 pub mod handle_map {}
+
+#[doc(alias("lends_get"))]
+/// What a map ends as, where a `&mut` to one of its values is returned.
+///
+/// <pre>
+/// module _ (T : RattleType) (m : MutBor (<a href="../handle_map/index.html#HandleMap">HandleMap</a> T.Denot)) (h : <a href="../../ent_handle/handle/index.html#Handle">Handle</a>) where
+/// </pre>
+///
+/// <pre>
+///   -- the same where r is a reference, and at `None` the map stays as it is
+///   abbrev pub <b id="lends_get">lends_get</b> : <a href="../../logic/index.html#Option">Option</a> (MutBor T.Denot) → Fml
+///   <a href="#lends_get">lends_get</a> r = LendsIf (the_row T) T m r (<a href="../handle_map/index.html#with_written">with_written</a> m.now h) m.now
+/// </pre>
+pub mod lends {}
+
+#[doc(alias("Gives", "IsFilled", "IsRefusal", "IsWritten", "entry_handle", "entry_lends", "entry_map", "entry_ref", "entry_value", "lends_in", "occupied_lends", "with_value"))]
+/// What contracts see of an entry: what a map has for one handle.
+///
+/// <pre>
+/// -- the variants of the type in Rust
+/// <b id="Occupied">Occupied</b>, <b id="Vacant">Vacant</b>
+/// </pre>
+///
+/// <pre>
+/// module _ {T : Type 0} where
+///   -- the reference to the map
+///   abbrev pub <b id="entry_ref">entry_ref</b> : Entry T → MutBor (<a href="../handle_map/index.html#HandleMap">HandleMap</a> T)
+///   <a href="#entry_ref">entry_ref</a> (Occupied o) = o.map
+///   <a href="#entry_ref">entry_ref</a> (Vacant v) = v.map
+/// </pre>
+///
+/// <pre>
+///   -- the map
+///   abbrev pub <b id="entry_map">entry_map</b> : Entry T → <a href="../handle_map/index.html#HandleMap">HandleMap</a> T
+///   <a href="#entry_map">entry_map</a> e = (<a href="#entry_ref">entry_ref</a> e).now
+/// </pre>
+///
+/// <pre>
+///   -- the handle
+///   abbrev pub <b id="entry_handle">entry_handle</b> : Entry T → <a href="../../ent_handle/handle/index.html#Handle">Handle</a>
+///   <a href="#entry_handle">entry_handle</a> (Occupied o) = o.handle
+///   <a href="#entry_handle">entry_handle</a> (Vacant v) = v.handle
+/// </pre>
+///
+/// <pre>
+///   -- the value that the handle has
+///   abbrev pub <b id="entry_value">entry_value</b> : Entry T → <a href="../../logic/index.html#Option">Option</a> T
+///   <a href="#entry_value">entry_value</a> (Occupied o) = <a href="../../logic/index.html#FinMap.get">map.get</a> o.map.now.values o.handle
+///   <a href="#entry_value">entry_value</a> (Vacant v) = <a href="../../logic/index.html#None">None</a>
+/// </pre>
+///
+/// <pre>
+///   -- the second map is the first one, once a handle without a value has this one
+///   pub record <b id="IsFilled">IsFilled</b> (old : <a href="../handle_map/index.html#HandleMap">HandleMap</a> T) (h : <a href="../../ent_handle/handle/index.html#Handle">Handle</a>) (value : T) (new : <a href="../handle_map/index.html#HandleMap">HandleMap</a> T) :
+///       Type 0 where
+///     pub values : new.values ≡ <a href="../../logic/index.html#FinMap.insert">map.insert</a> (<a href="../handle_map/index.html#without_slot">without_slot</a> old.values h.index) h value
+///     pub slots : new.slots ≡ <a href="../../logic/index.html#max">max</a> old.slots (h.index + 1)
+///     pub room : old.room ≤ new.room
+///     pub limit : new.limit ≡ old.limit
+/// </pre>
+///
+/// <pre>
+///   -- the map is as the entry's, once its handle has the value
+///   abbrev pub <b id="Gives">Gives</b> : Entry T → T → <a href="../handle_map/index.html#HandleMap">HandleMap</a> T → Type 0
+///   <a href="#Gives">Gives</a> (Occupied o) value new = new ≡ <a href="../handle_map/index.html#with_written">with_written</a> o.map.now o.handle value
+///   <a href="#Gives">Gives</a> (Vacant v) value new = <a href="#IsFilled">IsFilled</a> v.map.now v.handle value new
+/// </pre>
+///
+/// <pre>
+///   -- why the map refuses a value for the handle, if it does
+///   pub record <b id="IsRefusal">IsRefusal</b> (m : <a href="../handle_map/index.html#HandleMap">HandleMap</a> T) (h : <a href="../../ent_handle/handle/index.html#Handle">Handle</a>) (error : <a href="../../logic/index.html#Option">Option</a> why.InsertError) :
+///       Type 0 where
+///     pub limit : (error ≡ <a href="../../logic/index.html#Some">Some</a> why.TheVariants.Limit) ↔ <a href="../handle_map/index.html#IsBeyond">IsBeyond</a> m.limit h
+///     pub later : (error ≡ <a href="../../logic/index.html#Some">Some</a> why.TheVariants.Later)
+///         ↔ (¬ (<a href="../handle_map/index.html#IsBeyond">IsBeyond</a> m.limit h) × <a href="../handle_map/index.html#HasLater">HasLater</a> m.values h)
+///     pub memory : error ≡ <a href="../../logic/index.html#Some">Some</a> why.TheVariants.Memory → m.room ≤ h.index
+/// </pre>
+///
+/// <pre>
+///   -- the occupied entry, once it has the value
+///   abbrev pub <b id="with_value">with_value</b> : OccupiedEntry T → T → OccupiedEntry T
+///   <a href="#with_value">with_value</a> o value = record {
+///     map = record o.map { now = <a href="../handle_map/index.html#with_written">with_written</a> o.map.now o.handle value };
+///     handle = o.handle;
+///     present = some_written o.map.now o.handle value;
+///   }
+/// </pre>
+///
+/// <pre>
+///   -- the second entry is the first one, once its handle has the value
+///   pub record <b id="IsWritten">IsWritten</b> (old : OccupiedEntry T) (value : T) (new : OccupiedEntry T) : Type 0 where
+///     pub same_map : new.map.ghost_name ≡ old.map.ghost_name
+///     pub map : new.map.now ≡ <a href="../handle_map/index.html#with_written">with_written</a> old.map.now old.handle value
+///     pub handle : new.handle ≡ old.handle
+///     pub written : <a href="#entry_value">entry_value</a> (Occupied new) ≡ <a href="../../logic/index.html#Some">Some</a> value
+/// </pre>
+///
+/// <pre>
+/// module _ (T : RattleType) where
+///   -- once the borrow r ends, the handle has the last value written through r
+///   abbrev pub <b id="occupied_lends">occupied_lends</b> : OccupiedEntry T.Denot → MutBor T.Denot → Fml
+///   <a href="#occupied_lends">occupied_lends</a> o r =
+///       follows (the_row T) T o.map.ghost_name r.ghost_name (<a href="../handle_map/index.html#with_written">with_written</a> o.map.now o.handle)
+/// </pre>
+///
+/// <pre>
+///   -- the same of the entry behind o, of which the lifetime is the second of the signature
+///   abbrev pub <b id="lends_in">lends_in</b> : MutBor (OccupiedEntry T.Denot) → MutBor T.Denot → Fml
+///   <a href="#lends_in">lends_in</a> o r =
+///       follows (occupied.the_row (record { mir = named 1; lft = [] }) T) T o.ghost_name r.ghost_name
+///       (<a href="#with_value">with_value</a> o.now)
+/// </pre>
+///
+/// <pre>
+///   -- once the borrow ends, the handle has the last value written through it, and after an error
+///   -- nothing has changed
+///   abbrev pub <b id="entry_lends">entry_lends</b> : Entry T.Denot
+///       → <a href="../../logic/index.html#Result">Result</a> (MutBor T.Denot) (<a href="../../ent_handle/handed_back/index.html#HandedBack">HandedBack</a> T.Denot why.InsertError) → Fml
+///   <a href="#entry_lends">entry_lends</a> e r = LendsSoOk (the_row T) T (<a href="#entry_ref">entry_ref</a> e) r (λ new value. <a href="#Gives">Gives</a> e value new)
+///       (λ new. new ≡ <a href="#entry_map">entry_map</a> e)
+/// </pre>
+pub mod entry {}
 
 #[doc(alias("CalledAt", "Retains"))]
 /// What a closure leaves of the values that it is called at.
@@ -557,7 +707,7 @@ pub mod image {}
 /// </pre>
 pub mod first_fault {}
 
-#[doc(alias("AreCloned", "AreEntries", "HasNone", "IsClonedOption", "IsFullFor", "SparseMap", "values_of"))]
+#[doc(alias("AreCloned", "AreEntries", "HasNone", "IsClonedOption", "IsFullFor", "SparseMap", "values_of", "with_written_in"))]
 /// What contracts see of a sparse map, and the two vectors that stand for it.
 ///
 /// <pre>
@@ -596,6 +746,19 @@ pub mod first_fault {}
 /// </pre>
 ///
 /// <pre>
+///   -- the map after a write to the value of a handle
+///   abbrev pub <b id="with_written_in">with_written_in</b> : <a href="#SparseMap">SparseMap</a> T → <a href="../../ent_handle/handle/index.html#Handle">Handle</a> → T → <a href="#SparseMap">SparseMap</a> T
+///   <a href="#with_written_in">with_written_in</a> m h value = record m { values = <a href="../../logic/index.html#FinMap.insert">map.insert</a> m.values h value }
+///
+///   -- a handle that was given a value has one
+///   pub some_written : (m : <a href="#SparseMap">SparseMap</a> T) (h : <a href="../../ent_handle/handle/index.html#Handle">Handle</a>) (value : T)
+///       → <a href="../../logic/index.html#IsSome">IsSome</a> (<a href="../../logic/index.html#FinMap.get">map.get</a> (<a href="#with_written_in">with_written_in</a> m h value).values h)
+///   some_written m h value =
+///       ap <a href="../../logic/index.html#is_some">is_some</a> (<a href="../../logic/index.html#FinMap.get">map.get</a>-insert <a href="../../ent_handle/handle/index.html#handle_cmp_total">handle_cmp_total</a> m.values h value h
+///       ∙ ap (λ same. cond same (<a href="../../logic/index.html#Some">Some</a> value) (<a href="../../logic/index.html#FinMap.get">map.get</a> m.values h)) (<a href="../handle_map/index.html#same_handle">same_handle</a> h))
+/// </pre>
+///
+/// <pre>
 ///   -- the second value is a clone of the first one, or there is neither
 ///   abbrev pub <b id="IsClonedOption">IsClonedOption</b> : (T → T → Type 0) → <a href="../../logic/index.html#Option">Option</a> T → <a href="../../logic/index.html#Option">Option</a> T → Type 0
 ///   <a href="#IsClonedOption">IsClonedOption</a> is_clone <a href="../../logic/index.html#None">None</a> <a href="../../logic/index.html#None">None</a> = ⊤
@@ -611,3 +774,135 @@ pub mod first_fault {}
 ///       → <a href="#IsClonedOption">IsClonedOption</a> is_clone (<a href="../../logic/index.html#FinMap.get">map.get</a> old h) (<a href="../../logic/index.html#FinMap.get">map.get</a> new h)
 /// </pre>
 pub mod sparse_map {}
+
+#[doc(alias("Gives", "IsFilled", "IsRefusal", "IsRoomier", "IsWritten", "entry_handle", "entry_lends", "entry_map", "entry_ref", "entry_value", "lends_in", "occupied_lends", "with_value"))]
+/// What contracts see of an entry of a sparse map: what it has for one handle.
+///
+/// <pre>
+/// -- the variants of the type in Rust
+/// <b id="Occupied">Occupied</b>, <b id="Vacant">Vacant</b>
+/// </pre>
+///
+/// <pre>
+/// module _ {T : Type 0} where
+///   -- the reference to the map
+///   abbrev pub <b id="entry_ref">entry_ref</b> : Entry T → MutBor (<a href="../sparse_map/index.html#SparseMap">SparseMap</a> T)
+///   <a href="#entry_ref">entry_ref</a> (Occupied o) = o.map
+///   <a href="#entry_ref">entry_ref</a> (Vacant v) = v.map
+/// </pre>
+///
+/// <pre>
+///   -- the map
+///   abbrev pub <b id="entry_map">entry_map</b> : Entry T → <a href="../sparse_map/index.html#SparseMap">SparseMap</a> T
+///   <a href="#entry_map">entry_map</a> e = (<a href="#entry_ref">entry_ref</a> e).now
+/// </pre>
+///
+/// <pre>
+///   -- the handle
+///   abbrev pub <b id="entry_handle">entry_handle</b> : Entry T → <a href="../../ent_handle/handle/index.html#Handle">Handle</a>
+///   <a href="#entry_handle">entry_handle</a> (Occupied o) = o.handle
+///   <a href="#entry_handle">entry_handle</a> (Vacant v) = v.handle
+/// </pre>
+///
+/// <pre>
+///   -- the value that the handle has
+///   abbrev pub <b id="entry_value">entry_value</b> : Entry T → <a href="../../logic/index.html#Option">Option</a> T
+///   <a href="#entry_value">entry_value</a> (Occupied o) = <a href="../../logic/index.html#FinMap.get">map.get</a> o.map.now.values o.handle
+///   <a href="#entry_value">entry_value</a> (Vacant v) = <a href="../../logic/index.html#None">None</a>
+/// </pre>
+///
+/// <pre>
+///   -- the second map is the first one, once a handle without a value has this one
+///   pub record <b id="IsFilled">IsFilled</b> (old : <a href="../sparse_map/index.html#SparseMap">SparseMap</a> T) (h : <a href="../../ent_handle/handle/index.html#Handle">Handle</a>) (value : T) (new : <a href="../sparse_map/index.html#SparseMap">SparseMap</a> T) :
+///       Type 0 where
+///     pub values : new.values ≡ <a href="../../logic/index.html#FinMap.insert">map.insert</a> (<a href="../handle_map/index.html#without_slot">without_slot</a> old.values h.index) h value
+///     pub slots : old.slots ≤ new.slots
+///     pub room : old.room ≤ new.room
+///     pub limit : new.limit ≡ old.limit
+/// </pre>
+///
+/// <pre>
+///   -- the second map has the values of the first one, and no less room
+///   pub record <b id="IsRoomier">IsRoomier</b> (old new : <a href="../sparse_map/index.html#SparseMap">SparseMap</a> T) : Type 0 where
+///     pub values : new.values ≡ old.values
+///     pub slots : old.slots ≤ new.slots
+///     pub room : old.room ≤ new.room
+///     pub limit : new.limit ≡ old.limit
+/// </pre>
+///
+/// <pre>
+///   -- the map is as the entry's, once its handle has the value
+///   abbrev pub <b id="Gives">Gives</b> : Entry T → T → <a href="../sparse_map/index.html#SparseMap">SparseMap</a> T → Type 0
+///   <a href="#Gives">Gives</a> (Occupied o) value new = new ≡ <a href="../sparse_map/index.html#with_written_in">with_written_in</a> o.map.now o.handle value
+///   <a href="#Gives">Gives</a> (Vacant v) value new = <a href="#IsFilled">IsFilled</a> v.map.now v.handle value new
+/// </pre>
+///
+/// <pre>
+///   -- why the map refuses a value for the handle, if it does
+///   pub record <b id="IsRefusal">IsRefusal</b> (m : <a href="../sparse_map/index.html#SparseMap">SparseMap</a> T) (h : <a href="../../ent_handle/handle/index.html#Handle">Handle</a>) (error : <a href="../../logic/index.html#Option">Option</a> why.InsertError) :
+///       Type 0 where
+///     pub limit : (error ≡ <a href="../../logic/index.html#Some">Some</a> why.TheVariants.Limit) ↔ <a href="../handle_map/index.html#IsBeyond">IsBeyond</a> m.limit h
+///     pub later : (error ≡ <a href="../../logic/index.html#Some">Some</a> why.TheVariants.Later)
+///         ↔ (¬ (<a href="../handle_map/index.html#IsBeyond">IsBeyond</a> m.limit h) × <a href="../handle_map/index.html#HasLater">HasLater</a> m.values h)
+///     pub memory : error ≡ <a href="../../logic/index.html#Some">Some</a> why.TheVariants.Memory → <a href="../sparse_map/index.html#IsFullFor">IsFullFor</a> m h.index
+///     pub memory_for_a_new_slot : error ≡ <a href="../../logic/index.html#Some">Some</a> why.TheVariants.Memory → <a href="../sparse_map/index.html#HasNone">HasNone</a> m.values h.index
+/// </pre>
+///
+/// <pre>
+///   -- the occupied entry, once it has the value
+///   abbrev pub <b id="with_value">with_value</b> : OccupiedEntry T → T → OccupiedEntry T
+///   <a href="#with_value">with_value</a> o value = record {
+///     map = record o.map { now = <a href="../sparse_map/index.html#with_written_in">with_written_in</a> o.map.now o.handle value };
+///     handle = o.handle;
+///     present = some_written o.map.now o.handle value;
+///   }
+/// </pre>
+///
+/// <pre>
+///   -- the second entry is the first one, once its handle has the value
+///   pub record <b id="IsWritten">IsWritten</b> (old : OccupiedEntry T) (value : T) (new : OccupiedEntry T) : Type 0 where
+///     pub same_map : new.map.ghost_name ≡ old.map.ghost_name
+///     pub map : new.map.now ≡ <a href="../sparse_map/index.html#with_written_in">with_written_in</a> old.map.now old.handle value
+///     pub handle : new.handle ≡ old.handle
+///     pub written : <a href="#entry_value">entry_value</a> (Occupied new) ≡ <a href="../../logic/index.html#Some">Some</a> value
+/// </pre>
+///
+/// <pre>
+/// module _ (T : RattleType) where
+///   -- once the borrow r ends, the handle has the last value written through r
+///   abbrev pub <b id="occupied_lends">occupied_lends</b> : OccupiedEntry T.Denot → MutBor T.Denot → Fml
+///   <a href="#occupied_lends">occupied_lends</a> o r =
+///       follows (the_row T) T o.map.ghost_name r.ghost_name (<a href="../sparse_map/index.html#with_written_in">with_written_in</a> o.map.now o.handle)
+/// </pre>
+///
+/// <pre>
+///   -- the same of the entry behind o, of which the lifetime is the second of the signature
+///   abbrev pub <b id="lends_in">lends_in</b> : MutBor (OccupiedEntry T.Denot) → MutBor T.Denot → Fml
+///   <a href="#lends_in">lends_in</a> o r =
+///       follows (occupied.the_row (record { mir = named 1; lft = [] }) T) T o.ghost_name r.ghost_name
+///       (<a href="#with_value">with_value</a> o.now)
+/// </pre>
+///
+/// <pre>
+///   -- once the borrow ends, the handle has the last value written through it, and after an error
+///   -- there may be more room
+///   abbrev pub <b id="entry_lends">entry_lends</b> : Entry T.Denot
+///       → <a href="../../logic/index.html#Result">Result</a> (MutBor T.Denot) (<a href="../../ent_handle/handed_back/index.html#HandedBack">HandedBack</a> T.Denot why.InsertError) → Fml
+///   <a href="#entry_lends">entry_lends</a> e r = LendsSoOk (the_row T) T (<a href="#entry_ref">entry_ref</a> e) r (λ new value. <a href="#Gives">Gives</a> e value new)
+///       (λ new. <a href="#IsRoomier">IsRoomier</a> (<a href="#entry_map">entry_map</a> e) new)
+/// </pre>
+pub mod sparse_entry {}
+
+#[doc(alias("lends_get"))]
+/// What a sparse map ends as, where a `&mut` to one of its values is returned.
+///
+/// <pre>
+/// module _ (T : RattleType) (m : MutBor (<a href="../sparse_map/index.html#SparseMap">SparseMap</a> T.Denot)) (h : <a href="../../ent_handle/handle/index.html#Handle">Handle</a>) where
+/// </pre>
+///
+/// <pre>
+///   -- the same where r is a reference, and at `None` the map stays as it is
+///   abbrev pub <b id="lends_get">lends_get</b> : <a href="../../logic/index.html#Option">Option</a> (MutBor T.Denot) → Fml
+///   <a href="#lends_get">lends_get</a> r = LendsIf (the_row T) T m r (<a href="../sparse_map/index.html#with_written_in">with_written_in</a> m.now h) m.now
+/// </pre>
+pub mod sparse_lends {}

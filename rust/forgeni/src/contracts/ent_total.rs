@@ -1,7 +1,7 @@
 // Made of crates/ent_total/specs by .ci/contracts.py. It isn't edited by hand.
 
 //! The definitions of crate `ent_total`, in the order in which one reads them:
-//! [`batch`], [`applying`], [`closing`], [`faults`], [`framing`], [`issuing`], [`sharing`], [`image`], [`unframed`].
+//! [`batch`], [`applying`], [`births`], [`closing`], [`faults`], [`framing`], [`issuing`], [`sharing`], [`image`], [`unframed`].
 
 #[doc(alias("IsFinished", "IsLeftUntil", "IsSynced", "IsSyncedUntil", "Queues", "Stopped"))]
 /// Queues that are applied together, and where their sync point stopped.
@@ -187,6 +187,17 @@ pub mod batch {}
 /// </pre>
 pub mod applying {}
 
+#[doc(alias("next_birth"))]
+/// The births of entities that are spawned outside of phases.
+///
+/// <pre>
+/// -- The birth of the entity that is spawned next: by no system, and it counts those that were spawned
+/// -- before it since the last flush.
+/// abbrev pub <b id="next_birth">next_birth</b> : World → Birth
+/// <a href="#next_birth">next_birth</a> w = record { frame = w.world.phase; system = <a href="../../ent_world/sync/index.html#no_system">no_system</a>; ordinal = w.spawned }
+/// </pre>
+pub mod births {}
+
 #[doc(alias("IsMissing", "count_missing"))]
 /// Why a phase was not closed.
 ///
@@ -284,7 +295,7 @@ pub mod faults {}
 /// </pre>
 pub mod framing {}
 
-#[doc(alias("AreCommandsOf", "Commands", "IsClosed", "IsClosedLost", "IsWorldOf", "MayReturn", "OpenWorld", "issued", "queues_returned", "reservers_returned", "with_returned"))]
+#[doc(alias("AreCommandsOf", "Commands", "Extends", "IsClosed", "IsClosedLost", "IsRefused", "IsWorldOf", "MayReturn", "OpenWorld", "issued", "queues_returned", "reservers_returned", "with_returned"))]
 /// What contracts see of a world in a phase, and of a system that issues commands in it.
 ///
 /// <pre>
@@ -350,6 +361,28 @@ pub mod framing {}
 ///   returned = <a href="#reservers_returned">reservers_returned</a> p all;
 ///   queues = <a href="#queues_returned">queues_returned</a> p all;
 /// }
+/// </pre>
+///
+/// <pre>
+/// -- Commands were added, and the reserver has gained their reservations and no others. Nothing else
+/// -- has changed.
+/// pub record <b id="Extends">Extends</b> (before after : <a href="#Commands">Commands</a>) : Type 0 where
+///   pub number : after.number ≡ before.number
+///   pub world : after.world ≡ before.world
+///   pub ready : <a href="../../ent_shared/phase/index.html#IsOf">IsOf</a> after.world.shared after.reserver
+///   pub added : <a href="../../logic/index.html#List">List</a> <a href="../../ent_queue/command/index.html#Command">Command</a>
+///   pub queue : after.queue ≡ before.queue ++ added
+///   pub gains : <a href="../../ent_queue/reserving/index.html#Gains">Gains</a> before.reserver.own added after.reserver.own
+/// </pre>
+///
+/// <pre>
+/// -- A refusal is the result of a request for n handles, unless memory ran out before.
+/// abbrev pub <b id="IsRefused">IsRefused</b> : <a href="../../ent_shared/phase/index.html#Shared">Shared</a> → <a href="../../ent_shared/phase/index.html#Reserver">Reserver</a> → <a href="../../ent_shared/phase/index.html#Reserver">Reserver</a> → <a href="../../logic/index.html#ℕ">ℕ</a> → ReserveError → Type 0
+/// <a href="#IsRefused">IsRefused</a> shared before after n (fault.Space wanted left) =
+///     <a href="../../ent_shared/replies/index.html#IsReturned">IsReturned</a> shared before after n (<a href="../../logic/index.html#Err">Err</a> (Space wanted left))
+/// <a href="#IsRefused">IsRefused</a> shared before after n (fault.Quota left) =
+///     <a href="../../ent_shared/replies/index.html#IsReturned">IsReturned</a> shared before after n (<a href="../../logic/index.html#Err">Err</a> (Quota left))
+/// <a href="#IsRefused">IsRefused</a> shared before after n fault.Memory = Unit {0}
 /// </pre>
 ///
 /// <pre>

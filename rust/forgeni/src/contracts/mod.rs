@@ -2,7 +2,7 @@
 
 //! What the contracts in these docs mean: the definitions that they cite, as they were proved.
 //!
-//! There are 675, and each one cites only what comes before it. Who wants to read a contract follows its links; who wants to
+//! There are 713, and each one cites only what comes before it. Who wants to read a contract follows its links; who wants to
 //! read all begins here:
 //!
 //! - [`logic`]: Rattle's own words and signs.
@@ -12,13 +12,14 @@
 //! - [`ent_replay`]: [`schedule_text`](ent_replay::schedule_text), [`schedule`](ent_replay::schedule), [`histories`](ent_replay::histories), [`trace`](ent_replay::trace), [`checker`](ent_replay::checker), [`logs`](ent_replay::logs), [`recording`](ent_replay::recording), [`lending`](ent_replay::lending), [`text`](ent_replay::text)
 //! - [`ent_shared`]: [`record`](ent_shared::record), [`moves`](ent_shared::moves), [`phase`](ent_shared::phase), [`order`](ent_shared::order), [`replies`](ent_shared::replies), [`requests`](ent_shared::requests), [`ending`](ent_shared::ending)
 //! - [`ent_blocks`]: [`blocks`](ent_blocks::blocks), [`faults`](ent_blocks::faults), [`drawing`](ent_blocks::drawing), [`ending`](ent_blocks::ending)
-//! - [`ent_storage`]: [`position`](ent_storage::position), [`bundle`](ent_storage::bundle), [`components`](ent_storage::components), [`entity_map`](ent_storage::entity_map), [`birth_order`](ent_storage::birth_order), [`places`](ent_storage::places), [`sparse_set`](ent_storage::sparse_set), [`living`](ent_storage::living), [`indexed`](ent_storage::indexed), [`handle_map`](ent_storage::handle_map), [`retained`](ent_storage::retained), [`copies`](ent_storage::copies), [`image`](ent_storage::image), [`first_fault`](ent_storage::first_fault), [`sparse_map`](ent_storage::sparse_map)
+//! - [`ent_storage`]: [`position`](ent_storage::position), [`bundle`](ent_storage::bundle), [`components`](ent_storage::components), [`entity_map`](ent_storage::entity_map), [`birth_order`](ent_storage::birth_order), [`places`](ent_storage::places), [`sparse_set`](ent_storage::sparse_set), [`living`](ent_storage::living), [`indexed`](ent_storage::indexed), [`handle_map`](ent_storage::handle_map), [`lends`](ent_storage::lends), [`entry`](ent_storage::entry), [`retained`](ent_storage::retained), [`copies`](ent_storage::copies), [`image`](ent_storage::image), [`first_fault`](ent_storage::first_fault), [`sparse_map`](ent_storage::sparse_map), [`sparse_entry`](ent_storage::sparse_entry), [`sparse_lends`](ent_storage::sparse_lends)
 //! - [`ent_queue`]: [`command`](ent_queue::command), [`reserving`](ent_queue::reserving), [`drawing`](ent_queue::drawing), [`issuing`](ent_queue::issuing), [`logging`](ent_queue::logging), [`commands`](ent_queue::commands)
 //! - [`ent_world`]: [`world`](ent_world::world), [`image`](ent_world::image), [`rows`](ent_world::rows), [`first_fault`](ent_world::first_fault), [`open_world`](ent_world::open_world), [`effects`](ent_world::effects), [`sync`](ent_world::sync), [`rest`](ent_world::rest), [`memory`](ent_world::memory), [`in_blocks`](ent_world::in_blocks), [`within`](ent_world::within)
 //! - [`ent_runner`]: [`runs`](ent_runner::runs), [`frame`](ent_runner::frame), [`logs`](ent_runner::logs), [`blocks_filling`](ent_runner::blocks_filling), [`blocks`](ent_runner::blocks), [`blocks_queues`](ent_runner::blocks_queues), [`blocks_frame`](ent_runner::blocks_frame), [`blocks_unframed`](ent_runner::blocks_unframed), [`blocks_refusing`](ent_runner::blocks_refusing), [`refusing`](ent_runner::refusing)
-//! - [`ent_total`]: [`batch`](ent_total::batch), [`applying`](ent_total::applying), [`closing`](ent_total::closing), [`faults`](ent_total::faults), [`framing`](ent_total::framing), [`issuing`](ent_total::issuing), [`sharing`](ent_total::sharing), [`image`](ent_total::image), [`unframed`](ent_total::unframed)
+//! - [`ent_total`]: [`batch`](ent_total::batch), [`applying`](ent_total::applying), [`births`](ent_total::births), [`closing`](ent_total::closing), [`faults`](ent_total::faults), [`framing`](ent_total::framing), [`issuing`](ent_total::issuing), [`sharing`](ent_total::sharing), [`image`](ent_total::image), [`unframed`](ent_total::unframed)
 //!
-//! A definition is a statement or a function of values as contracts see them: a `Vec` is a list, an `Entities` a record. It is never run.
+//! A definition is a statement or a function of values as contracts see them: a `Vec` is a list, an `Entities` a record. It
+//! is never run.
 
 /// The words of the logic, a line each, and its signs.
 ///

@@ -29,8 +29,8 @@ use crate::handles::{Handle, OutOfMemory};
 /// Contracts see it as a state of the
 /// [sequential allocator](crate::contracts::ent_alloc::sequential#Allocator): the living handles,
 /// the pool of those that can be given, those that are reserved, and those that a refused request
-/// passed over. Beside it they see the [rows](crate::contracts::ent_alloc::entities#Entities) that
-/// a program keeps with living handles.
+/// passed over. Beside it they see the [rows](crate::contracts::ent_alloc::entities#Entities)
+/// that a program keeps with living handles.
 pub struct Entities {
     pub(super) slots: Slots,
     pub(super) requests: Requests,

@@ -128,7 +128,7 @@ impl BlockReserver {
     /// <details><summary>Contract</summary>
     ///
     /// <code style="display: block; tab-size: 4; white-space: pre-wrap">// In the words of [contracts](crate::contracts):
-    /// ensures { result ≡ wanted_by self.now }
+    /// ensures { result ≡ [wanted_by](crate::contracts::ent_blocks::blocks#wanted_by) self.now }
     /// </code>
     ///
     /// </details>
@@ -163,7 +163,7 @@ impl BlockReserver {
     /// <details><summary>Contract</summary>
     ///
     /// <code style="display: block; tab-size: 4; white-space: pre-wrap">// In the words of [contracts](crate::contracts):
-    /// ensures { IsTrue result ↔ (self.now.number ≡ blocks.now.number) }
+    /// ensures { [IsTrue](crate::contracts::logic#IsTrue) result ↔ (self.now.number ≡ blocks.now.number) }
     /// </code>
     ///
     /// </details>

@@ -22,17 +22,15 @@ use crate::handles::{HandedBack, Handle};
 /// ```
 /// use forgeni::Entities;
 ///
-/// let (blocks, mut reservers) = Entities::new().open_in_blocks(&[3; 2])?;
+/// let (blocks, mut reservers) = Entities::new().open_in_blocks(&[10; 2])?;
+/// let mut firsts = [None; 2];
 /// std::thread::scope(|scope| {
-///     for mine in &mut reservers {
-///         scope.spawn(|| blocks.reserve_many(mine, 3));
+///     for (mine, first) in reservers.iter_mut().zip(&mut firsts) {
+///         scope.spawn(|| *first = blocks.reserve(mine).ok());
 ///     }
 /// });
-/// let mut entities = blocks.close(reservers)?;
-/// let mut born = Vec::new();
-/// entities.flush(&mut born)?;
 /// // On every machine, whichever thread came first.
-/// assert_eq!(born.len(), 6);
+/// assert_eq!(firsts.map(|it| it.map(|one| one.index())), [Some(0), Some(10)]);
 /// # Ok::<(), Box<dyn std::error::Error>>(())
 /// ```
 #[must_use]
@@ -350,7 +348,7 @@ impl Blocks {
     ///
     /// <code style="display: block; tab-size: 4; white-space: pre-wrap">// In the words of [contracts](crate::contracts):
     /// ensures after { [IfOk](crate::contracts::logic#IfOk) result (λ entities. entities.allocator
-    /// &#9;≡ after_blocks self.phase.start ([blocks_of](crate::contracts::ent_blocks::blocks#blocks_of) reservers.items)) }
+    /// &#9;≡ [after_blocks](crate::contracts::ent_blocks::blocks#after_blocks) self.phase.start ([blocks_of](crate::contracts::ent_blocks::blocks#blocks_of) reservers.items)) }
     /// ensures rows { [IfOk](crate::contracts::logic#IfOk) result (λ entities. entities.rows ≡ self.phase.rows) }
     /// ensures rows_of_living { [IfOk](crate::contracts::logic#IfOk) result [HasRowsOfLiving](crate::contracts::ent_alloc::entities#HasRowsOfLiving) }
     /// ensures waiting { [IfOk](crate::contracts::logic#IfOk) result (λ entities.
@@ -432,7 +430,7 @@ impl Blocks {
     /// <details><summary>Contract</summary>
     ///
     /// <code style="display: block; tab-size: 4; white-space: pre-wrap">// In the words of [contracts](crate::contracts):
-    /// ensures after { [IfOk](crate::contracts::logic#IfOk) result (λ entities. entities.allocator ≡ after_blocks
+    /// ensures after { [IfOk](crate::contracts::logic#IfOk) result (λ entities. entities.allocator ≡ [after_blocks](crate::contracts::ent_blocks::blocks#after_blocks)
     /// &#9;self.phase.start ([accounted](crate::contracts::ent_blocks::blocks#accounted) self.phase.blocks ([blocks_of](crate::contracts::ent_blocks::blocks#blocks_of) reservers.items))) }
     /// ensures rows { [IfOk](crate::contracts::logic#IfOk) result (λ entities. entities.rows ≡ self.phase.rows) }
     /// ensures rows_of_living { [IfOk](crate::contracts::logic#IfOk) result [HasRowsOfLiving](crate::contracts::ent_alloc::entities#HasRowsOfLiving) }

@@ -100,7 +100,7 @@ impl Part {
     /// <details><summary>Contract</summary>
     ///
     /// <code style="display: block; tab-size: 4; white-space: pre-wrap">// In the words of [contracts](crate::contracts):
-    /// ensures value { result ≡ portion_of self.now }
+    /// ensures value { result ≡ [portion_of](crate::contracts::ent_blocks::blocks#portion_of) self.now }
     /// ensures used { self.now.used ≤ self.now.size }
     /// </code>
     ///
@@ -118,7 +118,7 @@ impl Part {
     /// <details><summary>Contract</summary>
     ///
     /// <code style="display: block; tab-size: 4; white-space: pre-wrap">// In the words of [contracts](crate::contracts):
-    /// ensures { result ≡ is_same self.now other.now }
+    /// ensures { result ≡ [is_same](crate::contracts::ent_blocks::blocks#is_same) self.now other.now }
     /// </code>
     ///
     /// </details>

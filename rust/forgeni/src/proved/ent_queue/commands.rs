@@ -85,7 +85,7 @@ impl<'a, O, S: Source> SystemCommands<'a, O, S> {
     /// <details><summary>Contract</summary>
     ///
     /// <code style="display: block; tab-size: 4; white-space: pre-wrap">// In the words of [contracts](crate::contracts):
-    /// ensures { result ≡ [set.contains](crate::contracts::logic#FinSet.contains) (S.start (source_of self.now)).live handle }
+    /// ensures { result ≡ [set.contains](crate::contracts::logic#FinSet.contains) (S.start ([source_of](crate::contracts::ent_queue::commands#source_of) self.now)).live handle }
     /// </code>
     ///
     /// </details>
@@ -116,9 +116,9 @@ impl<'a, O, S: Source> SystemCommands<'a, O, S> {
     /// <details><summary>Contract</summary>
     ///
     /// <code style="display: block; tab-size: 4; white-space: pre-wrap">// In the words of [contracts](crate::contracts):
-    /// ensures value { result ≡ [map.get](crate::contracts::logic#FinMap.get) (S.rows (source_of self.now)) handle }
+    /// ensures value { result ≡ [map.get](crate::contracts::logic#FinMap.get) (S.rows ([source_of](crate::contracts::ent_queue::commands#source_of) self.now)) handle }
     /// ensures alive { [OnSome](crate::contracts::logic#OnSome) result
-    /// &#9;([set.contains](crate::contracts::logic#FinSet.contains) (S.start (source_of self.now)).live handle ≡ [true](crate::contracts::logic#true)) }
+    /// &#9;([set.contains](crate::contracts::logic#FinSet.contains) (S.start ([source_of](crate::contracts::ent_queue::commands#source_of) self.now)).live handle ≡ [true](crate::contracts::logic#true)) }
     /// </code>
     ///
     /// </details>

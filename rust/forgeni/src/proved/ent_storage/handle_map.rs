@@ -323,7 +323,7 @@ impl<T> HandleMap<T> {
     /// <details><summary>Contract</summary>
     ///
     /// <code style="display: block; tab-size: 4; white-space: pre-wrap">// In the words of [contracts](crate::contracts):
-    /// ensures\* writes_back { [sem](crate::contracts::logic#sem) 𝓛 (lends_get T.row self.entry handle result) }
+    /// ensures\* writes_back { [sem](crate::contracts::logic#sem) 𝓛 ([lends_get](crate::contracts::ent_storage::lends#lends_get) T.row self.entry handle result) }
     /// ensures value { [option_copied_mut](crate::contracts::logic#option_copied_mut) result ≡ [map.get](crate::contracts::logic#FinMap.get) self.old.values handle }
     /// </code>
     ///
@@ -422,10 +422,10 @@ impl<T> HandleMap<T> {
     /// <details><summary>Contract</summary>
     ///
     /// <code style="display: block; tab-size: 4; white-space: pre-wrap">// In the words of [contracts](crate::contracts):
-    /// ensures handle { entry_handle result ≡ handle }
-    /// ensures value { entry_value result ≡ [map.get](crate::contracts::logic#FinMap.get) self.old.values handle }
-    /// ensures map { entry_map result ≡ self.old }
-    /// ensures same_map { (entry_ref result).ghost_name ≡ self.entry.ghost_name }
+    /// ensures handle { [entry_handle](crate::contracts::ent_storage::entry#entry_handle) result ≡ handle }
+    /// ensures value { [entry_value](crate::contracts::ent_storage::entry#entry_value) result ≡ [map.get](crate::contracts::logic#FinMap.get) self.old.values handle }
+    /// ensures map { [entry_map](crate::contracts::ent_storage::entry#entry_map) result ≡ self.old }
+    /// ensures same_map { ([entry_ref](crate::contracts::ent_storage::entry#entry_ref) result).ghost_name ≡ self.entry.ghost_name }
     /// </code>
     ///
     /// </details>

@@ -70,7 +70,7 @@ impl Commands {
     /// <details><summary>Contract</summary>
     ///
     /// <code style="display: block; tab-size: 4; white-space: pre-wrap">// In the words of [contracts](crate::contracts):
-    /// ensures extends { Extends self.old self.new }
+    /// ensures extends { [Extends](crate::contracts::ent_total::issuing#Extends) self.old self.new }
     /// ensures ok { [IfOk](crate::contracts::logic#IfOk) result (λ handle. self.new.queue
     /// &#9;≡ self.old.queue ++ [Spawn](crate::contracts::ent_queue::command#Spawn) handle ([bundle_of](crate::contracts::ent_storage::bundle#bundle_of) components.now) ∷ \[\]) }
     /// ensures refused { [IfErr](crate::contracts::logic#IfErr) result (λ fault.
@@ -80,7 +80,7 @@ impl Commands {
     /// &#9;[IsReturned](crate::contracts::ent_shared::replies#IsReturned) self.old.world.shared self.old.reserver self.new.reserver 1
     /// &#9;([Ok](crate::contracts::logic#Ok) (handle ∷ \[\]))) }
     /// ensures refusal { [IfErr](crate::contracts::logic#IfErr) result
-    /// &#9;(IsRefused self.old.world.shared self.old.reserver self.new.reserver 1) }
+    /// &#9;([IsRefused](crate::contracts::ent_total::issuing#IsRefused) self.old.world.shared self.old.reserver self.new.reserver 1) }
     /// &#32;
     /// // What was given is recorded.
     /// ensures recorded { [IfOk](crate::contracts::logic#IfOk) result (λ handle. [handles_given](crate::contracts::ent_shared::order#handles_given) self.new.reserver.own
@@ -127,7 +127,7 @@ impl Commands {
     /// <details><summary>Contract</summary>
     ///
     /// <code style="display: block; tab-size: 4; white-space: pre-wrap">// In the words of [contracts](crate::contracts):
-    /// ensures extends { Extends self.old self.new }
+    /// ensures extends { [Extends](crate::contracts::ent_total::issuing#Extends) self.old self.new }
     /// ensures ok { [IfOk](crate::contracts::logic#IfOk) result (λ handles. self.new.queue
     /// &#9;≡ self.old.queue ++ [SpawnMany](crate::contracts::ent_queue::command#SpawnMany) handles.items ([bundle_of](crate::contracts::ent_storage::bundle#bundle_of) components.now) ∷ \[\]) }
     /// ensures length { [IfOk](crate::contracts::logic#IfOk) result (λ handles. [length](crate::contracts::logic#length) handles.items ≡ n) }
@@ -138,7 +138,7 @@ impl Commands {
     /// &#9;[IsReturned](crate::contracts::ent_shared::replies#IsReturned) self.old.world.shared self.old.reserver self.new.reserver n
     /// &#9;([Ok](crate::contracts::logic#Ok) handles.items)) }
     /// ensures refusal { [IfErr](crate::contracts::logic#IfErr) result
-    /// &#9;(IsRefused self.old.world.shared self.old.reserver self.new.reserver n) }
+    /// &#9;([IsRefused](crate::contracts::ent_total::issuing#IsRefused) self.old.world.shared self.old.reserver self.new.reserver n) }
     /// &#32;
     /// // What was given is recorded.
     /// ensures recorded { [IfOk](crate::contracts::logic#IfOk) result (λ handles. [handles_given](crate::contracts::ent_shared::order#handles_given) self.new.reserver.own

@@ -102,7 +102,7 @@ impl World {
     /// ensures front { [IfOk](crate::contracts::logic#IfOk) result (λ handle.
     /// &#9;[slice_get](crate::contracts::logic#slice_get) self.old.world.allocator.pool 0 ≡ [Some](crate::contracts::logic#Some) handle) }
     /// ensures ok { [IfOk](crate::contracts::logic#IfOk) result (λ handle. self.new.world
-    /// &#9;≡ [after_spawn](crate::contracts::ent_world::effects#after_spawn) (next_birth self.old) ([bundle_of](crate::contracts::ent_storage::bundle#bundle_of) components.now) handle self.old.world) }
+    /// &#9;≡ [after_spawn](crate::contracts::ent_world::effects#after_spawn) ([next_birth](crate::contracts::ent_total::births#next_birth) self.old) ([bundle_of](crate::contracts::ent_storage::bundle#bundle_of) components.now) handle self.old.world) }
     /// ensures counted { [OnOk](crate::contracts::logic#OnOk) result (self.new.spawned ≡ [ordinal](crate::contracts::ent_world::sync#ordinal) (self.old.spawned + 1)) }
     /// ensures number { self.new.number ≡ self.old.number }
     /// &#32;

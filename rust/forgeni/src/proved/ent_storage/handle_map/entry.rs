@@ -83,7 +83,7 @@ impl<'a, T> Entry<'a, T> {
     /// <details><summary>Contract</summary>
     ///
     /// <code style="display: block; tab-size: 4; white-space: pre-wrap">// In the words of [contracts](crate::contracts):
-    /// ensures { result ≡ entry_handle self.now }
+    /// ensures { result ≡ [entry_handle](crate::contracts::ent_storage::entry#entry_handle) self.now }
     /// </code>
     ///
     /// </details>
@@ -117,11 +117,11 @@ impl<'a, T> Entry<'a, T> {
     /// <details><summary>Contract</summary>
     ///
     /// <code style="display: block; tab-size: 4; white-space: pre-wrap">// In the words of [contracts](crate::contracts):
-    /// ensures\* writes_back { [sem](crate::contracts::logic#sem) 𝓛 (entry_lends T.row self.entry result) }
-    /// ensures value { [IfOk](crate::contracts::logic#IfOk) result (λ x. x.now ≡ [unwrap_or](crate::contracts::logic#unwrap_or) (entry_value self.entry) value) }
-    /// ensures occupied { [IsSome](crate::contracts::logic#IsSome) (entry_value self.entry) → [IsOk](crate::contracts::logic#IsOk) result }
-    /// ensures refused { entry_value self.entry ≡ [None](crate::contracts::logic#None)
-    /// &#9;→ IsRefusal (entry_map self.entry) (entry_handle self.entry) ([error_of](crate::contracts::ent_storage::handle_map#error_of) result) }
+    /// ensures\* writes_back { [sem](crate::contracts::logic#sem) 𝓛 ([entry_lends](crate::contracts::ent_storage::entry#entry_lends) T.row self.entry result) }
+    /// ensures value { [IfOk](crate::contracts::logic#IfOk) result (λ x. x.now ≡ [unwrap_or](crate::contracts::logic#unwrap_or) ([entry_value](crate::contracts::ent_storage::entry#entry_value) self.entry) value) }
+    /// ensures occupied { [IsSome](crate::contracts::logic#IsSome) ([entry_value](crate::contracts::ent_storage::entry#entry_value) self.entry) → [IsOk](crate::contracts::logic#IsOk) result }
+    /// ensures refused { [entry_value](crate::contracts::ent_storage::entry#entry_value) self.entry ≡ [None](crate::contracts::logic#None)
+    /// &#9;→ [IsRefusal](crate::contracts::ent_storage::entry#IsRefusal) ([entry_map](crate::contracts::ent_storage::entry#entry_map) self.entry) ([entry_handle](crate::contracts::ent_storage::entry#entry_handle) self.entry) ([error_of](crate::contracts::ent_storage::handle_map#error_of) result) }
     /// ensures back { [IfErr](crate::contracts::logic#IfErr) result (λ refused. refused.value ≡ value) }
     /// </code>
     ///
@@ -160,12 +160,12 @@ impl<'a, T> Entry<'a, T> {
     ///
     /// <code style="display: block; tab-size: 4; white-space: pre-wrap">// In the words of [contracts](crate::contracts):
     /// requires { F.IsAlwaysCallable make }
-    /// ensures\* writes_back { [sem](crate::contracts::logic#sem) 𝓛 (entry_lends T.row self.entry result) }
+    /// ensures\* writes_back { [sem](crate::contracts::logic#sem) 𝓛 ([entry_lends](crate::contracts::ent_storage::entry#entry_lends) T.row self.entry result) }
     /// ensures value { [IfOk](crate::contracts::logic#IfOk) result (λ x.
-    /// &#9;[UnwrapsOrElse](crate::contracts::logic#UnwrapsOrElse) (entry_value self.entry) (F.post make) x.now) }
-    /// ensures occupied { [IsSome](crate::contracts::logic#IsSome) (entry_value self.entry) → [IsOk](crate::contracts::logic#IsOk) result }
-    /// ensures refused { entry_value self.entry ≡ [None](crate::contracts::logic#None)
-    /// &#9;→ IsRefusal (entry_map self.entry) (entry_handle self.entry) ([error_of](crate::contracts::ent_storage::handle_map#error_of) result) }
+    /// &#9;[UnwrapsOrElse](crate::contracts::logic#UnwrapsOrElse) ([entry_value](crate::contracts::ent_storage::entry#entry_value) self.entry) (F.post make) x.now) }
+    /// ensures occupied { [IsSome](crate::contracts::logic#IsSome) ([entry_value](crate::contracts::ent_storage::entry#entry_value) self.entry) → [IsOk](crate::contracts::logic#IsOk) result }
+    /// ensures refused { [entry_value](crate::contracts::ent_storage::entry#entry_value) self.entry ≡ [None](crate::contracts::logic#None)
+    /// &#9;→ [IsRefusal](crate::contracts::ent_storage::entry#IsRefusal) ([entry_map](crate::contracts::ent_storage::entry#entry_map) self.entry) ([entry_handle](crate::contracts::ent_storage::entry#entry_handle) self.entry) ([error_of](crate::contracts::ent_storage::handle_map#error_of) result) }
     /// ensures back { [IfErr](crate::contracts::logic#IfErr) result (λ refused. F.post make refused.value) }
     /// </code>
     ///
@@ -204,10 +204,10 @@ impl<'a, T> Entry<'a, T> {
     ///
     /// <code style="display: block; tab-size: 4; white-space: pre-wrap">// In the words of [contracts](crate::contracts):
     /// requires { F.IsAlwaysCallable change }
-    /// ensures same_map { (entry_ref result).ghost_name ≡ (entry_ref self.entry).ghost_name }
-    /// ensures handle { entry_handle result ≡ entry_handle self.entry }
-    /// ensures value { [ModifiesValue](crate::contracts::logic#ModifiesValue) F.FnOnce change (entry_value self.entry) (entry_value result) }
-    /// ensures gives { (w : T) (m : \_) → Gives result w m → Gives self.entry w m }
+    /// ensures same_map { ([entry_ref](crate::contracts::ent_storage::entry#entry_ref) result).ghost_name ≡ ([entry_ref](crate::contracts::ent_storage::entry#entry_ref) self.entry).ghost_name }
+    /// ensures handle { [entry_handle](crate::contracts::ent_storage::entry#entry_handle) result ≡ [entry_handle](crate::contracts::ent_storage::entry#entry_handle) self.entry }
+    /// ensures value { [ModifiesValue](crate::contracts::logic#ModifiesValue) F.FnOnce change ([entry_value](crate::contracts::ent_storage::entry#entry_value) self.entry) ([entry_value](crate::contracts::ent_storage::entry#entry_value) result) }
+    /// ensures gives { (w : T) (m : \_) → [Gives](crate::contracts::ent_storage::entry#Gives) result w m → [Gives](crate::contracts::ent_storage::entry#Gives) self.entry w m }
     /// </code>
     ///
     /// </details>
@@ -230,7 +230,7 @@ impl<'a, T> OccupiedEntry<'a, T> {
     /// <details><summary>Contract</summary>
     ///
     /// <code style="display: block; tab-size: 4; white-space: pre-wrap">// In the words of [contracts](crate::contracts):
-    /// ensures { result ≡ entry_handle (Occupied self.now) }
+    /// ensures { result ≡ [entry_handle](crate::contracts::ent_storage::entry#entry_handle) ([Occupied](crate::contracts::ent_storage::entry#Occupied) self.now) }
     /// </code>
     ///
     /// </details>
@@ -245,7 +245,7 @@ impl<'a, T> OccupiedEntry<'a, T> {
     /// <details><summary>Contract</summary>
     ///
     /// <code style="display: block; tab-size: 4; white-space: pre-wrap">// In the words of [contracts](crate::contracts):
-    /// ensures { entry_value (Occupied self.now) ≡ [Some](crate::contracts::logic#Some) result.now }
+    /// ensures { [entry_value](crate::contracts::ent_storage::entry#entry_value) ([Occupied](crate::contracts::ent_storage::entry#Occupied) self.now) ≡ [Some](crate::contracts::logic#Some) result.now }
     /// </code>
     ///
     /// </details>
@@ -263,9 +263,9 @@ impl<'a, T> OccupiedEntry<'a, T> {
     /// <details><summary>Contract</summary>
     ///
     /// <code style="display: block; tab-size: 4; white-space: pre-wrap">// In the words of [contracts](crate::contracts):
-    /// ensures\* writes_back { [sem](crate::contracts::logic#sem) 𝓛 (lends_in T.row self.entry result) }
-    /// ensures value { entry_value (Occupied self.old) ≡ [Some](crate::contracts::logic#Some) result.now }
-    /// ensures written { (w : T) → IsWritten self.old w (with_value self.old w) }
+    /// ensures\* writes_back { [sem](crate::contracts::logic#sem) 𝓛 ([lends_in](crate::contracts::ent_storage::entry#lends_in) T.row self.entry result) }
+    /// ensures value { [entry_value](crate::contracts::ent_storage::entry#entry_value) ([Occupied](crate::contracts::ent_storage::entry#Occupied) self.old) ≡ [Some](crate::contracts::logic#Some) result.now }
+    /// ensures written { (w : T) → [IsWritten](crate::contracts::ent_storage::entry#IsWritten) self.old w ([with_value](crate::contracts::ent_storage::entry#with_value) self.old w) }
     /// </code>
     ///
     /// </details>
@@ -299,8 +299,8 @@ impl<'a, T> OccupiedEntry<'a, T> {
     /// <details><summary>Contract</summary>
     ///
     /// <code style="display: block; tab-size: 4; white-space: pre-wrap">// In the words of [contracts](crate::contracts):
-    /// ensures\* writes_back { [sem](crate::contracts::logic#sem) 𝓛 (occupied_lends T.row self.entry result) }
-    /// ensures value { entry_value (Occupied self.entry) ≡ [Some](crate::contracts::logic#Some) result.now }
+    /// ensures\* writes_back { [sem](crate::contracts::logic#sem) 𝓛 ([occupied_lends](crate::contracts::ent_storage::entry#occupied_lends) T.row self.entry result) }
+    /// ensures value { [entry_value](crate::contracts::ent_storage::entry#entry_value) ([Occupied](crate::contracts::ent_storage::entry#Occupied) self.entry) ≡ [Some](crate::contracts::logic#Some) result.now }
     /// </code>
     ///
     /// </details>
@@ -328,8 +328,8 @@ impl<'a, T> OccupiedEntry<'a, T> {
     /// <details><summary>Contract</summary>
     ///
     /// <code style="display: block; tab-size: 4; white-space: pre-wrap">// In the words of [contracts](crate::contracts):
-    /// ensures before { entry_value (Occupied self.old) ≡ [Some](crate::contracts::logic#Some) result }
-    /// ensures written { IsWritten self.old value self.new }
+    /// ensures before { [entry_value](crate::contracts::ent_storage::entry#entry_value) ([Occupied](crate::contracts::ent_storage::entry#Occupied) self.old) ≡ [Some](crate::contracts::logic#Some) result }
+    /// ensures written { [IsWritten](crate::contracts::ent_storage::entry#IsWritten) self.old value self.new }
     /// </code>
     ///
     /// </details>
@@ -356,10 +356,10 @@ impl<'a, T> OccupiedEntry<'a, T> {
     /// <details><summary>Contract</summary>
     ///
     /// <code style="display: block; tab-size: 4; white-space: pre-wrap">// In the words of [contracts](crate::contracts):
-    /// ensures value { entry_value (Occupied self.entry) ≡ [Some](crate::contracts::logic#Some) result }
-    /// ensures map { self.exit.0.now ≡ record (entry_map (Occupied self.entry)) {
-    /// &#32;&#32;values = [finite.remove](crate::contracts::logic#FinMap.remove) (entry_map (Occupied self.entry)).values
-    /// &#9;&#32;&#32;(entry_handle (Occupied self.entry));
+    /// ensures value { [entry_value](crate::contracts::ent_storage::entry#entry_value) ([Occupied](crate::contracts::ent_storage::entry#Occupied) self.entry) ≡ [Some](crate::contracts::logic#Some) result }
+    /// ensures map { self.exit.0.now ≡ record ([entry_map](crate::contracts::ent_storage::entry#entry_map) ([Occupied](crate::contracts::ent_storage::entry#Occupied) self.entry)) {
+    /// &#32;&#32;values = [finite.remove](crate::contracts::logic#FinMap.remove) ([entry_map](crate::contracts::ent_storage::entry#entry_map) ([Occupied](crate::contracts::ent_storage::entry#Occupied) self.entry)).values
+    /// &#9;&#32;&#32;([entry_handle](crate::contracts::ent_storage::entry#entry_handle) ([Occupied](crate::contracts::ent_storage::entry#Occupied) self.entry));
     /// } }
     /// </code>
     ///
@@ -380,7 +380,7 @@ impl<'a, T> VacantEntry<'a, T> {
     /// <details><summary>Contract</summary>
     ///
     /// <code style="display: block; tab-size: 4; white-space: pre-wrap">// In the words of [contracts](crate::contracts):
-    /// ensures { result ≡ entry_handle (Vacant self.now) }
+    /// ensures { result ≡ [entry_handle](crate::contracts::ent_storage::entry#entry_handle) ([Vacant](crate::contracts::ent_storage::entry#Vacant) self.now) }
     /// </code>
     ///
     /// </details>
@@ -412,10 +412,10 @@ impl<'a, T> VacantEntry<'a, T> {
     /// <details><summary>Contract</summary>
     ///
     /// <code style="display: block; tab-size: 4; white-space: pre-wrap">// In the words of [contracts](crate::contracts):
-    /// ensures\* writes_back { [sem](crate::contracts::logic#sem) 𝓛 (entry_lends T.row (Vacant self.entry) result) }
+    /// ensures\* writes_back { [sem](crate::contracts::logic#sem) 𝓛 ([entry_lends](crate::contracts::ent_storage::entry#entry_lends) T.row ([Vacant](crate::contracts::ent_storage::entry#Vacant) self.entry) result) }
     /// ensures value { [IfOk](crate::contracts::logic#IfOk) result (λ x. x.now ≡ value) }
-    /// ensures refused { IsRefusal (entry_map (Vacant self.entry))
-    /// &#9;(entry_handle (Vacant self.entry)) ([error_of](crate::contracts::ent_storage::handle_map#error_of) result) }
+    /// ensures refused { [IsRefusal](crate::contracts::ent_storage::entry#IsRefusal) ([entry_map](crate::contracts::ent_storage::entry#entry_map) ([Vacant](crate::contracts::ent_storage::entry#Vacant) self.entry))
+    /// &#9;([entry_handle](crate::contracts::ent_storage::entry#entry_handle) ([Vacant](crate::contracts::ent_storage::entry#Vacant) self.entry)) ([error_of](crate::contracts::ent_storage::handle_map#error_of) result) }
     /// ensures back { [IfErr](crate::contracts::logic#IfErr) result (λ refused. refused.value ≡ value) }
     /// </code>
     ///
