@@ -405,7 +405,7 @@ def main():
         # rustdoc says which contracts it shows, if all that they may link to is there.
         write(pages(cited_in_sources())[0])
         with tempfile.TemporaryDirectory() as folder:
-            subprocess.run(["cargo", "doc", "--offline", "--quiet", "--no-deps", "--target-dir", folder], cwd=PAGES.parent.parent, check=True)
+            subprocess.run(["cargo", "doc", "--offline", "--quiet", "--no-deps", "--target-dir", folder], cwd="rust/offline", check=True)
             made, faults = pages(cited_in_docs(pathlib.Path(folder, "doc")))
         write(made)
     else:

@@ -17,6 +17,7 @@ import re
 import subprocess
 import sys
 import tempfile
+import urllib.parse
 
 TOP = pathlib.Path(__file__).resolve().parent.parent
 PACKAGE, SOURCES, MISTAKES = TOP / "rust/offline", TOP / "rust/forgeni/src", TOP / "rust/forgeni/tests/ui"
@@ -33,7 +34,8 @@ VOID = set("area base br col embed hr img input link meta param source track wbr
 
 
 class Page(html.parser.HTMLParser):
-    """A page: its anchors, its links, and the names in its signatures and in the code of its docs that are no links."""
+    """A page: its anchors, its links, and the names in its signatures and in the code of its docs that are no links. A contract is
+    left out: .ci/contracts.py looks its names up."""
 
     def __init__(self, text):
         super().__init__()
@@ -49,7 +51,7 @@ class Page(html.parser.HTMLParser):
         # What std implements for each type isn't the package's.
         if "implementations" in name and not name.startswith("impl") or name.startswith("deref-methods"):
             self.is_given = name.startswith(("blanket", "synthetic", "deref"))
-        where = "signature" if classes & {"code-header", "item-decl"} else "hint" if tag == "summary" else "pre" if tag == "pre" else "code" if tag == "code" else ""
+        where = "signature" if classes & {"code-header", "item-decl"} else "hint" if tag == "summary" else "pre" if tag == "pre" else "code" if tag == "code" else "contract" if tag == "details" else ""
         if where == "signature":
             self.signatures.append("")
         if where == "code" and "pre" not in self.state():
@@ -124,7 +126,7 @@ def faults_of(pages, public, hidden):
             target, _, anchor = href.partition("#")
             to = (path.parent / target).resolve() if target else path
             known = pages.get(to)
-            if not to.exists() or anchor and known and anchor not in known.anchors:
+            if not to.exists() or anchor and known and not known.anchors & {anchor, urllib.parse.unquote(anchor)}:
                 dead.append(f"{place}: {href} ({text})")
             elif target and (of := PAGE.search(to.name)) and is_other(text.strip(), of[1], anchor):
                 others.append(f"{place}: `{text}` leads to {href}")

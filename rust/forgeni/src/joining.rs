@@ -62,6 +62,7 @@ pub trait Leads {
     fn count(&self) -> usize;
 
     /// The values of these handles. If there are none, all values.
+    #[doc(hidden)]
     fn walk(self, handles: Option<impl BySlot>) -> impl Iterator<Item = (Handle, Self::Lent)>;
 }
 

@@ -44,7 +44,7 @@
 /// </pre>
 pub mod limits {}
 
-#[doc(alias("Allocator", "after_alloc", "after_allocs", "after_flush", "after_free", "after_take", "asked_at", "available", "before_requests", "born", "cursor", "following", "fresh", "has_slot", "in_front", "is_fresh", "is_old", "is_retired", "listed", "listed_alone", "made_at_flush", "next", "opening", "pool_at", "reply_from", "reply_to", "retired", "stands_in", "state_of", "top"))]
+#[doc(alias("Allocator", "after_alloc", "after_allocs", "after_flush", "after_free", "after_take", "asked_at", "available", "born", "cursor", "following", "fresh", "has_slot", "in_front", "is_fresh", "is_old", "is_retired", "listed", "listed_alone", "made_at_flush", "next", "opening", "pool_at", "reply_from", "reply_to", "retired", "stands_in", "state_of", "top"))]
 /// The sequential allocator: what one caller alone would see. Each call of `Entities` is one of its steps or two, or reads it, but for the rows, which stand beside it (`specs/Entities`). The calls of many threads are compared with it.
 ///
 /// <pre>
@@ -217,12 +217,6 @@ pub mod limits {}
 ///   live = <a href="../../logic/index.html#FinSet.remove">set.remove</a> s.live h;
 ///   pool = <a href="#in_front">in_front</a> (<a href="#next">next</a> s.limits h) s.pool;
 /// }
-/// </pre>
-///
-/// <pre>
-/// -- the allocator before all requests since the last flush
-/// abbrev pub <b id="before_requests">before_requests</b> : <a href="#Allocator">Allocator</a> → <a href="#Allocator">Allocator</a>
-/// <a href="#before_requests">before_requests</a> s = record s { pool = <a href="#available">available</a> s; taken = []; aside = []; asked = 0 }
 /// </pre>
 ///
 /// <pre>
@@ -719,7 +713,7 @@ pub mod fault {}
 /// </pre>
 pub mod spent {}
 
-#[doc(alias("AreGivenOnce", "Call", "IsLegal", "after_history", "given_in", "handles_in"))]
+#[doc(alias("Call", "IsLegal", "after_history", "given_in", "handles_in"))]
 /// Histories: the reservations of many callers in one order, and what the sequential allocator says to them.
 ///
 /// <pre>
@@ -759,12 +753,6 @@ pub mod spent {}
 /// abbrev pub <b id="given_in">given_in</b> : <a href="../../logic/index.html#List">List</a> <a href="#Call">Call</a> → <a href="../../logic/index.html#List">List</a> <a href="../../ent_handle/handle/index.html#Handle">Handle</a>
 /// <a href="#given_in">given_in</a> [] = []
 /// <a href="#given_in">given_in</a> (call ∷ calls) = <a href="#handles_in">handles_in</a> call.reply ++ <a href="#given_in">given_in</a> calls
-/// </pre>
-///
-/// <pre>
-/// -- no handle is given twice
-/// abbrev pub <b id="AreGivenOnce">AreGivenOnce</b> : <a href="../../logic/index.html#List">List</a> <a href="../../ent_handle/handle/index.html#Handle">Handle</a> → Type 0
-/// <a href="#AreGivenOnce">AreGivenOnce</a> handles = <a href="../../logic/index.html#AllPairs">AllPairs</a> (λ g h. g ≢ h) handles
 /// </pre>
 pub mod history {}
 

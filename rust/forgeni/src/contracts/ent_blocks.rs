@@ -3,7 +3,7 @@
 //! The definitions of crate `ent_blocks`, in the order in which one reads them:
 //! [`blocks`], [`faults`], [`drawing`], [`ending`].
 
-#[doc(alias("Block", "Blocks", "Phase", "Reserver", "accounted", "after_blocks", "after_refusal", "after_use", "are_among", "blocks_from", "blocks_of", "dealt", "handles_of", "is_same", "lesser", "portion_of", "portions_of", "rest_of", "unused", "used_of", "wanted_by"))]
+#[doc(alias("Block", "Blocks", "Phase", "Reserver", "accounted", "after_blocks", "after_refusal", "after_use", "are_among", "blocks_of", "dealt", "handles_of", "is_same", "portion_of", "portions_of", "rest_of", "unused", "used_of", "wanted_by"))]
 /// Handles in blocks: the front of the pool is dealt to callers, and each is given the handles of its own block, in the pool\'s order, whatever the others do.
 ///
 /// <pre>
@@ -36,21 +36,6 @@
 /// abbrev pub <b id="dealt">dealt</b> : <a href="../../logic/index.html#List">List</a> <a href="#Block">Block</a> → <a href="../../logic/index.html#ℕ">ℕ</a>
 /// <a href="#dealt">dealt</a> [] = 0
 /// <a href="#dealt">dealt</a> (b ∷ blocks) = b.size + <a href="#dealt">dealt</a> blocks
-/// </pre>
-///
-/// <pre>
-/// -- Opening: a block for each size, one after the other from the pool's front, smaller where the pool
-/// -- ends.
-/// abbrev pub <b id="lesser">lesser</b> : <a href="../../logic/index.html#ℕ">ℕ</a> → <a href="../../logic/index.html#ℕ">ℕ</a> → <a href="../../logic/index.html#ℕ">ℕ</a>
-/// <a href="#lesser">lesser</a> n left = if nat_le n left then n else left
-/// </pre>
-///
-/// <pre>
-/// abbrev pub <b id="blocks_from">blocks_from</b> : <a href="../../logic/index.html#ℕ">ℕ</a> → <a href="../../logic/index.html#ℕ">ℕ</a> → <a href="../../logic/index.html#List">List</a> <a href="../../logic/index.html#ℕ">ℕ</a> → <a href="../../logic/index.html#List">List</a> <a href="#Block">Block</a>
-/// <a href="#blocks_from">blocks_from</a> before left [] = []
-/// <a href="#blocks_from">blocks_from</a> before left (n ∷ sizes) =
-///     record { before = before; size = <a href="#lesser">lesser</a> n left; used = 0 }
-///     ∷ <a href="#blocks_from">blocks_from</a> (before + <a href="#lesser">lesser</a> n left) (left - <a href="#lesser">lesser</a> n left) sizes
 /// </pre>
 ///
 /// <pre>

@@ -85,7 +85,7 @@ pub mod bytes {}
 /// </pre>
 pub mod component {}
 
-#[doc(alias("HasHandleForm", "IsDecimal", "handle_of", "handle_of_parts", "handle_text", "is_decimal", "is_handle", "number_of", "written"))]
+#[doc(alias("HasHandleForm", "IsDecimal", "handle_of", "handle_of_parts", "handle_text", "is_decimal", "is_handle", "written"))]
 /// Decimals, the texts of handles, and what a text is read as.
 ///
 /// <pre>
@@ -99,15 +99,6 @@ pub mod component {}
 /// <pre>
 /// abbrev pub <b id="IsDecimal">IsDecimal</b> : <a href="../../logic/index.html#List">List</a> <a href="../../logic/index.html#ℕ">ℕ</a> → Type 0
 /// <a href="#IsDecimal">IsDecimal</a> bytes = <a href="../../logic/index.html#IsTrue">IsTrue</a> (<a href="#is_decimal">is_decimal</a> bytes)
-/// </pre>
-///
-/// <pre>
-/// -- the number below 2^32 that a decimal writes
-/// abbrev pub <b id="number_of">number_of</b> : <a href="../../logic/index.html#List">List</a> <a href="../../logic/index.html#ℕ">ℕ</a> → <a href="../../logic/index.html#Result">Result</a> <a href="../../logic/index.html#ℕ">ℕ</a> TextFault
-/// <a href="#number_of">number_of</a> bytes =
-///     if <a href="#is_decimal">is_decimal</a> bytes
-///     then (if nat_lt (<a href="../../logic/index.html#digits_value">digits_value</a> 10 bytes) (2 ^ 32) then <a href="../../logic/index.html#Ok">Ok</a> (<a href="../../logic/index.html#digits_value">digits_value</a> 10 bytes) else <a href="../../logic/index.html#Err">Err</a> Range)
-///     else <a href="../../logic/index.html#Err">Err</a> Shape
 /// </pre>
 ///
 /// <pre>

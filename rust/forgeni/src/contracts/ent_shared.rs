@@ -1,9 +1,9 @@
 // Made of crates/ent_shared/specs by .ci/contracts.py. It isn't edited by hand.
 
 //! The definitions of crate `ent_shared`, in the order in which one reads them:
-//! [`record`], [`moves`], [`phase`], [`order`], [`replies`], [`requests`], [`ending`].
+//! [`record`], [`moves`], [`phase`], [`order`], [`replies`], [`ending`].
 
-#[doc(alias("after_reservation", "known_reservations", "low", "opened", "opened_records", "own_reservations", "requested_by", "reservation_at", "reservations_in"))]
+#[doc(alias("after_reservation", "known_reservations", "low", "own_reservations", "requested_by", "reservation_at", "reservations_in"))]
 /// What one reserver has done in a phase, and how a reservation adds to it.
 ///
 /// <pre>
@@ -38,27 +38,6 @@
 /// -- how many handles a reserver has requested, served or not
 /// abbrev pub <b id="requested_by">requested_by</b> : Record → <a href="../../logic/index.html#ℕ">ℕ</a>
 /// <a href="#requested_by">requested_by</a> r = sum_by (λ (c : Reservation). c.requested) (<a href="#own_reservations">own_reservations</a> r.entries)
-/// </pre>
-///
-/// <pre>
-/// -- a reserver that has done nothing yet
-/// abbrev pub <b id="opened">opened</b> : <a href="../../ent_alloc/sequential/index.html#Allocator">Allocator</a> → <a href="../../logic/index.html#ℕ">ℕ</a> → Record
-/// <a href="#opened">opened</a> start number = record {
-///   start = start;
-///   number = number;
-///   entries = [];
-///   left = <a href="../../ent_alloc/limits/index.html#quota">quota</a>;
-///   mark = <a href="../../ent_alloc/sequential/index.html#cursor">cursor</a> start;
-///   floor = <a href="../../ent_alloc/sequential/index.html#cursor">cursor</a> start;
-/// }
-/// </pre>
-///
-/// <pre>
-/// -- that many of them, numbered from here on
-/// unfoldable pub <b id="opened_records">opened_records</b> : <a href="../../ent_alloc/sequential/index.html#Allocator">Allocator</a> → <a href="../../logic/index.html#ℕ">ℕ</a> → <a href="../../logic/index.html#ℕ">ℕ</a> → <a href="../../logic/index.html#List">List</a> Record
-/// <a href="#opened_records">opened_records</a> start number zero = []
-/// <a href="#opened_records">opened_records</a> start number (suc count) =
-///     <a href="#opened">opened</a> start number ∷ <a href="#opened_records">opened_records</a> start (number + 1) count
 /// </pre>
 ///
 /// <pre>
@@ -274,42 +253,6 @@ pub mod order {}
 ///   pub gains : 0 &lt; n → n ≤ before.own.left → <a href="#Reserves">Reserves</a> shared before after n reply
 /// </pre>
 pub mod replies {}
-
-#[doc(alias("FitQuota", "FitsQuota", "cost", "stands_for"))]
-/// What requests ask of a shared allocator: which of them are reservations, what they cost of the quota, and what the record of a reserver gains by them.
-///
-/// <pre>
-/// -- The reservation for which a request stands: a request for no handle is none, nor is one that the
-/// -- quota refuses.
-/// abbrev pub <b id="stands_for">stands_for</b> : <a href="../../ent_alloc/serving/index.html#Request">Request</a> → <a href="../../logic/index.html#List">List</a> (<a href="../../logic/index.html#ℕ">ℕ</a> × <a href="../../logic/index.html#Result">Result</a> (<a href="../../logic/index.html#List">List</a> <a href="../../ent_handle/handle/index.html#Handle">Handle</a>) OutOfSpace)
-/// <a href="#stands_for">stands_for</a> (n, <a href="../../logic/index.html#Ok">Ok</a> handles) = served_as n handles
-/// <a href="#stands_for">stands_for</a> (n, <a href="../../logic/index.html#Err">Err</a> (Space wanted left)) = (n, <a href="../../logic/index.html#Err">Err</a> (record { wanted = wanted; left = left })) ∷ []
-/// <a href="#stands_for">stands_for</a> (n, <a href="../../logic/index.html#Err">Err</a> (Quota left)) = []
-/// </pre>
-///
-/// <pre>
-/// -- how much quota it has cost
-/// abbrev pub <b id="cost">cost</b> : <a href="../../ent_alloc/serving/index.html#Request">Request</a> → <a href="../../logic/index.html#ℕ">ℕ</a>
-/// <a href="#cost">cost</a> request = sum_by (λ (one : <a href="../../logic/index.html#ℕ">ℕ</a> × <a href="../../logic/index.html#Result">Result</a> (<a href="../../logic/index.html#List">List</a> <a href="../../ent_handle/handle/index.html#Handle">Handle</a>) OutOfSpace). one.0) (<a href="#stands_for">stands_for</a> request)
-/// </pre>
-///
-/// <pre>
-/// -- It fits the quota that was left. A refusal for lack of quota says what was left, and more was
-/// -- wanted.
-/// abbrev pub <b id="FitsQuota">FitsQuota</b> : <a href="../../logic/index.html#ℕ">ℕ</a> → <a href="../../ent_alloc/serving/index.html#Request">Request</a> → Type 0
-/// <a href="#FitsQuota">FitsQuota</a> left (n, <a href="../../logic/index.html#Ok">Ok</a> handles) = n ≤ left
-/// <a href="#FitsQuota">FitsQuota</a> left (n, <a href="../../logic/index.html#Err">Err</a> (Space wanted rest)) = n ≤ left
-/// <a href="#FitsQuota">FitsQuota</a> left (n, <a href="../../logic/index.html#Err">Err</a> (Quota rest)) = (rest ≡ left) × (left &lt; n)
-/// </pre>
-///
-/// <pre>
-/// -- each request at its turn
-/// abbrev pub <b id="FitQuota">FitQuota</b> : <a href="../../logic/index.html#ℕ">ℕ</a> → <a href="../../logic/index.html#List">List</a> <a href="../../ent_alloc/serving/index.html#Request">Request</a> → Type 0
-/// <a href="#FitQuota">FitQuota</a> left [] = Unit {0}
-/// <a href="#FitQuota">FitQuota</a> left (request ∷ requests) =
-///     <a href="#FitsQuota">FitsQuota</a> left request × <a href="#FitQuota">FitQuota</a> (left - <a href="#cost">cost</a> request) requests
-/// </pre>
-pub mod requests {}
 
 #[doc(alias("EndsWithAll", "EndsWithSome"))]
 /// What a phase of a shared allocator ends with, as one fact: each field is a clause of `Shared::close` or `Shared::close_lost`. For callers that cite it whole.

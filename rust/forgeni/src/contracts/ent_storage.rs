@@ -1,19 +1,7 @@
 // Made of crates/ent_storage/specs by .ci/contracts.py. It isn't edited by hand.
 
 //! The definitions of crate `ent_storage`, in the order in which one reads them:
-//! [`position`], [`bundle`], [`components`], [`entity_map`], [`birth_order`], [`places`], [`sparse_set`], [`living`], [`indexed`], [`handle_map`], [`lends`], [`entry`], [`retained`], [`copies`], [`image`], [`first_fault`], [`sparse_map`], [`sparse_entry`], [`sparse_lends`].
-
-#[doc(alias("IsAt"))]
-/// The position of a key in a list of pairs whose keys strictly rise, or where it would go.
-///
-/// <pre>
-/// module _ {K X : Type 0} (R : K → K → Ordering) where
-///   -- the pair at position i has the key
-///   pub record <b id="IsAt">IsAt</b> (pairs : <a href="../../logic/index.html#List">List</a> (K × X)) (key : K) (i : <a href="../../logic/index.html#ℕ">ℕ</a>) : Type 0 where
-///     pub in_range : i &lt; <a href="../../logic/index.html#length">length</a> pairs
-///     pub has_key : HoldsAt (λ pair. R pair.0 key ≡ Equal) pairs i
-/// </pre>
-pub mod position {}
+//! [`bundle`], [`components`], [`entity_map`], [`birth_order`], [`places`], [`handle_map`], [`lends`], [`entry`], [`retained`], [`image`], [`sparse_map`], [`sparse_entry`], [`sparse_lends`].
 
 #[doc(alias("Bundle", "IsBundle", "IsItem", "bundle_of", "with_put"))]
 /// A bundle: the components that an entity is given, and their values.
@@ -145,7 +133,7 @@ pub mod components {}
 /// </pre>
 pub mod entity_map {}
 
-#[doc(alias("IsInOrder", "IsLeastOf", "ListsAll", "ListsByBirth", "ListsWith", "pair_cmp"))]
+#[doc(alias("ListsAll", "ListsByBirth", "ListsWith"))]
 /// Lists of handles in the order of births.
 ///
 /// <pre>
@@ -175,30 +163,6 @@ pub mod entity_map {}
 /// abbrev pub <b id="ListsWith">ListsWith</b> : ComponentId → <a href="../entity_map/index.html#EntityMap">EntityMap</a> → <a href="../../logic/index.html#List">List</a> <a href="../../ent_handle/handle/index.html#Handle">Handle</a> → Type 0
 /// <a href="#ListsWith">ListsWith</a> id = <a href="#ListsByBirth">ListsByBirth</a> (λ e. <a href="../../logic/index.html#FinMap.contains_key">finite.contains_key</a> e.components id)
 /// </pre>
-///
-/// <pre>
-/// -- pairs of a birth and a handle, in the same order
-/// abbrev pub <b id="pair_cmp">pair_cmp</b> : Birth × <a href="../../ent_handle/handle/index.html#Handle">Handle</a> → Birth × <a href="../../ent_handle/handle/index.html#Handle">Handle</a> → Ordering
-/// <a href="#pair_cmp">pair_cmp</a> = then_cmp (on (λ pair. pair.0) <a href="../../ent_handle/birth/index.html#birth_cmp">birth_cmp</a>) (on (λ pair. pair.1) <a href="../../ent_handle/handle/index.html#handle_cmp">handle_cmp</a>)
-/// </pre>
-///
-/// <pre>
-/// -- the handles are those of the pairs, in order
-/// pub record <b id="IsInOrder">IsInOrder</b> (pairs : <a href="../../logic/index.html#List">List</a> (Birth × <a href="../../ent_handle/handle/index.html#Handle">Handle</a>)) (handles : <a href="../../logic/index.html#List">List</a> <a href="../../ent_handle/handle/index.html#Handle">Handle</a>) : Type 0 where
-///   pub sorted : <a href="../../logic/index.html#List">List</a> (Birth × <a href="../../ent_handle/handle/index.html#Handle">Handle</a>)
-///   pub permutation : IsPermutation pairs sorted
-///   pub in_order : IsSorted <a href="#pair_cmp">pair_cmp</a> sorted
-///   pub are : handles ≡ <a href="../../logic/index.html#map">map</a> (λ pair. pair.1) sorted
-/// </pre>
-///
-/// <pre>
-/// -- the handle is the least of those that the pairs have with the birth; without one, none has it
-/// pub record <b id="IsLeastOf">IsLeastOf</b> (birth : Birth) (pairs : <a href="../../logic/index.html#List">List</a> (Birth × <a href="../../ent_handle/handle/index.html#Handle">Handle</a>)) (least : <a href="../../logic/index.html#Option">Option</a> <a href="../../ent_handle/handle/index.html#Handle">Handle</a>)
-///     : Type 0 where
-///   pub listed : <a href="../../logic/index.html#IfSome">IfSome</a> least (λ h. <a href="../../logic/index.html#Contains">Contains</a> pairs (birth, h))
-///   pub before : (h : <a href="../../ent_handle/handle/index.html#Handle">Handle</a>) → <a href="../../logic/index.html#Contains">Contains</a> pairs (birth, h)
-///       → IsSomeAnd least (λ l. <a href="../../ent_handle/handle/index.html#handle_cmp">handle_cmp</a> l h ≢ Greater)
-/// </pre>
 pub mod birth_order {}
 
 #[doc(alias("AreWithout"))]
@@ -212,139 +176,6 @@ pub mod birth_order {}
 ///   pub others : (k : <a href="../../logic/index.html#ℕ">ℕ</a>) → k ≢ place → k + 1 &lt; <a href="../../logic/index.html#length">length</a> old → <a href="../../logic/index.html#slice_get">slice_get</a> new k ≡ <a href="../../logic/index.html#slice_get">slice_get</a> old k
 /// </pre>
 pub mod places {}
-
-#[doc(alias("Column", "Fits", "HasRoomAt", "HasRoomFor", "Values", "no_column"))]
-/// The values of one component: a finite map from places, and the two vectors that stand for it.
-///
-/// <pre>
-/// -- the value at each place that has one
-/// abbrev pub <b id="Values">Values</b> : Type 0
-/// <a href="#Values">Values</a> = <a href="../../logic/index.html#FinMap.FinMap">map.FinMap</a> <a href="../../logic/index.html#nat_cmp">nat_cmp</a> <a href="../../logic/index.html#ℤ">ℤ</a>
-/// </pre>
-///
-/// <pre>
-/// -- The values of one component, for how many more of them there is room, and for how many places.
-/// -- Then the length and the capacity of the dense vector, and the capacity of the sparse one.
-/// pub record <b id="Column">Column</b> : Type 0 where
-///   pub values : <a href="#Values">Values</a>
-///   pub spare : <a href="../../logic/index.html#ℕ">ℕ</a>
-///   pub places : <a href="../../logic/index.html#ℕ">ℕ</a>
-///   pub count : <a href="../../logic/index.html#ℕ">ℕ</a>
-///   pub value_room : <a href="../../logic/index.html#ℕ">ℕ</a>
-///   pub place_room : <a href="../../logic/index.html#ℕ">ℕ</a>
-/// </pre>
-///
-/// <pre>
-/// -- a column of no values, without room
-/// abbrev pub <b id="no_column">no_column</b> : <a href="#Column">Column</a>
-/// <a href="#no_column">no_column</a> = record {
-///   values = <a href="../../logic/index.html#FinMap.empty">map.empty</a>;
-///   spare = 0;
-///   places = 0;
-///   count = 0;
-///   value_room = 0;
-///   place_room = 0;
-/// }
-/// </pre>
-///
-/// <pre>
-/// -- a value can be set at the place without memory
-/// pub record <b id="HasRoomAt">HasRoomAt</b> (column : <a href="#Column">Column</a>) (place : <a href="../../logic/index.html#ℕ">ℕ</a>) : Type 0 where
-///   pub spare : <a href="../../logic/index.html#FinMap.get">map.get</a> column.values place ≡ <a href="../../logic/index.html#None">None</a> → 0 &lt; column.spare
-///   pub in_range : <a href="../../logic/index.html#FinMap.get">map.get</a> column.values place ≡ <a href="../../logic/index.html#None">None</a> → place &lt; column.places
-/// </pre>
-///
-/// <pre>
-/// -- the vectors of the source fit into those of the column
-/// pub record <b id="Fits">Fits</b> (column source : <a href="#Column">Column</a>) : Type 0 where
-///   pub some : 0 &lt; source.count
-///   pub values : source.count ≤ column.value_room
-///   pub places : source.places ≤ column.place_room
-/// </pre>
-///
-/// <pre>
-/// -- the column can take over the values of the source without memory
-/// abbrev pub <b id="HasRoomFor">HasRoomFor</b> : <a href="#Column">Column</a> → <a href="#Column">Column</a> → Type 0
-/// <a href="#HasRoomFor">HasRoomFor</a> column source = (source.values ≡ <a href="../../logic/index.html#FinMap.empty">map.empty</a>) ⊎ <a href="#Fits">Fits</a> column source
-/// </pre>
-pub mod sparse_set {}
-
-#[doc(alias("IsValueAt", "LivingEntity", "column_at", "components_at", "items_from", "value_at", "with_value"))]
-/// The living entities place by place, and the residents and columns that stand for them.
-///
-/// <pre>
-/// -- one living entity
-/// pub record <b id="LivingEntity">LivingEntity</b> : Type 0 where
-///   pub handle : <a href="../../ent_handle/handle/index.html#Handle">Handle</a>
-///   pub birth : Birth
-///   pub components : <a href="../components/index.html#Components">Components</a>
-/// </pre>
-///
-/// <pre>
-/// -- the column of a component number
-/// abbrev pub <b id="column_at">column_at</b> : <a href="../../logic/index.html#List">List</a> <a href="../sparse_set/index.html#Column">Column</a> → <a href="../../logic/index.html#ℕ">ℕ</a> → <a href="../sparse_set/index.html#Column">Column</a>
-/// <a href="#column_at">column_at</a> columns number = slice_index_or columns number <a href="../sparse_set/index.html#no_column">no_column</a>
-/// </pre>
-///
-/// <pre>
-/// -- the value of a component at a place
-/// abbrev pub <b id="value_at">value_at</b> : <a href="../../logic/index.html#List">List</a> <a href="../sparse_set/index.html#Column">Column</a> → <a href="../../logic/index.html#ℕ">ℕ</a> → ComponentId → <a href="../../logic/index.html#Option">Option</a> <a href="../../logic/index.html#ℤ">ℤ</a>
-/// <a href="#value_at">value_at</a> columns place id = <a href="../../logic/index.html#FinMap.get">map.get</a> (<a href="#column_at">column_at</a> columns id.0).values place
-/// </pre>
-///
-/// <pre>
-/// -- the items after one component's value is put before the others'
-/// abbrev pub <b id="with_value">with_value</b> : <a href="../../logic/index.html#Option">Option</a> <a href="../../logic/index.html#ℤ">ℤ</a> → <a href="../../logic/index.html#ℕ">ℕ</a> → <a href="../../logic/index.html#List">List</a> (ComponentId × <a href="../../logic/index.html#ℤ">ℤ</a>) → <a href="../../logic/index.html#List">List</a> (ComponentId × <a href="../../logic/index.html#ℤ">ℤ</a>)
-/// <a href="#with_value">with_value</a> <a href="../../logic/index.html#None">None</a> number items = items
-/// <a href="#with_value">with_value</a> (<a href="../../logic/index.html#Some">Some</a> v) number items = (record { 0 = number }, v) ∷ items
-/// </pre>
-///
-/// <pre>
-/// -- the components at a place and their values, if the first column is that of the number
-/// abbrev pub <b id="items_from">items_from</b> : <a href="../../logic/index.html#ℕ">ℕ</a> → <a href="../../logic/index.html#List">List</a> <a href="../sparse_set/index.html#Column">Column</a> → <a href="../../logic/index.html#ℕ">ℕ</a> → <a href="../../logic/index.html#List">List</a> (ComponentId × <a href="../../logic/index.html#ℤ">ℤ</a>)
-/// <a href="#items_from">items_from</a> number [] place = []
-/// <a href="#items_from">items_from</a> number (column ∷ columns) place =
-///     <a href="#with_value">with_value</a> (<a href="../../logic/index.html#FinMap.get">map.get</a> column.values place) number (<a href="#items_from">items_from</a> (suc number) columns place)
-/// </pre>
-///
-/// <pre>
-/// abbrev pub <b id="components_at">components_at</b> : <a href="../../logic/index.html#List">List</a> <a href="../sparse_set/index.html#Column">Column</a> → <a href="../../logic/index.html#ℕ">ℕ</a> → <a href="../components/index.html#Components">Components</a>
-/// <a href="#components_at">components_at</a> columns place = map.from_sorted (<a href="#items_from">items_from</a> 0 columns place)
-/// </pre>
-///
-/// <pre>
-/// -- the component of the entity at the place has that value
-/// abbrev pub <b id="IsValueAt">IsValueAt</b> : <a href="../../logic/index.html#List">List</a> <a href="#LivingEntity">LivingEntity</a> → <a href="../../logic/index.html#ℕ">ℕ</a> → ComponentId → <a href="../../logic/index.html#ℤ">ℤ</a> → Type 0
-/// <a href="#IsValueAt">IsValueAt</a> living place id v =
-///     option_and_then (λ e. <a href="../../logic/index.html#FinMap.get">map.get</a> e.components id) (<a href="../../logic/index.html#slice_get">slice_get</a> living place) ≡ <a href="../../logic/index.html#Some">Some</a> v
-/// </pre>
-pub mod living {}
-
-#[doc(alias("Keeps", "counted", "has_handle_at"))]
-/// The living entities as a list, and the index that has the place of each handle.
-///
-/// <pre>
-/// -- whether the entity at the place has that handle
-/// abbrev pub <b id="has_handle_at">has_handle_at</b> : <a href="../../logic/index.html#List">List</a> <a href="../living/index.html#LivingEntity">LivingEntity</a> → <a href="../../ent_handle/handle/index.html#Handle">Handle</a> → <a href="../../logic/index.html#Option">Option</a> <a href="../../logic/index.html#ℕ">ℕ</a> → <a href="../../logic/index.html#Bool">Bool</a>
-/// <a href="#has_handle_at">has_handle_at</a> living h <a href="../../logic/index.html#None">None</a> = <a href="../../logic/index.html#false">false</a>
-/// <a href="#has_handle_at">has_handle_at</a> living h (<a href="../../logic/index.html#Some">Some</a> i) =
-///     option_map_or (λ entity. eq_by_cmp <a href="../../ent_handle/handle/index.html#handle_cmp">handle_cmp</a> entity.handle h) (<a href="../../logic/index.html#slice_get">slice_get</a> living i) <a href="../../logic/index.html#false">false</a>
-/// </pre>
-///
-/// <pre>
-/// -- The places that count: an index also keeps handles of entities that are gone.
-/// abbrev pub <b id="counted">counted</b> : <a href="../../logic/index.html#List">List</a> <a href="../living/index.html#LivingEntity">LivingEntity</a> → <a href="../../logic/index.html#FinMap.FinMap">finite.FinMap</a> <a href="../../ent_handle/handle/index.html#handle_cmp">handle_cmp</a> <a href="../../logic/index.html#ℕ">ℕ</a> → <a href="../../logic/index.html#FinMap.FinMap">finite.FinMap</a> <a href="../../ent_handle/handle/index.html#handle_cmp">handle_cmp</a> <a href="../../logic/index.html#ℕ">ℕ</a>
-/// <a href="#counted">counted</a> living index =
-///     finite.retain_keys index (λ h. <a href="#has_handle_at">has_handle_at</a> living h (<a href="../../logic/index.html#FinMap.get">finite.get</a> index h))
-/// </pre>
-///
-/// <pre>
-/// -- an index keeps the places of all handles but one
-/// abbrev pub <b id="Keeps">Keeps</b> : <a href="../../ent_handle/handle/index.html#Handle">Handle</a> → <a href="../../logic/index.html#FinMap.FinMap">finite.FinMap</a> <a href="../../ent_handle/handle/index.html#handle_cmp">handle_cmp</a> <a href="../../logic/index.html#ℕ">ℕ</a> → <a href="../../logic/index.html#FinMap.FinMap">finite.FinMap</a> <a href="../../ent_handle/handle/index.html#handle_cmp">handle_cmp</a> <a href="../../logic/index.html#ℕ">ℕ</a> → Type 0
-/// <a href="#Keeps">Keeps</a> h old new =
-///     (q : <a href="../../ent_handle/handle/index.html#Handle">Handle</a>) (i : <a href="../../logic/index.html#ℕ">ℕ</a>) → q ≢ h → <a href="../../logic/index.html#FinMap.get">finite.get</a> old q ≡ <a href="../../logic/index.html#Some">Some</a> i → <a href="../../logic/index.html#FinMap.get">finite.get</a> new q ≡ <a href="../../logic/index.html#Some">Some</a> i
-/// </pre>
-pub mod indexed {}
 
 #[doc(alias("HandleMap", "HandleValues", "HasLater", "IsBeyond", "error_of", "no_limit", "placeholder", "same_handle", "with_written", "without_slot"))]
 /// What contracts see of a map from handles.
@@ -568,17 +399,6 @@ pub mod entry {}
 /// </pre>
 pub mod retained {}
 
-#[doc(alias("IsCopy"))]
-/// A copy of a column.
-///
-/// <pre>
-/// -- the same values, and no room where the first one has neither values nor room
-/// pub record <b id="IsCopy">IsCopy</b> (old new : <a href="../sparse_set/index.html#Column">Column</a>) : Type 0 where
-///   pub values : new.values ≡ old.values
-///   pub none : old ≡ <a href="../sparse_set/index.html#no_column">no_column</a> → new ≡ <a href="../sparse_set/index.html#no_column">no_column</a>
-/// </pre>
-pub mod copies {}
-
 #[doc(alias("AreStored", "IsBirth", "IsStored", "birth_bytes", "component", "entities_bytes", "entity_bytes", "is_held", "value_bytes", "values_bytes", "width", "width_below"))]
 /// The bytes of entities: what the image of a world has of its living ones.
 ///
@@ -664,48 +484,6 @@ pub mod copies {}
 ///   pub only : (h : <a href="../../ent_handle/handle/index.html#Handle">Handle</a>) → <a href="../../logic/index.html#IsTrue">IsTrue</a> (<a href="../../logic/index.html#FinMap.contains_key">map.contains_key</a> m h) → <a href="../../logic/index.html#Contains">Contains</a> handles h
 /// </pre>
 pub mod image {}
-
-#[doc(alias("AreFirst", "HasFault", "IsNoEntity"))]
-/// Which fault bytes have that are those of no entities: that of the first part that can\'t be read.
-///
-/// <pre>
-/// -- The bytes begin with those of the first entities, so many, after a width that there may be. What
-/// -- is left is told by them.
-/// pub record <b id="AreFirst">AreFirst</b> (handles : <a href="../../logic/index.html#List">List</a> <a href="../../ent_handle/handle/index.html#Handle">Handle</a>) (bytes : <a href="../../logic/index.html#List">List</a> <a href="../../logic/index.html#ℕ">ℕ</a>) (count : <a href="../../logic/index.html#ℕ">ℕ</a>) : Type 0 where
-///   pub <a href="../image/index.html#width">width</a> : <a href="../../logic/index.html#ℕ">ℕ</a>
-///   pub few : <a href="../image/index.html#width">width</a> ≤ 256
-///   pub entities : <a href="../entity_map/index.html#EntityMap">EntityMap</a>
-///   pub stored : (h : <a href="../../ent_handle/handle/index.html#Handle">Handle</a>) → <a href="../../logic/index.html#Contains">Contains</a> (<a href="../../logic/index.html#take">take</a> count handles) h → <a href="../image/index.html#IsStored">IsStored</a> entities h
-///   pub beyond : (h : <a href="../../ent_handle/handle/index.html#Handle">Handle</a>) → <a href="../../logic/index.html#Contains">Contains</a> (<a href="../../logic/index.html#take">take</a> count handles) h → (id : ComponentId) → <a href="../image/index.html#width">width</a> ≤ id.0
-///       → <a href="../entity_map/index.html#value_of">value_of</a> entities h id ≡ <a href="../../logic/index.html#None">None</a>
-///   pub left : <a href="../../logic/index.html#List">List</a> <a href="../../logic/index.html#ℕ">ℕ</a>
-///   pub spelled : bytes
-///       ≡ <a href="../../ent_handle/bytes/index.html#word">word</a> <a href="../image/index.html#width">width</a> ++ (flat_map (<a href="../image/index.html#entity_bytes">entity_bytes</a> <a href="../image/index.html#width">width</a> entities) (<a href="../../logic/index.html#take">take</a> count handles) ++ left)
-/// </pre>
-///
-/// <pre>
-/// -- no entity of this handle is written in their first bytes
-/// abbrev pub <b id="IsNoEntity">IsNoEntity</b> : <a href="../../logic/index.html#ℕ">ℕ</a> → <a href="../../logic/index.html#List">List</a> <a href="../../logic/index.html#ℕ">ℕ</a> → <a href="../../ent_handle/handle/index.html#Handle">Handle</a> → Type 0
-/// <a href="#IsNoEntity">IsNoEntity</a> <a href="../image/index.html#width">width</a> bytes h = (m : <a href="../entity_map/index.html#EntityMap">EntityMap</a>) (rest : <a href="../../logic/index.html#List">List</a> <a href="../../logic/index.html#ℕ">ℕ</a>) → <a href="../image/index.html#IsStored">IsStored</a> m h
-///     → bytes ≢ <a href="../image/index.html#entity_bytes">entity_bytes</a> <a href="../image/index.html#width">width</a> m h ++ rest
-/// </pre>
-///
-/// <pre>
-/// -- Too few bytes for a width, or bytes behind the entities; a width that there may not be, or not
-/// -- that of the entities; or behind the first entities, so many, the bytes of no entity.
-/// abbrev pub <b id="HasFault">HasFault</b> : <a href="../../logic/index.html#List">List</a> <a href="../../ent_handle/handle/index.html#Handle">Handle</a> → <a href="../../logic/index.html#List">List</a> <a href="../../logic/index.html#ℕ">ℕ</a> → StorageImageFault → Type 0
-/// <a href="#HasFault">HasFault</a> handles bytes Length =
-///     (<a href="../../logic/index.html#length">length</a> bytes &lt; 4) ⊎ ((all : <a href="#AreFirst">AreFirst</a> handles bytes (<a href="../../logic/index.html#length">length</a> handles)) × (all.left ≢ []))
-/// <a href="#HasFault">HasFault</a> handles bytes (Width number) =
-///     ((256 &lt; number) × (number &lt; 2 ^ 32) × ((rest : <a href="../../logic/index.html#List">List</a> <a href="../../logic/index.html#ℕ">ℕ</a>) × (bytes ≡ <a href="../../ent_handle/bytes/index.html#word">word</a> number ++ rest)))
-///     ⊎ ((all : <a href="#AreFirst">AreFirst</a> handles bytes (<a href="../../logic/index.html#length">length</a> handles)) × (all.left ≡ [])
-///     × (all.width ≡ number) × (<a href="../image/index.html#width">width</a> all.entities handles ≢ number))
-/// <a href="#HasFault">HasFault</a> handles bytes (Entity place) =
-///     (place &lt; <a href="../../logic/index.html#length">length</a> handles) × ((first : <a href="#AreFirst">AreFirst</a> handles bytes place)
-///     × HoldsAt (<a href="#IsNoEntity">IsNoEntity</a> first.width first.left) handles place)
-/// <a href="#HasFault">HasFault</a> handles bytes Memory = ⊥
-/// </pre>
-pub mod first_fault {}
 
 #[doc(alias("AreCloned", "AreEntries", "HasNone", "IsClonedOption", "IsFullFor", "SparseMap", "values_of", "with_written_in"))]
 /// What contracts see of a sparse map, and the two vectors that stand for it.

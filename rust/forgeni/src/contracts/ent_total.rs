@@ -246,7 +246,7 @@ pub mod closing {}
 /// </pre>
 pub mod faults {}
 
-#[doc(alias("AreBrokenOff", "IsHeld", "IsLeft", "spawned_after"))]
+#[doc(alias("spawned_after"))]
 /// What is said of a frame that didn\'t do all.
 ///
 /// <pre>
@@ -254,44 +254,6 @@ pub mod faults {}
 /// abbrev pub <b id="spawned_after">spawned_after</b> : SyncFault → <a href="../../logic/index.html#ℕ">ℕ</a> → <a href="../../logic/index.html#ℕ">ℕ</a>
 /// <a href="#spawned_after">spawned_after</a> fault.FlushMemory spawned = spawned
 /// <a href="#spawned_after">spawned_after</a> (fault.Memory system command done so_far) spawned = 0
-/// </pre>
-///
-/// <pre>
-/// module _ {S : Type 0} (may leave : S → <a href="../../ent_world/open_world/index.html#View">View</a> → <a href="../../logic/index.html#List">List</a> <a href="../../ent_queue/command/index.html#Command">Command</a> → Type 0) (systems : <a href="../../logic/index.html#List">List</a> S)
-///     (workers : <a href="../../logic/index.html#ℕ">ℕ</a>) where
-///   -- What is left of a frame that was broken off.
-///   pub record <b id="AreBrokenOff">AreBrokenOff</b> (before after : World) : Type 0 where
-///     pub history : <a href="../../logic/index.html#List">List</a> <a href="../../ent_alloc/history/index.html#Call">Call</a>
-///     pub broken_off : <a href="../../ent_runner/frame/index.html#IsBrokenOff">IsBrokenOff</a> may leave systems workers before.world history
-///     pub reserved : after.world ≡ <a href="../../ent_runner/frame/index.html#reserved_by">reserved_by</a> history before.world
-///     pub still : <a href="../../ent_runner/frame/index.html#IsLost">IsLost</a> before.world after.world
-///     pub some : 0 &lt; <a href="../../logic/index.html#length">length</a> systems
-///     pub counted : after.spawned ≡ before.spawned
-/// </pre>
-///
-/// <pre>
-///   -- What holds if all systems ran, and the sync point stopped.
-///   pub record <b id="IsHeld">IsHeld</b> (before after : World) (why : SyncFault) (queues : <a href="../batch/index.html#Queues">Queues</a>) : Type 0 where
-///     pub stops : <a href="../../ent_runner/frame/index.html#StopsAt">StopsAt</a> may systems workers before.world queues.queues after.world why
-///     pub of_world : queues.world ≡ before.number
-///     pub counted : after.spawned ≡ <a href="#spawned_after">spawned_after</a> why before.spawned
-/// </pre>
-///
-/// <pre>
-///   -- A frame of these systems left this, for this reason.
-///   abbrev pub <b id="IsLeft">IsLeft</b> : World → World → FrameError → Type 0
-///   <a href="#IsLeft">IsLeft</a> before after frame.NeedsFlush = after ≡ before
-///   <a href="#IsLeft">IsLeft</a> before after frame.Workers = after ≡ before
-///   <a href="#IsLeft">IsLeft</a> before after frame.Systems = after ≡ before
-///   <a href="#IsLeft">IsLeft</a> before after frame.Memory = (after ≡ before) × (0 &lt; <a href="../../logic/index.html#length">length</a> systems)
-///   <a href="#IsLeft">IsLeft</a> before after frame.Lost = <a href="#AreBrokenOff">AreBrokenOff</a> before after
-///   <a href="#IsLeft">IsLeft</a> before after (frame.Unapplied queues) =
-///       <a href="#IsHeld">IsHeld</a> before after fault.FlushMemory queues × (0 &lt; <a href="../../logic/index.html#length">length</a> after.world.allocator.taken)
-///   <a href="#IsLeft">IsLeft</a> before after (frame.Stopped stopped) =
-///       <a href="#IsHeld">IsHeld</a> before after (fault.Memory stopped.stop.system stopped.stop.command stopped.stop.done
-///       stopped.so_far) stopped.queues × (after.world.allocator.asked ≡ 0)
-///       × <a href="../../ent_world/memory/index.html#TakesMemoryAt">TakesMemoryAt</a> after.world stopped.stop.system stopped.stop.command stopped.stop.done
-///       stopped.queues.queues
 /// </pre>
 pub mod framing {}
 
@@ -490,27 +452,13 @@ pub mod issuing {}
 /// </pre>
 pub mod sharing {}
 
-#[doc(alias("IsBeyond", "before_count"))]
+#[doc(alias())]
 /// The image of a world of the package: that of its world, and how many entities `spawn` made since the last flush.
 ///
 /// <pre>
 /// -- the image of the world, and the number in four bytes
 /// abbrev pub <b id="image">image</b> : <a href="../../ent_world/world/index.html#World">World</a> → <a href="../../logic/index.html#ℕ">ℕ</a> → <a href="../../logic/index.html#List">List</a> <a href="../../logic/index.html#ℕ">ℕ</a>
 /// <a href="#image">image</a> w spawned = <a href="../../ent_world/image/index.html#image">world_image</a> w ++ <a href="../../ent_handle/bytes/index.html#word">word</a> spawned
-/// </pre>
-///
-/// <pre>
-/// -- the bytes of the world alone
-/// abbrev pub <b id="before_count">before_count</b> : <a href="../../logic/index.html#List">List</a> <a href="../../logic/index.html#ℕ">ℕ</a> → <a href="../../logic/index.html#List">List</a> <a href="../../logic/index.html#ℕ">ℕ</a>
-/// <a href="#before_count">before_count</a> bytes = <a href="../../logic/index.html#take">take</a> (<a href="../../logic/index.html#length">length</a> bytes - 4) bytes
-/// </pre>
-///
-/// <pre>
-/// -- the bytes are an image, and it is refused for the bound by this fault
-/// abbrev pub <b id="IsBeyond">IsBeyond</b> : <a href="../../logic/index.html#List">List</a> <a href="../../logic/index.html#ℕ">ℕ</a> → <a href="../../logic/index.html#ℕ">ℕ</a> → WorldImageFault → Type 0
-/// <a href="#IsBeyond">IsBeyond</a> bytes most fault =
-///     (w : <a href="../../ent_world/world/index.html#World">World</a>) × (spawned : <a href="../../logic/index.html#ℕ">ℕ</a>) × <a href="../../ent_world/image/index.html#HasImage">HasImage</a> w × (<a href="#image">image</a> w spawned ≡ bytes)
-///     × (most &lt; <a href="../../ent_alloc/within/index.html#slots_after_flush">slots_after_flush</a> w.allocator) × (fault ≡ Bound (<a href="../../ent_alloc/within/index.html#slots_after_flush">slots_after_flush</a> w.allocator))
 /// </pre>
 pub mod image {}
 

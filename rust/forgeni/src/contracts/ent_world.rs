@@ -1,9 +1,9 @@
 // Made of crates/ent_world/specs by .ci/contracts.py. It isn't edited by hand.
 
 //! The definitions of crate `ent_world`, in the order in which one reads them:
-//! [`world`], [`image`], [`rows`], [`first_fault`], [`open_world`], [`effects`], [`sync`], [`rest`], [`memory`], [`in_blocks`], [`within`].
+//! [`world`], [`image`], [`open_world`], [`effects`], [`sync`], [`rest`], [`memory`], [`in_blocks`].
 
-#[doc(alias("AreLiving", "IsWorld", "World", "first_world", "lives_in"))]
+#[doc(alias("AreLiving", "IsWorld", "World", "lives_in"))]
 /// A world: who is alive and what each of them is made of.
 ///
 /// <pre>
@@ -12,12 +12,6 @@
 ///   pub allocator : <a href="../../ent_alloc/sequential/index.html#Allocator">Allocator</a>
 ///   pub phase : <a href="../../logic/index.html#ℕ">ℕ</a>
 ///   pub entities : <a href="../../ent_storage/entity_map/index.html#EntityMap">EntityMap</a>
-/// </pre>
-///
-/// <pre>
-/// -- the world in which nobody ever lived
-/// abbrev pub <b id="first_world">first_world</b> : <a href="../../ent_alloc/limits/index.html#Limits">Limits</a> → <a href="#World">World</a>
-/// <a href="#first_world">first_world</a> limits = record { allocator = <a href="../../ent_alloc/sequential/index.html#opening">opening</a> limits; phase = 0; entities = <a href="../../logic/index.html#FinMap.empty">map.empty</a> }
 /// </pre>
 ///
 /// <pre>
@@ -41,7 +35,7 @@
 /// </pre>
 pub mod world {}
 
-#[doc(alias("HasImage", "allocator_of", "framed", "header_bytes", "least", "living", "magic", "most", "version"))]
+#[doc(alias("HasImage", "allocator_of", "framed", "header_bytes", "living", "magic", "most", "version"))]
 /// The image of a world: the bytes that are written of it. It tells all of the world, and nothing of how it came to be so or where its entities lie in memory.
 ///
 /// <pre>
@@ -93,12 +87,6 @@ pub mod world {}
 /// </pre>
 ///
 /// <pre>
-/// -- and at least so many bytes are in it
-/// abbrev pub <b id="least">least</b> : <a href="../world/index.html#World">World</a> → <a href="../../logic/index.html#ℕ">ℕ</a>
-/// <a href="#least">least</a> w = 72 + 12 * w.allocator.made + 16 * <a href="../../logic/index.html#length">length</a> (<a href="#living">living</a> w)
-/// </pre>
-///
-/// <pre>
 /// -- What is true of every world. Each of them has an image, and no two have the same.
 /// pub record <b id="HasImage">HasImage</b> (w : <a href="../world/index.html#World">World</a>) : Type 0 where
 ///   pub world : <a href="../world/index.html#IsWorld">IsWorld</a> w
@@ -107,93 +95,6 @@ pub mod world {}
 ///   pub stored : <a href="../../ent_storage/image/index.html#AreStored">AreStored</a> w.entities (<a href="#living">living</a> w)
 /// </pre>
 pub mod image {}
-
-#[doc(alias("Rows"))]
-/// For invariants, private contracts and proofs: the row that an allocator keeps with each living handle is the entity\'s place in the storage.
-///
-/// <pre>
-/// -- the rows of handles
-/// abbrev pub <b id="Rows">Rows</b> : Type 0
-/// <a href="#Rows">Rows</a> = <a href="../../logic/index.html#FinMap.FinMap">map.FinMap</a> <a href="../../ent_handle/handle/index.html#handle_cmp">handle_cmp</a> <a href="../../logic/index.html#ℕ">ℕ</a>
-/// </pre>
-pub mod rows {}
-
-#[doc(alias("AreCut", "AreFramed", "HasFault", "HaveAllocator", "IsFirstRow", "MayTakeMemory"))]
-/// Which fault bytes have that are the image of no world: that of the first part that can\'t be read.
-///
-/// <pre>
-/// -- the numbers in front, the allocator's part, and what follows it
-/// pub record <b id="AreFramed">AreFramed</b> (bytes : <a href="../../logic/index.html#List">List</a> <a href="../../logic/index.html#ℕ">ℕ</a>) : Type 0 where
-///   pub phase : <a href="../../logic/index.html#ℕ">ℕ</a>
-///   pub part : <a href="../../logic/index.html#List">List</a> <a href="../../logic/index.html#ℕ">ℕ</a>
-///   pub rest : <a href="../../logic/index.html#List">List</a> <a href="../../logic/index.html#ℕ">ℕ</a>
-///   pub phase_fits : phase &lt; 2 ^ 64
-///   pub len_fits : <a href="../../logic/index.html#length">length</a> part &lt; 2 ^ 64
-///   pub spelled : bytes ≡ <a href="../image/index.html#framed">framed</a> phase part rest
-/// </pre>
-///
-/// <pre>
-/// -- the numbers in front, but fewer bytes than the allocator's part has
-/// pub record <b id="AreCut">AreCut</b> (bytes : <a href="../../logic/index.html#List">List</a> <a href="../../logic/index.html#ℕ">ℕ</a>) : Type 0 where
-///   pub phase : <a href="../../logic/index.html#ℕ">ℕ</a>
-///   pub len : <a href="../../logic/index.html#ℕ">ℕ</a>
-///   pub rest : <a href="../../logic/index.html#List">List</a> <a href="../../logic/index.html#ℕ">ℕ</a>
-///   pub phase_fits : phase &lt; 2 ^ 64
-///   pub len_fits : len &lt; 2 ^ 64
-///   pub short : <a href="../../logic/index.html#length">length</a> rest &lt; len
-///   pub spelled : bytes ≡ <a href="../image/index.html#header_bytes">header_bytes</a> phase len ++ rest
-/// </pre>
-///
-/// <pre>
-/// -- the allocator's part too, with its living entities by rising slot
-/// pub record <b id="HaveAllocator">HaveAllocator</b> (bytes : <a href="../../logic/index.html#List">List</a> <a href="../../logic/index.html#ℕ">ℕ</a>) : Type 0 where
-///   pub parts : <a href="#AreFramed">AreFramed</a> bytes
-///   pub allocator : <a href="../../ent_alloc/entities/index.html#Entities">Allocator</a>
-///   pub has_image : <a href="../../ent_alloc/image/index.html#HasImage">HasAllocatorImage</a> allocator
-///   pub part_is : <a href="../../ent_alloc/image/index.html#image">allocator_image</a> allocator ≡ parts.part
-///   pub handles : <a href="../../logic/index.html#List">List</a> <a href="../../ent_handle/handle/index.html#Handle">Handle</a>
-///   pub rising : <a href="../../logic/index.html#AllPairs">AllPairs</a> (λ g h. g.index &lt; h.index) handles
-///   pub living : <a href="../../logic/index.html#FinSet.from_list">set.from_list</a> handles ≡ allocator.allocator.live
-/// </pre>
-///
-/// <pre>
-/// -- The slot of the first of these handles that has a row.
-/// pub record <b id="IsFirstRow">IsFirstRow</b> (rows : <a href="../rows/index.html#Rows">Rows</a>) (handles : <a href="../../logic/index.html#List">List</a> <a href="../../ent_handle/handle/index.html#Handle">Handle</a>) (index : <a href="../../logic/index.html#ℕ">ℕ</a>) : Type 0 where
-///   pub before : <a href="../../logic/index.html#List">List</a> <a href="../../ent_handle/handle/index.html#Handle">Handle</a>
-///   pub handle : <a href="../../ent_handle/handle/index.html#Handle">Handle</a>
-///   pub after : <a href="../../logic/index.html#List">List</a> <a href="../../ent_handle/handle/index.html#Handle">Handle</a>
-///   pub listed : handles ≡ before ++ handle ∷ after
-///   pub bare : <a href="../../logic/index.html#All">All</a> (λ h. <a href="../../logic/index.html#FinMap.get">map.get</a> rows h ≡ <a href="../../logic/index.html#None">None</a>) before
-///   pub has_row : <a href="../../logic/index.html#is_some">is_some</a> (<a href="../../logic/index.html#FinMap.get">map.get</a> rows handle) ≡ <a href="../../logic/index.html#true">true</a>
-///   pub slot : handle.index ≡ index
-/// </pre>
-///
-/// <pre>
-/// abbrev pub <b id="HasFault">HasFault</b> : <a href="../../logic/index.html#List">List</a> <a href="../../logic/index.html#ℕ">ℕ</a> → WorldImageFault → Type 0
-/// <a href="#HasFault">HasFault</a> bytes Magic = (rest : <a href="../../logic/index.html#List">List</a> <a href="../../logic/index.html#ℕ">ℕ</a>) → bytes ≢ <a href="../image/index.html#magic">magic</a> ++ rest
-/// <a href="#HasFault">HasFault</a> bytes Length = ((rest : <a href="../../logic/index.html#List">List</a> <a href="../../logic/index.html#ℕ">ℕ</a>) × (bytes ≡ <a href="../image/index.html#magic">magic</a> ++ rest))
-///     × ((<a href="../../logic/index.html#length">length</a> bytes &lt; 28) ⊎ <a href="#AreCut">AreCut</a> bytes)
-/// <a href="#HasFault">HasFault</a> bytes (Version number) = (28 ≤ <a href="../../logic/index.html#length">length</a> bytes) × (number &lt; 2 ^ 32) × (number ≢ <a href="../image/index.html#version">version</a>)
-///     × ((rest : <a href="../../logic/index.html#List">List</a> <a href="../../logic/index.html#ℕ">ℕ</a>) × (bytes ≡ <a href="../image/index.html#magic">magic</a> ++ (<a href="../../ent_handle/bytes/index.html#word">word</a> number ++ rest)))
-/// <a href="#HasFault">HasFault</a> bytes (Entities fault) =
-///     (parts : <a href="#AreFramed">AreFramed</a> bytes) × (<a href="../../ent_alloc/first_fault/index.html#first_fault">first_fault</a> parts.part ≡ <a href="../../logic/index.html#Some">Some</a> fault)
-/// <a href="#HasFault">HasFault</a> bytes (Row index) =
-///     (read : <a href="#HaveAllocator">HaveAllocator</a> bytes) × <a href="#IsFirstRow">IsFirstRow</a> read.allocator.rows read.handles index
-/// <a href="#HasFault">HasFault</a> bytes (Storage fault) =
-///     (read : <a href="#HaveAllocator">HaveAllocator</a> bytes) × (read.allocator.rows ≡ <a href="../../logic/index.html#FinMap.empty">map.empty</a>)
-///     × <a href="../../ent_storage/first_fault/index.html#HasFault">HasStorageFault</a> read.handles read.parts.rest fault
-/// <a href="#HasFault">HasFault</a> bytes (Bound slots) = ⊥
-/// <a href="#HasFault">HasFault</a> bytes Memory = ⊥
-/// </pre>
-///
-/// <pre>
-/// -- the allocator's part has no fault before its slots, and it has slots
-/// pub record <b id="MayTakeMemory">MayTakeMemory</b> (bytes : <a href="../../logic/index.html#List">List</a> <a href="../../logic/index.html#ℕ">ℕ</a>) : Type 0 where
-///   pub parts : <a href="#AreFramed">AreFramed</a> bytes
-///   pub faultless : <a href="../../ent_alloc/first_fault/index.html#header_fault">header_fault</a> parts.part ≡ <a href="../../logic/index.html#None">None</a>
-///   pub slots : 40 &lt; <a href="../../logic/index.html#length">length</a> parts.part
-/// </pre>
-pub mod first_fault {}
 
 #[doc(alias("OpenWorld", "View"))]
 /// What contracts see of a world whose allocator is shared, and of what a system may read of it.
@@ -324,7 +225,7 @@ pub mod open_world {}
 /// </pre>
 pub mod effects {}
 
-#[doc(alias("IfStopped", "IsStop", "after_births", "at_ordinal", "birth_in", "cut", "cut_commands", "cut_queue", "first_part", "handles_listed", "listed_birth", "listed_by", "next_phase", "no_system", "ordinal", "ordinal_among", "stops", "stops_in", "sync_until", "unlisted", "unlisted_birth", "with_born"))]
+#[doc(alias("IsStop", "after_births", "at_ordinal", "birth_in", "cut", "cut_commands", "cut_queue", "first_part", "handles_listed", "listed_birth", "listed_by", "next_phase", "no_system", "ordinal", "ordinal_among", "stops", "stops_in", "sync_until", "unlisted", "unlisted_birth", "with_born"))]
 /// The sync point: what is reserved is born, and then all commands take effect, queue by queue.
 ///
 /// <pre>
@@ -490,15 +391,6 @@ pub mod effects {}
 /// abbrev pub <b id="IsStop">IsStop</b> : <a href="../../logic/index.html#ℕ">ℕ</a> → <a href="../../logic/index.html#ℕ">ℕ</a> → <a href="../../logic/index.html#ℕ">ℕ</a> → <a href="../../logic/index.html#List">List</a> (<a href="../../logic/index.html#List">List</a> <a href="../../ent_queue/command/index.html#Command">Command</a>) → Type 0
 /// <a href="#IsStop">IsStop</a> system command done queues = done &lt; <a href="#stops_in">stops_in</a> command (<a href="../../logic/index.html#drop">drop</a> system queues)
 /// </pre>
-///
-/// <pre>
-/// -- what holds of a sync that stopped at a command for lack of memory
-/// abbrev pub <b id="IfStopped">IfStopped</b> : {X : Type 0} → <a href="../../logic/index.html#Result">Result</a> X SyncFault → (<a href="../../logic/index.html#ℕ">ℕ</a> → <a href="../../logic/index.html#ℕ">ℕ</a> → <a href="../../logic/index.html#ℕ">ℕ</a> → SyncReport → Type 0)
-///     → Type 0
-/// <a href="#IfStopped">IfStopped</a> (<a href="../../logic/index.html#Ok">Ok</a> x) P = Unit {0}
-/// <a href="#IfStopped">IfStopped</a> (<a href="../../logic/index.html#Err">Err</a> FlushMemory) P = Unit {0}
-/// <a href="#IfStopped">IfStopped</a> (<a href="../../logic/index.html#Err">Err</a> (Memory system command done so_far)) P = P system command done so_far
-/// </pre>
 pub mod sync {}
 
 #[doc(alias("HasStoppedSo", "IsLater", "IsLaterIn", "after_left", "after_left_queues", "last_part", "left_commands"))]
@@ -640,22 +532,3 @@ pub mod memory {}
 /// <a href="#world_after">world_after</a> w blocks = record w { allocator = <a href="../../ent_blocks/blocks/index.html#after_blocks">after_blocks</a> w.allocator blocks }
 /// </pre>
 pub mod in_blocks {}
-
-#[doc(alias("IsBeyond"))]
-/// Images of worlds that a reader with a bound takes: a flush of what was read leaves no more slots than that.
-///
-/// <pre>
-/// -- what has this allocator, if so many slots are allowed
-/// abbrev pub <b id="within">within</b> : {T : Type 0} → <a href="../../logic/index.html#ℕ">ℕ</a> → <a href="../../ent_alloc/sequential/index.html#Allocator">Allocator</a> → T → <a href="../../logic/index.html#Result">Result</a> T WorldImageFault
-/// <a href="#within">within</a> most s it =
-///     if nat_le (<a href="../../ent_alloc/within/index.html#slots_after_flush">slots_after_flush</a> s) most then <a href="../../logic/index.html#Ok">Ok</a> it else <a href="../../logic/index.html#Err">Err</a> (Bound (<a href="../../ent_alloc/within/index.html#slots_after_flush">slots_after_flush</a> s))
-/// </pre>
-///
-/// <pre>
-/// -- the bytes are an image, and it is refused for the bound by this fault
-/// abbrev pub <b id="IsBeyond">IsBeyond</b> : <a href="../../logic/index.html#List">List</a> <a href="../../logic/index.html#ℕ">ℕ</a> → <a href="../../logic/index.html#ℕ">ℕ</a> → WorldImageFault → Type 0
-/// <a href="#IsBeyond">IsBeyond</a> bytes most fault =
-///     (w : <a href="../world/index.html#World">World</a>) × <a href="../image/index.html#HasImage">HasImage</a> w × (<a href="../image/index.html#image">image</a> w ≡ bytes) × (most &lt; <a href="../../ent_alloc/within/index.html#slots_after_flush">slots_after_flush</a> w.allocator)
-///     × (fault ≡ Bound (<a href="../../ent_alloc/within/index.html#slots_after_flush">slots_after_flush</a> w.allocator))
-/// </pre>
-pub mod within {}
