@@ -5,6 +5,18 @@ use crate::handle::Handle;
 use alloc::collections::VecDeque;
 
 /// That an entity was born, or died.
+///
+/// ```
+/// use forgeni::{Change, Entities, History};
+///
+/// let (mut entities, mut history) = (Entities::new(), History::new());
+/// let ship = entities.alloc()?;
+/// history.born(&[ship]);
+/// entities.free(ship)?;
+/// history.died(ship);
+/// assert!(history.since(0).unwrap().eq([Change::Born(ship), Change::Died(ship)]));
+/// # Ok::<(), Box<dyn std::error::Error>>(())
+/// ```
 #[derive(Clone, Copy, Debug, PartialEq, Eq, Hash)]
 pub enum Change {
     /// The handle is alive from here on.
@@ -16,8 +28,8 @@ pub enum Change {
 /// Births and deaths in their order, each with its tick, for what mirrors the living: a renderer, or
 /// a physics engine.
 ///
-/// The program says what is born, as the list that a flush filled. Who dies it is told as a map is
-/// told to forget: a `History` [`Follows`] the entities. Ticks are the program's own, as those of
+/// The program says what is born, by the list that a flush filled. Deaths come as a map forgets its
+/// values: a `History` [`Follows`] the entities. Ticks are the program's own, as those of
 /// [`Tracked`](crate::Tracked).
 ///
 /// ```
@@ -67,6 +79,21 @@ impl History {
     }
 
     /// A list that keeps at most that many changes, the last ones. It takes no memory.
+    ///
+    /// ```
+    /// use forgeni::{Handle, History};
+    ///
+    /// let ship = Handle::new(0, 1).unwrap();
+    /// let mut history = History::with_limit(2);
+    /// for tick in 1..=3 {
+    ///     history.begin(tick);
+    ///     history.born(&[ship]);
+    /// }
+    /// assert_eq!(history.len(), 2);
+    /// // The change of tick 1 is lost, so only those that came later are listed.
+    /// assert!(history.since(1).is_none());
+    /// assert_eq!(history.since(2).unwrap().count(), 2);
+    /// ```
     #[must_use]
     pub const fn with_limit(limit: usize) -> Self {
         Self {
@@ -77,8 +104,17 @@ impl History {
         }
     }
 
-    /// Says at which tick the changes are that come now. Ticks don't go back: one that is less than
-    /// the present one changes nothing.
+    /// Sets the tick of the changes that follow. Ticks don't go back: one that is less than the
+    /// present one changes nothing.
+    ///
+    /// ```
+    /// use forgeni::History;
+    ///
+    /// let mut history = History::new();
+    /// history.begin(7);
+    /// history.begin(3);
+    /// assert_eq!(history.tick(), 7);
+    /// ```
     pub fn begin(&mut self, tick: u64) {
         self.tick = self.tick.max(tick);
     }
@@ -95,7 +131,16 @@ impl History {
         handles.iter().for_each(|one| self.push(Change::Born(*one)));
     }
 
-    /// Lists a death.
+    /// Lists a death. [`forget`](Follows::forget) does the same.
+    ///
+    /// ```
+    /// use forgeni::{Change, Handle, History};
+    ///
+    /// let ship = Handle::new(0, 1).unwrap();
+    /// let mut history = History::new();
+    /// history.died(ship);
+    /// assert!(history.since(0).unwrap().eq([Change::Died(ship)]));
+    /// ```
     pub fn died(&mut self, handle: Handle) {
         self.push(Change::Died(handle));
     }
@@ -115,6 +160,18 @@ impl History {
     ///
     /// `None` if the list may lack some of them. Then mirror all that is
     /// [alive](crate::Entities::iter) anew.
+    ///
+    /// ```
+    /// use forgeni::{Handle, History};
+    ///
+    /// let [ship, drone] = [Handle::new(0, 1).unwrap(), Handle::new(1, 1).unwrap()];
+    /// let mut history = History::new();
+    /// history.born(&[ship]);
+    /// history.begin(1);
+    /// history.born(&[drone]);
+    /// assert_eq!(history.since(0).unwrap().len(), 2);
+    /// assert_eq!(history.since(1).unwrap().len(), 1);
+    /// ```
     #[must_use]
     pub fn since(
         &self,
@@ -126,15 +183,36 @@ impl History {
     }
 
     /// Drops the changes before this tick, which nobody needs any more. The room stays.
+    ///
+    /// ```
+    /// use forgeni::{Handle, History};
+    ///
+    /// let mut history = History::new();
+    /// history.born(&[Handle::new(0, 1).unwrap()]);
+    /// history.forget_before(1);
+    /// assert!(history.is_empty() && history.since(0).is_none());
+    /// ```
     pub fn forget_before(&mut self, tick: u64) {
         let end = self.changes.partition_point(|(at, _)| *at < tick);
         self.changes.drain(..end);
         self.lost = self.lost.max(tick.checked_sub(1));
     }
 
-    /// Begins anew at this tick, after the living became others in a way that nobody listed: the
-    /// program went back to a snapshot, or loaded a save. Let its ticks go on in spite of that: who
-    /// asks for the changes since this tick or one before gets `None`.
+    /// Begins anew at this tick, after other entities came to life than were listed: the program went
+    /// back to a snapshot, or loaded a save. Ticks go on nevertheless: for this tick and those before
+    /// it, [`since`](Self::since) returns `None`.
+    ///
+    /// ```
+    /// use forgeni::{Entities, History};
+    ///
+    /// let (mut entities, mut history) = (Entities::new(), History::new());
+    /// let before = entities.try_clone()?;
+    /// history.born(&[entities.alloc()?]);
+    /// entities.try_clone_from(&before)?;
+    /// history.restart(1);
+    /// assert!(history.since(0).is_none() && history.since(2).is_some());
+    /// # Ok::<(), Box<dyn std::error::Error>>(())
+    /// ```
     pub fn restart(&mut self, tick: u64) {
         self.begin(tick);
         self.changes.clear();

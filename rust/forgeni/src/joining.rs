@@ -53,6 +53,22 @@ pub trait JoinMaps {
 
 /// A map that a walk over several begins with: either map, borrowed, and mutably if its values are to change.
 /// [`JoinMaps::join`] calls what it has.
+///
+/// ```
+/// use forgeni::map::Leads;
+/// use forgeni::{HandleMap, JoinMaps, SparseMap};
+///
+/// /// The values of a map, of entities that have a name.
+/// fn named<M>(map: M, names: &SparseMap<String>) -> usize
+/// where
+///     M: Leads,
+///     for<'a> (M, &'a SparseMap<String>): JoinMaps,
+/// {
+///     (map, names).join().count()
+/// }
+///
+/// assert_eq!(named(&HandleMap::<u32>::new(), &SparseMap::new()), 0);
+/// ```
 pub trait Leads {
     /// What the walk gives of a value.
     type Lent;
@@ -124,7 +140,7 @@ enum Walk<F, O> {
 impl<T, F: Iterator<Item = T>, O: Iterator<Item = T>> Iterator for Walk<F, O> {
     type Item = T;
 
-    #[inline]
+    #[inline(always)]
     fn next(&mut self) -> Option<T> {
         match self {
             Walk::First(walk) => walk.next(),
@@ -138,6 +154,29 @@ impl<T, F: Iterator<Item = T>, O: Iterator<Item = T>> Iterator for Walk<F, O> {
             Walk::First(walk) => walk.fold(init, each),
             Walk::Other(walk) => walk.fold(init, each),
         }
+    }
+}
+
+/// What a closure finds for the items of a walk: std's `FilterMap`, but never called for each item,
+/// which takes half as long again.
+struct Found<W, F>(W, F);
+
+impl<U, W: Iterator, F: FnMut(W::Item) -> Option<U>> Iterator for Found<W, F> {
+    type Item = U;
+
+    #[inline(always)]
+    fn next(&mut self) -> Option<U> {
+        loop {
+            let found = (self.1)(self.0.next()?);
+            if found.is_some() {
+                return found;
+            }
+        }
+    }
+
+    #[inline]
+    fn fold<B, G: FnMut(B, U) -> B>(self, init: B, each: G) -> B {
+        self.0.filter_map(self.1).fold(init, each)
     }
 }
 
@@ -185,7 +224,7 @@ macro_rules! tuples_are_joined {
                 let is_less = fewest < first.count().div_ceil(2);
                 let handles = is_less.then(|| handles_of!(fewest: $($map)*));
                 let walk = first.walk(handles.flatten());
-                walk.filter_map(move |(one, it)| Some((one, it, $($map.get(one)?),*)))
+                Found(walk, move |(one, it)| Some((one, it, $($map.get(one)?),*)))
             }
         }
     };

@@ -24,8 +24,8 @@ use core::ops::Deref;
 /// ```
 ///
 /// A tick has 64 bits and doesn't wrap around: one each nanosecond is enough for 584 years. If the
-/// program goes back to a snapshot, the values have the ticks of then. Its ticks go on, and who
-/// keeps something by `changed_since` takes all values once: see
+/// program goes back to a snapshot, the values have their ticks of that time. The program's ticks go
+/// on, and whatever was kept by `changed_since` has to be made of all values once, as after
 /// [`History::restart`](crate::History::restart).
 #[derive(Clone, Copy, Default, PartialEq, Eq, Hash)]
 pub struct Tracked<T> {
@@ -44,6 +44,14 @@ impl<T> Tracked<T> {
 
     /// Lends the value to be changed, at this tick. It counts as changed even if nothing is
     /// written.
+    ///
+    /// ```
+    /// use forgeni::Tracked;
+    ///
+    /// let mut place = Tracked::new(3, 0);
+    /// *place.get_mut(5) += 1;
+    /// assert_eq!((*place, place.tick()), (4, 5));
+    /// ```
     #[inline]
     pub fn get_mut(&mut self, tick: u64) -> &mut T {
         self.tick = tick.to_ne_bytes();
@@ -52,6 +60,14 @@ impl<T> Tracked<T> {
 
     /// Writes a value at this tick if it differs from the present one, and returns whether it did:
     /// Bevy's `set_if_neq`.
+    ///
+    /// ```
+    /// use forgeni::Tracked;
+    ///
+    /// let mut place = Tracked::new(3, 0);
+    /// assert!(!place.set_if_neq(3, 1) && place.set_if_neq(4, 2));
+    /// assert_eq!(place.tick(), 2);
+    /// ```
     ///
     /// # Panics
     ///
@@ -69,6 +85,14 @@ impl<T> Tracked<T> {
     }
 
     /// Lends the value to be changed, and keeps the tick: Bevy's `bypass_change_detection`.
+    ///
+    /// ```
+    /// use forgeni::Tracked;
+    ///
+    /// let mut place = Tracked::new(3, 0);
+    /// *place.get_mut_unseen() += 1;
+    /// assert!(*place == 4 && !place.is_changed_since(1));
+    /// ```
     #[inline]
     pub fn get_mut_unseen(&mut self) -> &mut T {
         &mut self.value
