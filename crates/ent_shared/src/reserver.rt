@@ -9,6 +9,15 @@ use std::marker::Model;
 ///
 /// [`share`](crate::share) makes them, and [`Shared::close`](crate::Shared::close) takes them back.
 /// A caller that reserves in a thread of its own takes one with it.
+///
+/// ```
+/// use forgeni::{SharedReserver, SharedSource, Source};
+///
+/// /// Code for the reservers of the shared cursor alone.
+/// fn shares<S: Source<Reserver = SharedReserver>>() {}
+///
+/// shares::<SharedSource>();
+/// ```
 #[derive(Drop)]
 pub struct Reserver {
     pub(crate) token: RecordsToken<Record>,

@@ -288,6 +288,15 @@ macro_rules! traits_of_a_map {
             }
 
             /// The values, in the order of [`iter`](Self::iter), to be changed.
+            ///
+            /// ```
+            /// use forgeni::{Handle, HandleMap};
+            ///
+            /// let handle = |index| Handle::new(index, 1).unwrap();
+            /// let mut fuel: HandleMap<u32> = (0..3).map(|at| (handle(at), at)).collect();
+            /// fuel.values_mut().for_each(|fuel| *fuel += 10);
+            /// assert!(fuel.values().eq(&[10, 11, 12]));
+            /// ```
             pub fn values_mut(&mut self) -> impl DoubleEndedIterator<Item = &mut T> {
                 self.iter_mut().map(|(_, it)| it)
             }

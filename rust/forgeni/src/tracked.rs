@@ -140,8 +140,18 @@ macro_rules! lists_changes {
     ($Map:ident) => {
         impl<T> $Map<Tracked<T>> {
             /// The handles and their values, in the order of [`iter`](Self::iter), of which the
-            /// value is new or was lent to be changed at this tick or later. The time is that of a
-            /// look at all values.
+            /// value is new or was lent to be changed at this tick or later. It takes time for each
+            /// value.
+            ///
+            /// ```
+            /// use forgeni::{Handle, HandleMap, Tracked};
+            ///
+            /// let handle = |index| Handle::new(index, 1).unwrap();
+            /// let mut ages: HandleMap<_> =
+            ///     (0..9).map(|at| (handle(at), Tracked::new(at, 0))).collect();
+            /// *ages[handle(5)].get_mut(2) += 100;
+            /// assert!(ages.changed_since(1).eq([(handle(5), &105)]));
+            /// ```
             #[inline]
             pub fn changed_since(
                 &self,

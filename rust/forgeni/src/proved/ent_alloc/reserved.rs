@@ -10,6 +10,16 @@ use crate::handles::Handle;
 ///
 /// It borrows the allocator and copies nothing. Each handle is looked up when it is yielded, in
 /// constant time.
+///
+/// ```
+/// use forgeni::{Handle, Reserved, Source};
+///
+/// /// The last of three handles of any source.
+/// fn third<S: Source>(source: &S, reserver: &mut S::Reserver) -> Option<Handle> {
+///     let handles: Reserved<'_> = source.serve_many(reserver, 3).ok()?;
+///     handles.last()
+/// }
+/// ```
 pub struct Reserved<'a> {
     records: &'a [PackedSlot],
     waiting: &'a [u32],

@@ -16,6 +16,21 @@ const REFUSAL: usize = 14;
 /// Commands in the order of issue, packed as bytes.
 ///
 /// Only [`SystemCommands`](crate::commands::SystemCommands) makes one.
+///
+/// ```
+/// use forgeni::{run_frame, IssuedCommands, OutOfMemory, Source, SystemCommands, View, World};
+///
+/// type Commands<'a, S> = SystemCommands<'a, IssuedCommands, S>;
+///
+/// fn rain<S: Source>(_: &View<'_>, commands: &mut Commands<'_, S>) -> Result<(), OutOfMemory> {
+///     commands.spawn_with(&[]).map_or_else(|refused| refused.or_memory(), |_| Ok(()))
+/// }
+///
+/// let mut world = World::new();
+/// run_frame(&mut world, &[rain; 3], 2)?;
+/// assert_eq!(world.len(), 3);
+/// # Ok::<(), Box<dyn std::error::Error>>(())
+/// ```
 #[derive(Debug)]
 pub struct IssuedCommands {
     bytes: Vec<u8>,

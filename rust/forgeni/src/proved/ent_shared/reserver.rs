@@ -8,6 +8,15 @@ use crate::allocator::QUOTA;
 ///
 /// `share` makes them, and `SharedSource::close` takes them back.
 /// A caller that reserves in a thread of its own takes one with it.
+///
+/// ```
+/// use forgeni::{SharedReserver, SharedSource, Source};
+///
+/// /// Code for the reservers of the shared cursor alone.
+/// fn shares<S: Source<Reserver = SharedReserver>>() {}
+///
+/// shares::<SharedSource>();
+/// ```
 pub struct SharedReserver {
     pub(super) token: RecordsToken<Record>,
     pub(super) number: usize,
