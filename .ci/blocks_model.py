@@ -47,16 +47,17 @@ class Defined:
 
     def reply(self, block, count):
         before, size, used = block
-        rest = self.pool[before:before + size][used:]
+        rest = self.pool[before : before + size][used:]
         if count > len(rest):
             return ("space", count, len(rest))
         given = rest[:count]
         return self.old(given)[::-1] + self.fresh(given)
 
     def close(self, blocks):
-        """If something is left before the last one that was used, the slots up to that one are made."""
+        """If something is left before the last one that was used, the slots up to that one are
+        made."""
         dealt = sum(size for _, size, _ in blocks)
-        handles = [self.pool[before:before + size] for before, size, _ in blocks]
+        handles = [self.pool[before : before + size] for before, size, _ in blocks]
         used = [h for (_, _, n), hs in zip(blocks, handles) for h in hs[:n]]
         rests = [h for (_, _, n), hs in zip(blocks, handles) for h in hs[n:]]
         reach = max([before + n for before, _, n in blocks if n > 0], default=0)
@@ -158,7 +159,7 @@ def phase(rng, defined, slots, ever):
         if count > left:
             assert reply == ("space", count, left), (reply, count, left)
             continue
-        want = [slots.name(s) for s in dealt[k][used[k]:used[k] + count]]
+        want = [slots.name(s) for s in dealt[k][used[k] : used[k] + count]]
         assert sorted(reply) == sorted(want), (reply, want)
         given += reply
         used[k] += count

@@ -1,12 +1,14 @@
 #!/usr/bin/env python3
-"""Runs the kit's build of `spawnrun` and `tracecheck` and that by cargo on random input, and compares what they print, say and end with.
+"""Runs the kit's build of `spawnrun` and `tracecheck` and that by cargo on random input, and
+compares what they print, say and end with.
 
     both_builds.py [--cases N] [--seed N] [--kit FOLDER] [--cargo FOLDER]
 
-A case is a schedule, a script, a trace or a command line, as it has to be or spoilt in one place or in a few. All bytes of output and of
-standard error have to be the same, and the exit status. No case asks for a picture (`spawnrun draw`, `tracecheck --draw`): the build by
-cargo alone draws, and `.ci/pictures.py` checks that. Without folders it takes what the gate has built, and what `.ci/programs.sh` has. It
-runs at the top of the repository.
+A case is a schedule, a script, a trace or a command line, as it has to be or spoilt in one place or
+in a few. All bytes of output and of standard error have to be the same, and the exit status. No
+case asks for a picture (`spawnrun draw`, `tracecheck --draw`): the build by cargo alone draws, and
+`.ci/pictures.py` checks that. Without folders it takes what the gate has built, and what
+`.ci/programs.sh` has. It runs at the top of the repository.
 """
 
 import argparse
@@ -24,8 +26,25 @@ from changed_answers import trace
 
 CARGO = pathlib.Path("rust/offline/target/programs")
 SPOILERS = b'"\\{}[]:,0123456789-+.eEtrufalsnv \n\r\tx\x01\xc3\xa9\xff=>'
-WHOLE = [0, 1, -1, 7, 20, 2**31, 2**63 - 1, -(2**63), 2**63, 1.0, -0.0, 1e30, 1.5, 0.00001, 1e-7, 123456789.25]
-NOT_WHOLE = [*WHOLE, None, True, "", "7", "é€😀\u0001\"\\", [], [1, "x"], {}, {"b": 1, "a": [2]}]
+WHOLE = [
+    0,
+    1,
+    -1,
+    7,
+    20,
+    2**31,
+    2**63 - 1,
+    -(2**63),
+    2**63,
+    1.0,
+    -0.0,
+    1e30,
+    1.5,
+    0.00001,
+    1e-7,
+    123456789.25,
+]
+NOT_WHOLE = [*WHOLE, None, True, "", "7", 'é€😀\u0001"\\', [], [1, "x"], {}, {"b": 1, "a": [2]}]
 
 
 class Cases:
@@ -47,7 +66,16 @@ class Cases:
 
     def event(self, open_calls):
         caller = self.random.randrange(1, 5)
-        lines = ["alloc", "alloc", f"free {self.handle()}", f"free {self.handle()}", "flush", f"alive {self.handle()}", "len", f"state {self.handle()}"]
+        lines = [
+            "alloc",
+            "alloc",
+            f"free {self.handle()}",
+            f"free {self.handle()}",
+            "flush",
+            f"alive {self.handle()}",
+            "len",
+            f"state {self.handle()}",
+        ]
         if self.rarely(0.5):
             if caller not in open_calls:
                 open_calls[caller] = "begun"
@@ -58,13 +86,27 @@ class Cases:
             del open_calls[caller]
             return f"answer {caller}"
         if self.rarely(0.03):
-            lines = [f"step {caller}", f"answer {caller}", "begin 1 4294967295", "begin 4294967296 1", "free 0v0", "free 4294967295v2147483647", "", "alloc 1", "x"]
+            lines = [
+                f"step {caller}",
+                f"answer {caller}",
+                "begin 1 4294967295",
+                "begin 4294967296 1",
+                "free 0v0",
+                "free 4294967295v2147483647",
+                "",
+                "alloc 1",
+                "x",
+            ]
         return self.pick(lines[:5] if self.rarely(0.95) else lines)
 
     def schedule(self):
         open_calls = {}
         lines = [self.event(open_calls) for _ in range(self.random.randrange(1, 40))]
-        ends = [f"{verb} {caller}" for caller, state in open_calls.items() for verb in (("step", "answer") if state == "begun" else ("answer",))]
+        ends = [
+            f"{verb} {caller}"
+            for caller, state in open_calls.items()
+            for verb in (("step", "answer") if state == "begun" else ("answer",))
+        ]
         text = "\n".join(lines + ends + ["flush"]).encode() + b"\n" * self.random.randrange(2)
         words = ["replay"]
         for option, last in (("--slots", 6), ("--generations", 3)):
@@ -76,7 +118,10 @@ class Cases:
 
     def bundle(self, names):
         chosen = self.random.sample(names, self.random.randrange(min(len(names), 3) + 1))
-        return {name: self.random.randrange(-9, 99) if not self.rarely(0.03) else self.pick(NOT_WHOLE) for name in chosen}
+        return {
+            name: self.random.randrange(-9, 99) if not self.rarely(0.03) else self.pick(NOT_WHOLE)
+            for name in chosen
+        }
 
     def target(self, names, frame):
         birth = f"{self.random.randrange(frame + 1)}.{self.random.randrange(3)}.{self.random.randrange(3)}"
@@ -86,9 +131,17 @@ class Cases:
         return self.pick(targets)
 
     def operation(self, names, frame):
-        made = self.pick(["spawn", "spawn_many", "insert", "remove", "despawn"] if names else ["spawn", "spawn_many", "despawn"])
+        made = self.pick(
+            ["spawn", "spawn_many", "insert", "remove", "despawn"]
+            if names
+            else ["spawn", "spawn_many", "despawn"]
+        )
         if made in ("spawn", "spawn_many"):
-            found = {"spawn": self.bundle(names)} if made == "spawn" else {"spawn_many": self.pick([0, 1, 2, 5])}
+            found = (
+                {"spawn": self.bundle(names)}
+                if made == "spawn"
+                else {"spawn_many": self.pick([0, 1, 2, 5])}
+            )
             if made == "spawn_many" and self.rarely(0.7):
                 found["with"] = self.bundle(names)
             if self.rarely(0.4):
@@ -101,25 +154,43 @@ class Cases:
         return {"despawn": self.target(names, frame)}
 
     def script_value(self):
-        names = self.random.sample(["hp", "mp", "x_1", "long_name_of_a_component", "b"], self.random.randrange(4))
-        system = lambda frame: [self.operation(names, frame) for _ in range(self.random.randrange(5))]
-        frames = [[system(frame) for _ in range(self.random.randrange(4))] for frame in range(self.random.randrange(4))]
+        names = self.random.sample(
+            ["hp", "mp", "x_1", "long_name_of_a_component", "b"], self.random.randrange(4)
+        )
+        system = lambda frame: [
+            self.operation(names, frame) for _ in range(self.random.randrange(5))
+        ]
+        frames = [
+            [system(frame) for _ in range(self.random.randrange(4))]
+            for frame in range(self.random.randrange(4))
+        ]
         script = {"format": 2, "components": names, "frames": frames}
         if self.rarely(0.3):
-            script |= {"slots": self.random.randrange(1, 9), "generations": self.random.randrange(1, 4)}
+            script |= {
+                "slots": self.random.randrange(1, 9),
+                "generations": self.random.randrange(1, 4),
+            }
         if self.rarely(0.1):
             del script["format"]
         return script
 
     def spoil_value(self, value):
         """Changes a part of a value, somewhere."""
-        parts = list(value.items()) if isinstance(value, dict) else list(enumerate(value)) if isinstance(value, list) else []
+        parts = (
+            list(value.items())
+            if isinstance(value, dict)
+            else list(enumerate(value))
+            if isinstance(value, list)
+            else []
+        )
         if not parts:
             return self.pick(NOT_WHOLE)
         key, part = self.pick(parts)
         if self.rarely(0.25):
             if isinstance(value, dict) and self.rarely(0.6):
-                value[self.pick(["x", "on", "as", "with", "spawn", "é", "format"])] = value.pop(key) if self.rarely(0.5) else self.pick(NOT_WHOLE)
+                value[self.pick(["x", "on", "as", "with", "spawn", "é", "format"])] = (
+                    value.pop(key) if self.rarely(0.5) else self.pick(NOT_WHOLE)
+                )
             else:
                 value[key] = self.pick(NOT_WHOLE)
         else:
@@ -130,11 +201,19 @@ class Cases:
         value = self.script_value()
         if self.rarely(0.45):
             value = self.spoil_value(value)
-        text = json.dumps(value, ensure_ascii=self.rarely(0.5), indent=self.pick([None, None, 1]), separators=self.pick([None, (",", ":")]))
+        text = json.dumps(
+            value,
+            ensure_ascii=self.rarely(0.5),
+            indent=self.pick([None, None, 1]),
+            separators=self.pick([None, (",", ":")]),
+        )
         shown = self.pick([["--show", "births"], ["--show=handles"], []])
         blocks = self.pick([[], ["--blocks", self.pick(["1", "2", "7", "300"])]])
-        # With a handle or few slots a report may depend on which system reserved first, but in blocks.
-        depends = not blocks and (shown == ["--show=handles"] or '"handle"' in text or '"slots"' in text)
+        # With a handle or few slots a report may depend on which system reserved first, but in
+        # blocks.
+        depends = not blocks and (
+            shown == ["--show=handles"] or '"handle"' in text or '"slots"' in text
+        )
         workers = [] if depends else self.pick([[], ["--workers", "3"]])
         return "spawnrun", ["run", *shown, *workers, *blocks], text.encode()
 
@@ -155,14 +234,81 @@ class Cases:
 
     def line(self):
         program = self.pick(["spawnrun", "spawnrun", "tracecheck"])
-        options = ["--slots", "--generations", "--workers", "--blocks", "--show", "--help", "--worker", "--slot", "--shows", "--halp", "--generation", "--x", "--", "--version", "--versoin", "-V"]
-        values = ["1", "0", "+3", "-1", "64", "65", "4294967295", "4294967296", "2147483648", "9223372036854775808", "", "1.5", "births", "handles", "birth", "handel", "x", "é"]
-        others = ["run", "replay", "-h", "-x", "-", "rerun", "repaly", "ru", "help", "more", "--slots=2", "--show=", "--help=1", "--workers=2", "--blocks=2", "-hx", "-Vx", "-hV", "--version=1", "-é"]
+        options = [
+            "--slots",
+            "--generations",
+            "--workers",
+            "--blocks",
+            "--show",
+            "--help",
+            "--worker",
+            "--slot",
+            "--shows",
+            "--halp",
+            "--generation",
+            "--x",
+            "--",
+            "--version",
+            "--versoin",
+            "-V",
+        ]
+        values = [
+            "1",
+            "0",
+            "+3",
+            "-1",
+            "64",
+            "65",
+            "4294967295",
+            "4294967296",
+            "2147483648",
+            "9223372036854775808",
+            "",
+            "1.5",
+            "births",
+            "handles",
+            "birth",
+            "handel",
+            "x",
+            "é",
+        ]
+        others = [
+            "run",
+            "replay",
+            "-h",
+            "-x",
+            "-",
+            "rerun",
+            "repaly",
+            "ru",
+            "help",
+            "more",
+            "--slots=2",
+            "--show=",
+            "--help=1",
+            "--workers=2",
+            "--blocks=2",
+            "-hx",
+            "-Vx",
+            "-hV",
+            "--version=1",
+            "-é",
+        ]
         others += ["examples/one_caller.txt", "examples/data/reuse.json", "README.md", "examples"]
         words = [self.pick(["run", "replay"])] if program == "spawnrun" and self.rarely(0.6) else []
         for _ in range(self.random.randrange(4)):
-            words += [self.pick(options), self.pick(values)] if self.rarely(0.5) else [self.pick(self.pick([options, values, others]))]
-        return program, words, b"" if program == "tracecheck" or "replay" in words else b'{"components":[],"frames":[]}'
+            words += (
+                [self.pick(options), self.pick(values)]
+                if self.rarely(0.5)
+                else [self.pick(self.pick([options, values, others]))]
+            )
+        return (
+            program,
+            words,
+            b""
+            if program == "tracecheck" or "replay" in words
+            else b'{"components":[],"frames":[]}',
+        )
 
     def spoilt(self, text):
         made = bytearray(text)
@@ -179,7 +325,9 @@ class Cases:
         return bytes(made)
 
     def case(self):
-        program, words, text = self.pick([self.schedule, self.script, self.script, self.trace, self.line])()
+        program, words, text = self.pick(
+            [self.schedule, self.script, self.script, self.trace, self.line]
+        )()
         return program, words, self.spoilt(text) if self.rarely(0.3) else text
 
 
@@ -206,7 +354,12 @@ def main():
     given = parser.parse_args()
     kit = lambda name: given.kit or pathlib.Path("crates") / name / "out"
     folders = lambda name: [kit(name).absolute(), given.cargo.absolute()]
-    missing = [folder / name for name in ("spawnrun", "tracecheck") for folder in folders(name) if not (folder / name).exists()]
+    missing = [
+        folder / name
+        for name in ("spawnrun", "tracecheck")
+        for folder in folders(name)
+        if not (folder / name).exists()
+    ]
     if missing:
         sys.exit(f"{missing[0]} isn't built: .ci/run or ./prove.sh builds it, or .ci/programs.sh")
     source = Cases(given.seed)

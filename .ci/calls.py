@@ -1,10 +1,11 @@
 #!/usr/bin/env python3
-"""Prints the public calls of types of the crates, one line each: its name and arguments, and the first sentence of its doc comment.
+"""Prints the public calls of types of the crates, one line each: its name and arguments, and the
+first sentence of its doc comment.
 
     calls.py TYPE..
 
-`CRATE::TYPE` is the type of one crate, if several have one of that name. `docs/IN_RATTLE.md` quotes what it prints, and `.ci/pages.py`
-compares. It runs at the top of the repository.
+`CRATE::TYPE` is the type of one crate, if several have one of that name. `docs/IN_RATTLE.md` quotes
+what it prints, and `.ci/pages.py` compares. It runs at the top of the repository.
 """
 
 import pathlib
@@ -26,7 +27,10 @@ def first_sentence(comments):
 
 def arguments(text):
     """The names of the arguments that a caller thinks of."""
-    names = [it.split(":")[0].strip().removeprefix("mut ") for it in re.sub(r"\[[^]]*\]", "", text).split(",")]
+    names = [
+        it.split(":")[0].strip().removeprefix("mut ")
+        for it in re.sub(r"\[[^]]*\]", "", text).split(",")
+    ]
     return [it for it in names if it and not it.endswith("self") and it not in ASIDE]
 
 
@@ -36,7 +40,11 @@ def calls_of(type, file):
     for at, line in enumerate(lines):
         if line and not line[0].isspace():
             within = re.match(rf"impl(?:<.*?>)? {type}(?:<.*>)? (?:\{{|where)", line) is not None
-        call = CALL.match(" ".join([line, *(it.strip() for it in lines[at + 1 : at + 9])])) if within else None
+        call = (
+            CALL.match(" ".join([line, *(it.strip() for it in lines[at + 1 : at + 9])]))
+            if within
+            else None
+        )
         if call:
             yield f"{call[1]}({', '.join(arguments(call[2]))})", first_sentence(comments)
         if line.startswith("    ///"):
@@ -53,7 +61,12 @@ def print_calls(path):
     width = max(len(name) for name, _ in calls)
     print(type)
     for name, what in calls:
-        print(*textwrap.wrap(f"  {name:<{width}}  {what}", WIDTH, subsequent_indent=" " * (width + 4)), sep="\n")
+        print(
+            *textwrap.wrap(
+                f"  {name:<{width}}  {what}", WIDTH, subsequent_indent=" " * (width + 4)
+            ),
+            sep="\n",
+        )
 
 
 for type in sys.argv[1:]:

@@ -1,14 +1,17 @@
 #!/usr/bin/env python3
-"""Runs a program on the cases of its folder and compares what it prints, what it says and how it ends.
+"""Runs a program on the cases of its folder and compares what it prints, what it says and how it
+ends.
 
     cases.py [--crate NAME] [--program FILE].. [CASES..]
 
-The program is `spawnrun` without `--crate`. Without `--program` it runs the program as each compiler of the gate has built it. Without
-files it runs all cases of crates/NAME/cases. It runs at the top of the repository.
+The program is `spawnrun` without `--crate`. Without `--program` it runs the program as each
+compiler of the gate has built it. Without files it runs all cases of crates/NAME/cases. It runs at
+the top of the repository.
 
-What a case expects comes from docs/FORMATS.md or a worked example, never from a run. Each line begins with a mark and a space, and an empty
-line ends a case. Lines of input and of output may alternate. The program must do nothing else: without `>` it prints nothing, and without
-`!` it writes nothing to standard error, except one line of printable ASCII if the status is 1.
+What a case expects comes from docs/FORMATS.md or a worked example, never from a run. Each line
+begins with a mark and a space, and an empty line ends a case. Lines of input and of output may
+alternate. The program must do nothing else: without `>` it prints nothing, and without `!` it
+writes nothing to standard error, except one line of printable ASCII if the status is 1.
 
     #                   a comment
     $                   the arguments. Each `$` is a run of the case, and a case without one has those of the case above
@@ -91,7 +94,8 @@ def unescaped(text):
 
 
 def many(text, between):
-    """A pattern once for each number of a range, with the number, or a multiple of it, in its place."""
+    """A pattern once for each number of a range, with the number, or a multiple of it, in its
+    place."""
     numbers, _, pattern = text.partition(" ")
     first, last = map(int, numbers.split(".."))
     pieces = re.split(rb"#(\*[0-9]+)?", unescaped(pattern))
@@ -99,7 +103,10 @@ def many(text, between):
     if not factors:
         # One repetition, since a list of as many items as an input may have bytes takes seconds.
         return ((texts[0] + between) * (last + 1 - first)).removesuffix(between)
-    each = (b"".join([texts[0], *(b"%d%b" % (at * it, text) for it, text in zip(factors, texts[1:]))]) for at in range(first, last + 1))
+    each = (
+        b"".join([texts[0], *(b"%d%b" % (at * it, text) for it, text in zip(factors, texts[1:]))])
+        for at in range(first, last + 1)
+    )
     return between.join(each)
 
 
@@ -143,7 +150,8 @@ def take(case, mark, text):
 
 
 def cases_of(crate, file):
-    """The cases of a file. Words, frame and the named file hold for those below too, until others stand there."""
+    """The cases of a file. Words, frame and the named file hold for those below too, until others
+    stand there."""
     cases, words, around, named, case = [], [], b"@", b"", None
     for number, line in enumerate(file.read_text().splitlines() + [""], 1):
         if line.startswith("#"):
@@ -181,12 +189,18 @@ def fault_of(case, program, words, given):
         return f"does not end in {SECONDS} seconds"
     wanted = case.wanted_status()
     if ran.returncode != wanted:
-        return f"ends with {ran.returncode}, and not with {wanted}: {shown(ran.stdout + ran.stderr)}"
+        return (
+            f"ends with {ran.returncode}, and not with {wanted}: {shown(ran.stdout + ran.stderr)}"
+        )
     if ran.stdout != case.output:
         return f"prints {differing(ran.stdout, case.output)}"
     if not case.is_advised():
         return None if ran.stderr == case.errors else f"says {differing(ran.stderr, case.errors)}"
-    return None if re.fullmatch(rb"[ -~]+\n", ran.stderr) else f"says no line of printable ASCII: {shown(ran.stderr)}"
+    return (
+        None
+        if re.fullmatch(rb"[ -~]+\n", ran.stderr)
+        else f"says no line of printable ASCII: {shown(ran.stderr)}"
+    )
 
 
 def shown(text):
@@ -197,7 +211,9 @@ def differing(found, wanted):
     """Both texts from the first line on in which they differ."""
     pairs = zip(found.splitlines(True) + [b""], wanted.splitlines(True) + [b""])
     at = next((at for at, (one, other) in enumerate(pairs) if one != other), 0)
-    return "{}, and not {}, at line {}".format(*(shown(b"".join(it.splitlines(True)[at:])) for it in (found, wanted)), at + 1)
+    return "{}, and not {}, at line {}".format(
+        *(shown(b"".join(it.splitlines(True)[at:])) for it in (found, wanted)), at + 1
+    )
 
 
 def faults_of(case, program):
@@ -208,10 +224,14 @@ def faults_of(case, program):
         with tempfile.NamedTemporaryFile() as named:
             named.write(case.named)
             named.flush()
-            fault = fault_of(case, program, [word.replace("%", named.name) for word in words], given)
+            fault = fault_of(
+                case, program, [word.replace("%", named.name) for word in words], given
+            )
         if fault:
             on = f" on {shown(given)}" if case.is_cut else ""
-            faults.append(f"{case.file}:{case.line}: {program.name} {shown(' '.join(words))}{on} {fault}")
+            faults.append(
+                f"{case.file}:{case.line}: {program.name} {shown(' '.join(words))}{on} {fault}"
+            )
     return faults, len(runs)
 
 
@@ -233,9 +253,18 @@ def main():
     failed = False
     with concurrent.futures.ThreadPoolExecutor(os.cpu_count()) as pool:
         for file, those in cases:
-            ended = [*pool.map(lambda it: faults_of(*it), [(case, it.absolute()) for case in those for it in programs])]
+            ended = [
+                *pool.map(
+                    lambda it: faults_of(*it),
+                    [(case, it.absolute()) for case in those for it in programs],
+                )
+            ]
             faults = [it for some, _ in ended for it in some]
-            print(*faults, f"{file.name}: {len(those)} cases, {sum(it for _, it in ended)} runs, {len(faults)} faults", sep="\n")
+            print(
+                *faults,
+                f"{file.name}: {len(those)} cases, {sum(it for _, it in ended)} runs, {len(faults)} faults",
+                sep="\n",
+            )
             failed = failed or bool(faults)
     names = " and ".join(it.name for it in programs)
     print(f"cases: {sum(len(it) for _, it in cases)} run by {names}")

@@ -1,12 +1,15 @@
 #!/usr/bin/env python3
-"""Changes one answer of random true traces, and counts how often `tracecheck` names the changed line.
+"""Changes one answer of random true traces, and counts how often `tracecheck` names the changed
+line.
 
     changed_answers.py [--program FILE] [--traces N] [--seed N]
 
-A model of the sequential allocator makes a true trace: some exclusive calls, and runs of reservations by callers that overlap, each caller's
-in its own order. Then one answer is changed. A trace that still agrees doesn't count. In the others `tracecheck` should name the changed line
-if no other changed answer would mend the trace; the script tries all orders of the run to find out. It ends with 0 if the line is named in
-995 of 1,000 of these. It runs at the top of the repository, on the program that the gate has built.
+A model of the sequential allocator makes a true trace: some exclusive calls, and runs of
+reservations by callers that overlap, each caller's in its own order. Then one answer is changed. A
+trace that still agrees doesn't count. In the others `tracecheck` should name the changed line if no
+other changed answer would mend the trace; the script tries all orders of the run to find out. It
+ends with 0 if the line is named in 995 of 1,000 of these. It runs at the top of the repository, on
+the program that the gate has built.
 """
 
 import argparse
@@ -84,7 +87,8 @@ def fits(reply, said):
 
 
 class Run:
-    """Reservations that overlap: the caller, the count and the answer of each, in the order of the lines."""
+    """Reservations that overlap: the caller, the count and the answer of each, in the order of the
+    lines."""
 
     def __init__(self, model, first_line):
         self.model = model
@@ -117,7 +121,10 @@ class Run:
                 if places[which] < len(queues[caller]):
                     at, wanted, said = queues[caller][places[which]]
                     if at == but or fits(self.reply(asked, wanted), said):
-                        if goes(asked + wanted, places[:which] + (places[which] + 1,) + places[which + 1 :]):
+                        if goes(
+                            asked + wanted,
+                            places[:which] + (places[which] + 1,) + places[which + 1 :],
+                        ):
                             return True
             return False
 
@@ -125,7 +132,8 @@ class Run:
 
 
 def reservations(model, rng, run):
-    """A run of reservations, and what it leaves: how many were requested, and how many were served before a refusal."""
+    """A run of reservations, and what it leaves: how many were requested, and how many were served
+    before a refusal."""
     callers = rng.sample(range(1, 9), rng.randint(1, 4))
     made, asked, served = [], 0, None
     for _ in range(rng.randint(1, 7)):
@@ -156,7 +164,9 @@ def trace(rng):
             elif call == "free" and model.live:
                 handle = rng.choice(model.live)
                 following = model.free(handle)
-                lines.append(f"free {words(handle)} => freed {'next ' + words(following) if following else 'retired'}")
+                lines.append(
+                    f"free {words(handle)} => freed {'next ' + words(following) if following else 'retired'}"
+                )
             elif call == "len":
                 lines.append(f"len => {len(model.live)}")
         run = Run(model, len(lines))
@@ -178,7 +188,12 @@ def other_answer(line, lines, rng):
     handles = [at for at, word in enumerate(said) if re.fullmatch(r"[0-9]+v[0-9]+", word)]
     for at in handles:
         index, generation = map(int, said[at].split("v"))
-        for other in (f"{index + 1}v{generation}", f"{max(index - 1, 0)}v{generation}", f"{index}v{generation + 1}", f"{index + 3}v1"):
+        for other in (
+            f"{index + 1}v{generation}",
+            f"{max(index - 1, 0)}v{generation}",
+            f"{index}v{generation + 1}",
+            f"{index + 3}v1",
+        ):
             ways.append(" ".join(said[:at] + [other] + said[at + 1 :]))
     if call == "reserve":
         ways += ["space", f"space left {rng.randint(0, 4)}"]
@@ -193,12 +208,19 @@ def other_answer(line, lines, rng):
     if call == "flush":
         ways += ["born", "born " + " ".join(said[:0:-1])]
     ways = [it.strip() for it in ways]
-    ways = [it for it in ways if it != answer and not (it == "space" and answer.startswith("space left")) and not (answer == "space" and it.startswith("space"))]
+    ways = [
+        it
+        for it in ways
+        if it != answer
+        and not (it == "space" and answer.startswith("space left"))
+        and not (answer == "space" and it.startswith("space"))
+    ]
     return f"{asked} => {rng.choice(ways)}".rstrip() if ways else None
 
 
 def case(seed):
-    """A trace with one changed answer, whether the line is a reservation, and whether no other change mends it."""
+    """A trace with one changed answer, whether the line is a reservation, and whether no other
+    change mends it."""
     rng = random.Random(seed)
     lines, slots, generations, runs = trace(rng)
     at = rng.randrange(len(lines))
@@ -231,7 +253,9 @@ def main():
     parser.add_argument("--program", default=BUILT, type=pathlib.Path)
     parser.add_argument("--traces", default=3_000, type=int)
     parser.add_argument("--seed", default=1, type=int)
-    parser.add_argument("--show", action="store_true", help="print each trace in which another line is named")
+    parser.add_argument(
+        "--show", action="store_true", help="print each trace in which another line is named"
+    )
     options = parser.parse_args()
     program = options.program.absolute()
     seeds, cases = options.seed, []
@@ -249,10 +273,18 @@ def main():
     if options.show:
         for it, line, hit in zip(cases, lines, hits):
             if it[5] and not hit:
-                print(f"--slots {it[2]} --generations {it[3]}: changed line {it[1]}, named {line}\n{it[0]}")
-    print(f"changed answers: {sum(hits)} of {len(hits)} named, of reservations {sum(asked)} of {len(asked)}")
-    print(f"where no other change mends the trace: {sum(only)} of {len(only)}, not seen {len(unseen)}")
-    return 0 if not unseen and len(only) > len(cases) // 2 and sum(only) >= WANTED * len(only) else 1
+                print(
+                    f"--slots {it[2]} --generations {it[3]}: changed line {it[1]}, named {line}\n{it[0]}"
+                )
+    print(
+        f"changed answers: {sum(hits)} of {len(hits)} named, of reservations {sum(asked)} of {len(asked)}"
+    )
+    print(
+        f"where no other change mends the trace: {sum(only)} of {len(only)}, not seen {len(unseen)}"
+    )
+    return (
+        0 if not unseen and len(only) > len(cases) // 2 and sum(only) >= WANTED * len(only) else 1
+    )
 
 
 if __name__ == "__main__":

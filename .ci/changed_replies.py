@@ -1,10 +1,12 @@
 #!/usr/bin/env python3
-"""Changes each answer of the traces in crates/tracecheck/cases/rows.cases, and looks whether `tracecheck` finds it.
+"""Changes each answer of the traces in crates/tracecheck/cases/rows.cases, and looks whether
+`tracecheck` finds it.
 
     changed_replies.py [--program FILE]
 
-An answer is changed in every way that is listed below. Each time the program has to name that line, and the answer that stood there. It
-runs at the top of the repository, on the program that the gate has built.
+An answer is changed in every way that is listed below. Each time the program has to name that line,
+and the answer that stood there. It runs at the top of the repository, on the program that the gate
+has built.
 """
 
 import argparse
@@ -34,12 +36,18 @@ WORDS = {
 
 
 def other_handles(answer):
-    """The answer with one handle of it changed, left out or doubled, and with two that change places."""
+    """The answer with one handle of it changed, left out or doubled, and with two that change
+    places."""
     words = answer.split()
     handles = [at for at, word in enumerate(words) if re.fullmatch(r"[0-9]+v[0-9]+", word)]
     for at in handles:
         index, generation = words[at].split("v")
-        for other in ([f"{int(index) + 1}v{generation}"], [f"{index}v{int(generation) + 1}"], [], [words[at]] * 2):
+        for other in (
+            [f"{int(index) + 1}v{generation}"],
+            [f"{index}v{int(generation) + 1}"],
+            [],
+            [words[at]] * 2,
+        ):
             yield " ".join(words[:at] + other + words[at + 1 :])
     for at, following in zip(handles, handles[1:]):
         yield " ".join(words[:at] + [words[following], words[at]] + words[following + 1 :])
@@ -86,10 +94,18 @@ def main():
     parser.add_argument("--program", default=BUILT, type=pathlib.Path)
     program = parser.parse_args().program.absolute()
     rows = cases_of("tracecheck", ROWS)
-    runs = [(program, case, at, line) for case in rows for at, line in changes(case.input.decode().splitlines())]
+    runs = [
+        (program, case, at, line)
+        for case in rows
+        for at, line in changes(case.input.decode().splitlines())
+    ]
     with concurrent.futures.ThreadPoolExecutor(os.cpu_count()) as pool:
         faults = [it for it in pool.map(lambda run: fault_of(*run), runs) if it]
-    print(*faults, f"changed replies: {len(rows)} traces, {len(runs)} changes, {len(faults)} not found", sep="\n")
+    print(
+        *faults,
+        f"changed replies: {len(rows)} traces, {len(runs)} changes, {len(faults)} not found",
+        sep="\n",
+    )
     return 1 if faults or len(rows) < 10 or len(runs) < 100 else 0
 
 

@@ -1,13 +1,16 @@
 #!/usr/bin/env python3
-"""The module `contracts` of the package: pages with all definitions that its contracts cite, for rustdoc.
+"""The module `contracts` of the package: pages with all definitions that its contracts cite, for
+rustdoc.
 
     contracts.py write           writes rust/forgeni/src/contracts
     contracts.py check FOLDER    fails if it isn't what the docs in this folder link to; `cargo doc` has written them
 
-The contracts in the docs of the package link to definitions (`rust/erase/src/contracts.rs`). There are pages of those to which a contract links
-that rustdoc shows, of what they cite, and so on: one page for a file of `specs/`, crate by crate, in the order in which one reads them. A page
-has the text of the file without its imports and without what nobody cites. Names in it are links too. Those of Rattle's library have one page,
-LOGIC, with a line each: a contract may cite no other. The module is compiled for the docs alone. It runs at the top of the repository.
+The contracts in the docs of the package link to definitions (`rust/erase/src/contracts.rs`). There
+are pages of those to which a contract links that rustdoc shows, of what they cite, and so on: one
+page for a file of `specs/`, crate by crate, in the order in which one reads them. A page has the
+text of the file without its imports and without what nobody cites. Names in it are links too. Those
+of Rattle's library have one page, LOGIC, with a line each: a contract may cite no other. The module
+is compiled for the docs alone. It runs at the top of the repository.
 """
 
 import collections
@@ -128,7 +131,8 @@ SIGNS = [
 
 
 def page_name(module):
-    """The name of the page of a file, as `first_fault` of `FirstFault`. The eraser writes the same."""
+    """The name of the page of a file, as `first_fault` of `FirstFault`. The eraser writes the
+    same."""
     return re.sub(r"(?<=.)([A-Z])", r"_\1", module.replace(".", "")).lower()
 
 
@@ -145,7 +149,10 @@ def files_of(crate):
 
     def add(module):
         if module in listed and module not in found:
-            used = re.findall(rf"\buse Rattle\.{crate}\.specs\.([\w.]+?)(?=\.?[\s{{;])", listed[module].read_text())
+            used = re.findall(
+                rf"\buse Rattle\.{crate}\.specs\.([\w.]+?)(?=\.?[\s{{;])",
+                listed[module].read_text(),
+            )
             for other in used:
                 add(other)
             found[module] = listed[module]
@@ -158,22 +165,32 @@ def files_of(crate):
 
 @functools.cache
 def imports_of(file):
-    """What a file imports: modules by the names that they have in it, and for each other name its module and its name there."""
+    """What a file imports: modules by the names that they have in it, and for each other name its
+    module and its name there."""
     text = theorems.code_of(file.read_text().splitlines())
     modules = {here: module for module, here in re.findall(r"use (Rattle[\w.]+) as (\w+)", text)}
     lists = re.findall(r"use (Rattle[\w.]+)\.\{([^}]*)\}", text)
-    return modules, {here: (module, there) for module, names in lists for there, here in theorems.as_pairs(names)}
+    return modules, {
+        here: (module, there) for module, names in lists for there, here in theorems.as_pairs(names)
+    }
 
 
 def around(lines, span):
-    """The lines of the head of the module around a definition, if one is: its parameters are the definition's too."""
-    code = next(it for it in sorted(span) if not lines[it].lstrip().startswith(("--", "module ")) and lines[it])
+    """The lines of the head of the module around a definition, if one is: its parameters are the
+    definition's too."""
+    code = next(
+        it
+        for it in sorted(span)
+        if not lines[it].lstrip().startswith(("--", "module ")) and lines[it]
+    )
     if not lines[code].startswith(" "):
         return range(0)
     first = next((it for it in range(code, -1, -1) if lines[it].startswith("module ")), None)
     if first is None:
         return range(0)
-    return range(first, 1 + next(it for it in range(first, len(lines)) if lines[it].endswith("where")))
+    return range(
+        first, 1 + next(it for it in range(first, len(lines)) if lines[it].endswith("where"))
+    )
 
 
 class Definitions:
@@ -183,23 +200,32 @@ class Definitions:
         lines = pathlib.Path("crates.txt").read_text().splitlines()
         order = [it.split(":")[0].split()[0] for it in lines if it.startswith("ent_")]
         order = [it for it in order if (theorems.CRATES / it / "specs").is_dir()]
-        self.files = {(crate, page_name(module)): file for crate in order for module, file in files_of(crate)}
+        self.files = {
+            (crate, page_name(module)): file for crate in order for module, file in files_of(crate)
+        }
         self.pages = {file: page for page, file in self.files.items()}
         self.order = list(self.pages)
         self.shown, self.passed = collections.defaultdict(set), collections.defaultdict(set)
         self.faults = []
 
     def named(self, file, name):
-        """The definition of a name in a file, with the file that has it: another one may pass it on."""
+        """The definition of a name in a file, with the file that has it: another one may pass it
+        on."""
         if name in theorems.specs_of(file):
             return file, name
         passed = re.findall(r"^pub use (Rattle[\w.]+)\.\{([^}]*)\}", file.read_text(), re.M)
-        for module, there in ((module, there) for module, names in passed for there, here in theorems.as_pairs(names) if here == name):
+        for module, there in (
+            (module, there)
+            for module, names in passed
+            for there, here in theorems.as_pairs(names)
+            if here == name
+        ):
             return self.in_module(module, there)
         return None
 
     def in_module(self, module, name):
-        """Where a name of a module leads: to a file and a name in it, or to a word of LOGIC. None if it isn't shown."""
+        """Where a name of a module leads: to a file and a name in it, or to a word of LOGIC. None
+        if it isn't shown."""
         crate, _, *path = module.split(".")[1:]
         if (theorems.CRATES / crate).is_dir():
             file = self.files.get((crate, page_name(".".join(path))))
@@ -240,7 +266,9 @@ class Definitions:
         """Shows what a contract links to."""
         if page == "logic":
             if name not in LOGIC:
-                self.faults.append(f"a contract cites {name} of Rattle's library, and LOGIC has no line for it")
+                self.faults.append(
+                    f"a contract cites {name} of Rattle's library, and LOGIC has no line for it"
+                )
             return
         file = self.files.get((crate, page))
         found = file and self.named(file, name)
@@ -255,8 +283,8 @@ class Definitions:
 
 
 def linked(definitions, file, number, own):
-    """A line of a definition as HTML: its names are links, and those that it makes have a place to lead to. A name that is defined further
-    down is that of a variable here."""
+    """A line of a definition as HTML: its names are links, and those that it makes have a place to
+    lead to. A name that is defined further down is that of a variable here."""
     crate, page = definitions.pages[file]
     code, comment = re.match(r"((?:(?!--).)*)(.*)", file.read_text().splitlines()[number]).groups()
     out, at = "", 0
@@ -278,7 +306,13 @@ def linked(definitions, file, number, own):
                 other, its_page = definitions.pages[there]
                 if definitions.order.index(there) > definitions.order.index(file):
                     definitions.faults.append(f"{file} cites {name} of {there}, which comes later")
-                folder = "" if there == file else f"../{its_page}/index.html" if other == crate else f"../../{other}/{its_page}/index.html"
+                folder = (
+                    ""
+                    if there == file
+                    else f"../{its_page}/index.html"
+                    if other == crate
+                    else f"../../{other}/{its_page}/index.html"
+                )
                 target = f"{folder}#{name}"
             out += f'<a href="{target}">{text}</a>{word[len(text) :]}'
         else:
@@ -328,7 +362,9 @@ def page_of(definitions, file):
         text = [linked(definitions, file, it, own) for it in sorted(span)]
         while not text[-1]:
             text.pop()
-        definitions.faults += [f"{file}: no line makes {it}" for it in sorted(own) if re.fullmatch(r"[\w']+", it)]
+        definitions.faults += [
+            f"{file}: no line makes {it}" for it in sorted(own) if re.fullmatch(r"[\w']+", it)
+        ]
         out += ["<pre>", *text, "</pre>", ""]
     aliases = ", ".join(f'"{it}"' for it in sorted(set(aliases) - {page}) if "'" not in it)
     return [f"#[doc(alias({aliases}))]", *docs(out[:-1]), f"pub mod {page} {{}}", ""]
@@ -336,10 +372,17 @@ def page_of(definitions, file):
 
 def logic():
     """The module of Rattle's own words."""
-    lines = ["The words of the logic, a line each, and its signs.", "", "| Sign | Means |", "|---|---|"]
+    lines = [
+        "The words of the logic, a line each, and its signs.",
+        "",
+        "| Sign | Means |",
+        "|---|---|",
+    ]
     lines += [f"| `{sign}` | {meaning} |" for sign, meaning in SIGNS]
     lines += ["", "| Word | Means |", "|---|---|"]
-    lines += [f'| <b id="{word}"><code>{word}</code></b> | {meaning} |' for word, meaning in LOGIC.items()]
+    lines += [
+        f'| <b id="{word}"><code>{word}</code></b> | {meaning} |' for word, meaning in LOGIC.items()
+    ]
     return [*docs(lines), "pub mod logic {}", ""]
 
 
@@ -375,7 +418,10 @@ def pages(cited):
     for crate in crates:
         its = [page for other, page in map(definitions.pages.get, shown) if other == crate]
         front.append(f"- [`{crate}`]: " + ", ".join(f"[`{it}`]({crate}::{it})" for it in its))
-    front += ["", "A definition is a statement or a function of values as contracts see them: a `Vec` is a list, an `Entities` a record. It"]
+    front += [
+        "",
+        "A definition is a statement or a function of values as contracts see them: a `Vec` is a list, an `Entities` a record. It",
+    ]
     front += ["is never run."]
     made = {}
     for crate in crates:
@@ -405,7 +451,11 @@ def main():
         # rustdoc says which contracts it shows, if all that they may link to is there.
         write(pages(cited_in_sources())[0])
         with tempfile.TemporaryDirectory() as folder:
-            subprocess.run(["cargo", "doc", "--offline", "--quiet", "--no-deps", "--target-dir", folder], cwd="rust/offline", check=True)
+            subprocess.run(
+                ["cargo", "doc", "--offline", "--quiet", "--no-deps", "--target-dir", folder],
+                cwd="rust/offline",
+                check=True,
+            )
             made, faults = pages(cited_in_docs(pathlib.Path(folder, "doc")))
         write(made)
     else:
@@ -413,7 +463,9 @@ def main():
         if {it: it.read_text() for it in PAGES.glob("*.rs")} != made:
             faults.append(f"{PAGES} is not what the docs link to: `.ci/contracts.py write`")
     lines = sum(text.count("\n") for text in made.values())
-    print(*faults, f"contracts: {len(made)} files with {lines} lines, {len(faults)} faults", sep="\n")
+    print(
+        *faults, f"contracts: {len(made)} files with {lines} lines, {len(faults)} faults", sep="\n"
+    )
     return 1 if faults else 0
 
 

@@ -1,12 +1,15 @@
 #!/usr/bin/env python3
-"""Counts what the repository promises and shows: clauses, expectations, mutants, tests. None of them may fall.
+"""Counts what the repository promises and shows: clauses, expectations, mutants, tests. None of
+them may fall.
 
     .ci/counts.py [REV..]     a column for each of these commits, and one for what stands here
 
 - clauses: lines with `ensures` in the sources of crates, but for tests and examples;
-- expectations of tests: the comparisons and the rows of tables in crates/ent_tests, in the tests of rust/ and in rust/erased_tests;
+- expectations of tests: the comparisons and the rows of tables in crates/ent_tests, in the tests of
+  rust/ and in rust/erased_tests;
 - expectations of cases: the answers, outputs, messages and exit statuses in the files of cases;
-- expectations of scripts: the calls in examples/*.sh of a function that ends the script unless a run goes as the line says;
+- expectations of scripts: the calls in examples/*.sh of a function that ends the script unless a
+  run goes as the line says;
 - mutants in the gate, and all of them.
 
 It runs at the top of the repository.
@@ -35,7 +38,10 @@ def checks(script):
     is_outside = True
     for line in script.read_text().splitlines():
         is_outside = (is_outside and not line.endswith("() {")) or line == "}"
-        if is_outside and re.match(r"\s*(answered|at_most|each|ends|fails|full|given_back|prints|reads|refused|spared|takes|targets|tells|tested|unread|unused|written)( |$)", line):
+        if is_outside and re.match(
+            r"\s*(answered|at_most|each|ends|fails|full|given_back|prints|reads|refused|spared|takes|targets|tells|tested|unread|unused|written)( |$)",
+            line,
+        ):
             yield line
 
 
@@ -43,14 +49,34 @@ def counts(top):
     """The counts of a tree, by name."""
     top = pathlib.Path(top)
     crates = [it for it in top.glob("crates/*") if (it / "src").is_dir()]
-    clauses = sum("ensures" in it.split("//")[0] for crate in crates if is_library(crate) for it in lines(crate, ["src/**/*.rt"]))
+    clauses = sum(
+        "ensures" in it.split("//")[0]
+        for crate in crates
+        if is_library(crate)
+        for it in lines(crate, ["src/**/*.rt"])
+    )
     erased = "rust/erased_tests/src"
-    tests = [*lines(top, ["crates/ent_tests/src/**/*.rt", "rust/*/tests/**/*.rs", f"{erased}/*.rs", f"{erased}/values/*.rs"])]
+    tests = [
+        *lines(
+            top,
+            [
+                "crates/ent_tests/src/**/*.rt",
+                "rust/*/tests/**/*.rs",
+                f"{erased}/*.rs",
+                f"{erased}/values/*.rs",
+            ],
+        )
+    ]
     compared = r"\b(assert|assert_eq|assert_ne|prove|prove_eq)!\(|\bexpect\(|^\s*\(\s*(b?r?#*\"|&)"
     cases = [*lines(top, ["crates/*/cases/*", "crates/cases_and_examples/data/*"])]
-    answers = sum(" => " in it or it.startswith(("> ", ">\\ ", ">> ", "! ", "= ")) or it == ">" for it in cases)
+    answers = sum(
+        " => " in it or it.startswith(("> ", ">\\ ", ">> ", "! ", "= ")) or it == ">"
+        for it in cases
+    )
     # Edits in `must-fail` are of definitions: `rt ci` tries each.
-    edits, mutants = [*top.glob("crates/*/must-fail/*.edit")], [*top.glob("crates/*/mutants/*.patch")]
+    edits, mutants = [*top.glob("crates/*/must-fail/*.edit")], [
+        *top.glob("crates/*/mutants/*.patch")
+    ]
     of_gate = len(edits) + sum("\ngate\n" in it.read_text() for it in mutants)
     return {
         "crates": len(crates),
@@ -67,7 +93,9 @@ def counts(top):
 def at(revision):
     """The counts of a commit."""
     with tempfile.TemporaryDirectory() as room:
-        archive = subprocess.run(["git", "archive", revision], capture_output=True, check=True).stdout
+        archive = subprocess.run(
+            ["git", "archive", revision], capture_output=True, check=True
+        ).stdout
         subprocess.run(["tar", "-x", "-C", room], input=archive, check=True)
         return counts(room)
 

@@ -1,13 +1,15 @@
 #!/usr/bin/env python3
-"""How many instructions a step of the works of `cargo bench` takes, here and in plain Rust, by valgrind.
+"""How many instructions a step of the works of `cargo bench` takes, here and in plain Rust, by
+valgrind.
 
     .ci/instructions.py          counts the works of rust/forgeni/benches/instructions.txt, and compares each with its limit
     .ci/instructions.py fit      counts them, and writes the limits anew: what was counted, and one in a hundred more
 
-A clock is noisy where others use the machine. The number of instructions is the same in each run of one program.
+A clock is noisy where others use the machine. The number of instructions is the same in each run of
+one program.
 
-The table `orders` has births in each order, few and ten times as many. There is no plain Rust beside it. A birth among many may take at most
-half as many instructions again as one among few."""
+The table `orders` has births in each order, few and ten times as many. There is no plain Rust
+beside it. A birth among many may take at most half as many instructions again as one among few."""
 import os
 import pathlib
 import re
@@ -20,7 +22,8 @@ ROOT = pathlib.Path(__file__).resolve().parent.parent
 PACKAGE = ROOT / "rust/offline"
 LIMITS = ROOT / "rust/forgeni/benches/instructions.txt"
 ORDERS = "orders"
-# The C library copies memory by another code on each kind of processor. So it takes the one that is everywhere.
+# The C library copies memory by another code on each kind of processor. So it takes the one that is
+# everywhere.
 PLAIN_PROCESSOR = "glibc.cpu.hwcaps=-AVX,-AVX2,-AVX512F,-AVX512VL,-AVX512BW,-ERMS,-FSRM,-BMI2,-RTM,-SSSE3,-SSE4_1,-SSE4_2"
 
 
@@ -37,9 +40,18 @@ def built():
 def counted(program, table, work, side):
     """The instructions of one step of a work on one side: 0 here, 1 in plain Rust."""
     with tempfile.NamedTemporaryFile() as out:
-        words = ["valgrind", "--tool=callgrind", "--collect-atstart=no", "--toggle-collect=*timed*",
-                 f"--callgrind-out-file={out.name}", program, table]
-        environment = dict(os.environ, FORGENI_COUNTED=f"{side} {work}", GLIBC_TUNABLES=PLAIN_PROCESSOR)
+        words = [
+            "valgrind",
+            "--tool=callgrind",
+            "--collect-atstart=no",
+            "--toggle-collect=*timed*",
+            f"--callgrind-out-file={out.name}",
+            program,
+            table,
+        ]
+        environment = dict(
+            os.environ, FORGENI_COUNTED=f"{side} {work}", GLIBC_TUNABLES=PLAIN_PROCESSOR
+        )
         run = subprocess.run(words, env=environment, capture_output=True, text=True)
     steps = re.search(r"^.*?(\d+) steps$", run.stdout, re.M)
     instructions = re.search(r"Collected : (\d+)", run.stderr)
@@ -49,7 +61,8 @@ def counted(program, table, work, side):
 
 
 def out_of_proportion(rows, counts):
-    """What to say of the works of orders whose step takes too much more where there are ten times as many."""
+    """What to say of the works of orders whose step takes too much more where there are ten times
+    as many."""
     by_name = {}
     for (table, work, _), (here, *_) in zip(rows, counts):
         if table == ORDERS:
@@ -59,22 +72,37 @@ def out_of_proportion(rows, counts):
     for name, works in by_name.items():
         (few, of_few), (many, of_many) = min(works), max(works)
         if len(works) != 2 or many != 10 * few:
-            said.append(f"{name}: there must be two works, one of ten times as many births as the other")
+            said.append(
+                f"{name}: there must be two works, one of ten times as many births as the other"
+            )
         elif of_many > 1.5 * of_few:
-            said.append(f"{name}: {of_few:.1f} instructions a birth among {few}, and {of_many:.1f} among ten times as many")
+            said.append(
+                f"{name}: {of_few:.1f} instructions a birth among {few}, and {of_many:.1f} among ten times as many"
+            )
     return said
 
 
 def main():
     lines = LIMITS.read_text().splitlines()
     head = [line for line in lines if line.startswith("#")]
-    rows = [[cell.strip() for cell in line.split("; ")] for line in lines if line and not line.startswith("#")]
+    rows = [
+        [cell.strip() for cell in line.split("; ")]
+        for line in lines
+        if line and not line.startswith("#")
+    ]
     program = built()
     with ThreadPoolExecutor(os.cpu_count()) as pool:
         sides = lambda table: (0,) if table == ORDERS else (0, 1)
-        counts = list(pool.map(lambda row: [counted(program, row[0], row[1], side) for side in sides(row[0])], rows))
+        counts = list(
+            pool.map(
+                lambda row: [counted(program, row[0], row[1], side) for side in sides(row[0])], rows
+            )
+        )
     if sys.argv[1:] == ["fit"]:
-        fitted = [f"{table}; {work}; {here * 1.01:.1f}" for (table, work, _), (here, *_) in zip(rows, counts)]
+        fitted = [
+            f"{table}; {work}; {here * 1.01:.1f}"
+            for (table, work, _), (here, *_) in zip(rows, counts)
+        ]
         LIMITS.write_text("\n".join(head + fitted) + "\n")
     above = 0
     for (table, work, limit), (here, *plain) in zip(rows, counts):

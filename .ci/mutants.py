@@ -8,18 +8,21 @@
     .ci/mutants.py try --changed REV     all of the crates whose sources, specs or proofs differ from that commit
     .ci/mutants.py try --name ..         writes the line `refused by` into each file that has none
 
-A mutant is a file `crates/CRATE/mutants/NAME.patch`: a header, and what `git diff --relative` prints in the crate's folder, so `patch -p1`
-applies it there. What a hunk replaces, with its context, is once in the file; the numbers of its lines aren't read, so they may be old.
+A mutant is a file `crates/CRATE/mutants/NAME.patch`: a header, and what `git diff --relative`
+prints in the crate's folder, so `patch -p1` applies it there. What a hunk replaces, with its
+context, is once in the file; the numbers of its lines aren't read, so they may be old.
 
-In the header, lines with `#` say what the mutant does. A line `refused by: FUNCTION: GOAL` says which function the prover refuses then, and
-which goal of that proof it names. A goal is a clause at a return, an invariant, or what a call requires, and its name says which. If a lemma
-that the goal's answer cites fails, or the answer cites a step that the mutant took away, the script cuts it, and the prover must name the
-goal. The gate tries the mutants with a line `gate`.
+In the header, lines with `#` say what the mutant does. A line `refused by: FUNCTION: GOAL` says
+which function the prover refuses then, and which goal of that proof it names. A goal is a clause at
+a return, an invariant, or what a call requires, and its name says which. If a lemma that the goal's
+answer cites fails, or the answer cites a step that the mutant took away, the script cuts it, and
+the prover must name the goal. The gate tries the mutants with a line `gate`.
 
-Only the function that the file names is checked. Of those that it calls the contracts count, which no mutant changes: their bodies are left
-out, and a hole stands for each of their proofs, and for the proof of each lemma. So a try takes seconds where the check of a crate takes
-minutes. Mutants of several functions of a crate are tried in one check, two of one function in two. The script runs at the top of the
-repository, and needs `rt` on the PATH.
+Only the function that the file names is checked. Of those that it calls the contracts count, which
+no mutant changes: their bodies are left out, and a hole stands for each of their proofs, and for
+the proof of each lemma. So a try takes seconds where the check of a crate takes minutes. Mutants of
+several functions of a crate are tried in one check, two of one function in two. The script runs at
+the top of the repository, and needs `rt` on the PATH.
 """
 
 import argparse
@@ -37,7 +40,8 @@ PARTS = ("src", "specs", "proofs")
 GATE = 70
 # The mutants and tests that have to stay, by name.
 NAMED = pathlib.Path(".ci/named_mutants.txt")
-# What the prover calls a clause at a return, an invariant of a type or of a loop, and what a call requires.
+# What the prover calls a clause at a return, an invariant of a type or of a loop, and what a call
+# requires.
 GOAL = re.compile(r"(returns|invariant_of-[\w.-]+?|[\w.-]+-(requires|init|preserved))(-[\w.-]+)?")
 
 
@@ -87,7 +91,11 @@ class Mutant:
             return texts
         if self.refused_by and not GOAL.fullmatch(self.refused_by[1]):
             return f"`{self.refused_by[1]}` is no clause, no invariant, and nothing that a call requires"
-        return None if self.refused_by or not self.is_of_gate else "it has no line `refused by: FUNCTION: GOAL`"
+        return (
+            None
+            if self.refused_by or not self.is_of_gate
+            else "it has no line `refused by: FUNCTION: GOAL`"
+        )
 
     def functions(self):
         """The functions to check: the one that its file names, or those whose text it changes."""
@@ -122,24 +130,38 @@ class Prover:
         words = [self.kit / "bin/rattle", "check", "--crate-name", crate, root]
         for used in ["std", *self.uses[crate]]:
             own = self.top / f"crates/{used}/out/rlib/{used}.rlib"
-            words += ["--extern", f"{used}={own if used in self.uses else self.kit / f'rlibs/{used}.rlib'}"]
+            words += [
+                "--extern",
+                f"{used}={own if used in self.uses else self.kit / f'rlibs/{used}.rlib'}",
+            ]
         words += ["-L", f"dependency={self.kit / 'rlibs'}"]
         for used in sorted(self.below(crate)):
             words += ["-L", f"dependency={self.top / f'crates/{used}/out/rlib'}"]
-        words += ["--antt-project", self.kit / "rattle/logic/antt-project.json", "--logic-built", self.kit / "logic_built"]
+        words += [
+            "--antt-project",
+            self.kit / "rattle/logic/antt-project.json",
+            "--logic-built",
+            self.kit / "logic_built",
+        ]
         words += ["--crate-type", "staticlib"] if "staticlib" in self.marks[crate] else []
         words += ["--links", f"{crate}=", "--jobs", "1", "--incremental", kept, "--allow-holes"]
         return [str(it) for it in [*words, *(word for it in functions for word in ("--only", it))]]
 
     def build_below(self, crate, anew=False):
-        """Builds the libraries below a crate that aren't built, or may be older than their sources: `rt` does so before each check."""
+        """Builds the libraries below a crate that aren't built, or may be older than their sources:
+        `rt` does so before each check."""
         if anew or any(is_older_than_its_sources(it) for it in self.below(crate)):
-            said = subprocess.run(["rt", "check", "--only", ""], cwd=f"crates/{crate}", capture_output=True, text=True)
+            said = subprocess.run(
+                ["rt", "check", "--only", ""], cwd=f"crates/{crate}", capture_output=True, text=True
+            )
             if said.returncode:
-                sys.exit(f"the libraries below {crate} are not built: {said.stdout[-500:]}{said.stderr[-500:]}")
+                sys.exit(
+                    f"the libraries below {crate} are not built: {said.stdout[-500:]}{said.stderr[-500:]}"
+                )
 
     def check(self, crate, texts, functions, kept):
-        """The status and what is printed of a check of these functions with these texts in place of the crate's own."""
+        """The status and what is printed of a check of these functions with these texts in place of
+        the crate's own."""
         for alone in (empty_others, put_holes, None):
             with tempfile.TemporaryDirectory() as room:
                 room = pathlib.Path(room)
@@ -150,26 +172,42 @@ class Prover:
                     (room / path).write_text(text)
                 if alone and functions:
                     alone(room, crate, functions)
-                how = {"cwd": room, "stdout": subprocess.PIPE, "stderr": subprocess.STDOUT, "errors": "replace"}
+                how = {
+                    "cwd": room,
+                    "stdout": subprocess.PIPE,
+                    "stderr": subprocess.STDOUT,
+                    "errors": "replace",
+                }
                 said = subprocess.run(self.words(crate, functions, kept), **how)
                 if not alone or not is_of_the_room(said.stdout, functions):
-                    return 0 if lacks_only_holes(said.stdout) else said.returncode, with_functions(room, said.stdout)
+                    return 0 if lacks_only_holes(said.stdout) else said.returncode, with_functions(
+                        room, said.stdout
+                    )
 
 
 def is_older_than_its_sources(crate):
     """Whether the library of a crate isn't built, or a file of the crate is newer."""
     built = pathlib.Path(f"crates/{crate}/out/rlib/{crate}.rlib/format")
-    files = [it for part in PARTS for it in pathlib.Path(f"crates/{crate}/{part}").rglob("*") if it.is_file()]
+    files = [
+        it
+        for part in PARTS
+        for it in pathlib.Path(f"crates/{crate}/{part}").rglob("*")
+        if it.is_file()
+    ]
     return not built.is_file() or any(it.stat().st_mtime > built.stat().st_mtime for it in files)
 
 
 def is_of_the_room(said, functions):
-    """Whether a check is refused for what was left out, and not for what it tries: a file can't be read so, or an error stands elsewhere."""
+    """Whether a check is refused for what was left out, and not for what it tries: a file can't be
+    read so, or an error stands elsewhere."""
     files = re.findall(r"(?m)^(?:\./)?(?:specs|proofs)/(\S+)\.antt:\d+:\d+: error", said)
-    return bool(re.search(r"\berror\[[\w-]+\]", said)) or not all(is_of("::".join(it.split("/")[:-1]), functions) for it in files)
+    return bool(re.search(r"\berror\[[\w-]+\]", said)) or not all(
+        is_of("::".join(it.split("/")[:-1]), functions) for it in files
+    )
 
 
-# An error stands behind a place, or begins a line. What is printed of a goal may have the word too, as `error.Differs` of a type's variant.
+# An error stands behind a place, or begins a line. What is printed of a goal may have the word too,
+# as `error.Differs` of a type's variant.
 UNPROVED = re.compile(r"(?m)^(?:[^\s:]+(?::\d+)*: )?error(?:\[[\w-]+\])?:|not proved|no proof")
 
 
@@ -205,9 +243,10 @@ HEAD = re.compile(r"( *)(?:pub(?:\([a-z]+\))? )?fn (\w+)")
 
 
 def empty_others(room, crate, functions):
-    """As `put_holes`, and leaves the bodies of these functions out: a caller sees no more than their contracts. So the paths through them
-    aren't made. What the mutant itself changed stays, and so do cycles, methods of traits and what returns an `impl`. Of a lemma too no more
-    is seen than what it says, so a hole stands for its proof."""
+    """As `put_holes`, and leaves the bodies of these functions out: a caller sees no more than
+    their contracts. So the paths through them aren't made. What the mutant itself changed stays,
+    and so do cycles, methods of traits and what returns an `impl`. Of a lemma too no more is seen
+    than what it says, so a hole stands for its proof."""
     put_holes(room, crate, functions)
     for file in sorted((room / "proofs").rglob("*.antt")):
         if file.name not in ("Answers.antt", "Invariants.antt", "Proof.antt", "Lib.antt"):
@@ -216,7 +255,9 @@ def empty_others(room, crate, functions):
     homes = homes_in(room, files)
     for file in files:
         own = pathlib.Path("crates", crate, file.relative_to(room)).read_text()
-        for path in empty_bodies(file, module_of(file.relative_to(room / "src")), homes, own, functions):
+        for path in empty_bodies(
+            file, module_of(file.relative_to(room / "src")), homes, own, functions
+        ):
             put_hole(room.joinpath("proofs", *path), crate, path)
 
 
@@ -224,13 +265,16 @@ def homes_in(room, files):
     """The modules that have a type of each name."""
     homes = {}
     for file in files:
-        for name in re.findall(r"(?m)^(?:pub(?:\([a-z]+\))? )?(?:struct|enum) (\w+)", file.read_text()):
+        for name in re.findall(
+            r"(?m)^(?:pub(?:\([a-z]+\))? )?(?:struct|enum) (\w+)", file.read_text()
+        ):
             homes.setdefault(name, []).append(module_of(file.relative_to(room / "src")))
     return homes
 
 
 def empty_bodies(file, module, homes, own, functions):
-    """Leaves the bodies of the other functions of a file out, and gives the paths of those functions. Without the mutant its text is `own`."""
+    """Leaves the bodies of the other functions of a file out, and gives the paths of those
+    functions. Without the mutant its text is `own`."""
     lines, owner, at, emptied = file.read_text().splitlines(), module, 0, []
     while at < len(lines):
         begun = re.match(r"(impl|trait|pub trait|pub\(crate\) trait)\b(.*)", lines[at])
@@ -239,7 +283,11 @@ def empty_bodies(file, module, homes, own, functions):
         body = body_of(lines, at)
         if body:
             first, end = body
-            path = None if owner is None else (*filter(None, owner.split("::")), HEAD.match(lines[at])[2])
+            path = (
+                None
+                if owner is None
+                else (*filter(None, owner.split("::")), HEAD.match(lines[at])[2])
+            )
             if path and not stays(lines, at, body, own) and not is_of("::".join(path), functions):
                 lines[first:end] = [f"{HEAD.match(lines[at])[1]}    loop {{}}"]
                 emptied.append(path)
@@ -251,10 +299,15 @@ def empty_bodies(file, module, homes, own, functions):
 
 
 def stays(lines, at, body, own):
-    """Whether the function has to keep its body: it is of a cycle, returns an `impl`, or the mutant changed it."""
+    """Whether the function has to keep its body: it is of a cycle, returns an `impl`, or the mutant
+    changed it."""
     first, end = body
     is_of_cycle = any("#[cycle" in it for it in lines[max(at - 4, 0) : at])
-    return is_of_cycle or any("-> impl" in it for it in lines[at:first]) or "\n".join(lines[at : end + 1]) not in own
+    return (
+        is_of_cycle
+        or any("-> impl" in it for it in lines[at:first])
+        or "\n".join(lines[at : end + 1]) not in own
+    )
 
 
 LEMMA = re.compile(r"( *)(?:pub )?([^\sA-Z:(){}][^\s:(){}]*) : ")
@@ -263,19 +316,31 @@ VALUE = re.compile(r"(?:ℕ|ℤ|[A-Z]\w*|\(?(?:List|Option|Result|Type)\b[^≡�
 
 
 def empty_lemmas(file):
-    """Leaves a hole for each lemma of the file. What is no lemma has a word in front, or gives a value, and stays: it can be opened."""
+    """Leaves a hole for each lemma of the file. What is no lemma has a word in front, or gives a
+    value, and stays: it can be opened."""
     lines, left, at = file.read_text().splitlines(), [], 0
     while at < len(lines):
         head = LEMMA.match(lines[at])
-        body = head and next((it for it in range(at + 1, len(lines)) if not lines[it].startswith(f"{head[1]}    ")), None)
-        if not body or not lines[body].startswith(f"{head[1]}{head[2]} ") or gives_value(lines[at:body]):
+        body = head and next(
+            (it for it in range(at + 1, len(lines)) if not lines[it].startswith(f"{head[1]}    ")),
+            None,
+        )
+        if (
+            not body
+            or not lines[body].startswith(f"{head[1]}{head[2]} ")
+            or gives_value(lines[at:body])
+        ):
             left.append(lines[at])
             at += 1
             continue
         left += [*lines[at:body], f"{head[1]}{head[2]} = ?"]
         own = tuple(f"{head[1]}{it}" for it in (f"{head[2]} ", "  ", "}", ")", "]"))
         at = body + 1
-        while at < len(lines) and (lines[at].startswith(own) or not lines[at] and "".join(lines[at + 1 : at + 2]).startswith(own)):
+        while at < len(lines) and (
+            lines[at].startswith(own)
+            or not lines[at]
+            and "".join(lines[at + 1 : at + 2]).startswith(own)
+        ):
             at += 1
     file.write_text("\n".join(left) + "\n")
 
@@ -289,14 +354,19 @@ def module_of(path):
 
 
 def owner_of(kind, head, homes, module):
-    """The type whose own methods stand here, in its module, or None if they are those of a trait."""
+    """The type whose own methods stand here, in its module, or None if they are those of a
+    trait."""
     said = re.sub(r"<[^<>]*(?:<[^<>]*>)?[^<>]*>", "", head).split("{")[0].split()
     if kind != "impl" or "for" in said or not said or len(homes.get(said[0], [])) != 1:
         return None
-    # Where the type is that of a type, as `Filled<'_, Log<C>>`, the prover's name has the words of that too, in the module of these methods:
-    # `filling::Filled+Log+C`.
+    # Where the type is that of a type, as `Filled<'_, Log<C>>`, the prover's name has the words of
+    # that too, in the module of these methods: `filling::Filled+Log+C`.
     within = re.search(rf"\b{said[0]}<(.*)>", head)
-    words = [it for it in re.findall(r"'?\w+", within[1]) if it[0] != "'" and it != "_"] if within else []
+    words = (
+        [it for it in re.findall(r"'?\w+", within[1]) if it[0] != "'" and it != "_"]
+        if within
+        else []
+    )
     parameters = re.findall(r"(?:^<|, )(\w+)", head.split(f"{said[0]}<")[0])
     if all(it in parameters for it in words):
         return "::".join(filter(None, (homes[said[0]][0], said[0])))
@@ -304,7 +374,8 @@ def owner_of(kind, head, homes, module):
 
 
 def body_of(lines, at):
-    """The lines of the body of the function that begins on this line: its first one, and that of the bracket which ends it."""
+    """The lines of the body of the function that begins on this line: its first one, and that of
+    the bracket which ends it."""
     head = HEAD.match(lines[at])
     if not head:
         return None
@@ -312,7 +383,9 @@ def body_of(lines, at):
     for first in range(at, len(lines)):
         if lines[first] == f"{indent}{{" or re.search(r"\)(?: -> [^{};]*)? \{$", lines[first]):
             break
-        if re.search(r"[;}]$", lines[first]) and not re.search(r"^ +(requires|ensures|\(|λ|→|×)|\}$", lines[first]):
+        if re.search(r"[;}]$", lines[first]) and not re.search(
+            r"^ +(requires|ensures|\(|λ|→|×)|\}$", lines[first]
+        ):
             return None
     else:
         return None
@@ -321,7 +394,8 @@ def body_of(lines, at):
 
 
 def with_functions(room, said):
-    """What is printed, with the function's name before each place of the source where a goal is open."""
+    """What is printed, with the function's name before each place of the source where a goal is
+    open."""
 
     def named(note):
         lines = (room / note[1]).read_text().splitlines()[: int(note[2])]
@@ -332,15 +406,20 @@ def with_functions(room, said):
 
 
 def refusals(crate, said):
-    """Which functions a check doesn't prove, each with what it names of their proofs: the goals and lemmas that don't hold."""
+    """Which functions a check doesn't prove, each with what it names of their proofs: the goals and
+    lemmas that don't hold."""
     found = {it: [] for it in re.findall(rf"(?m)^fn {crate}::(\S+): (?:not proved|no proof)", said)}
     for function, goal, why in failing(said):
         # An answer that cites what is gone with the mutant says nothing of the contract.
         if function in found and not GONE.search(why):
             found[function].append(goal)
-    for function, goals in re.findall(rf"(?m)^fn {crate}::(\S+): no proof: .*?`search` did not prove (.*)$", said):
+    for function, goals in re.findall(
+        rf"(?m)^fn {crate}::(\S+): no proof: .*?`search` did not prove (.*)$", said
+    ):
         found[function] += re.findall(r"`([^`]+)`", goals)
-    for name, file, goal in re.findall(r"(?m)^note: (\w+): src/(\S+)\.rt:\S+ it is not proved .*?\(`([^`]+)`\)", said):
+    for name, file, goal in re.findall(
+        r"(?m)^note: (\w+): src/(\S+)\.rt:\S+ it is not proved .*?\(`([^`]+)`\)", said
+    ):
         owners = [it for it in found if it.split("::")[-1] == name]
         if len(owners) > 1:
             owners = [it for it in owners if it.startswith(file.replace("/", "::") + "::")]
@@ -355,30 +434,48 @@ GONE = re.compile(r"has no (?:field )?`|is not in scope")
 
 def failing(said):
     """What fails in the answers: of which function, what it is called, and why."""
-    errors = re.findall(r"(?m)^(?:\./)?proofs/(\S+)/\w+\.antt:\d+:\d+: error: (?:in )?`([^`]+)`(.*)", said)
+    errors = re.findall(
+        r"(?m)^(?:\./)?proofs/(\S+)/\w+\.antt:\d+:\d+: error: (?:in )?`([^`]+)`(.*)", said
+    )
     return [(folder.replace("/", "::"), name, why) for folder, name, why in errors]
 
 
 def goals_in(found):
-    """What is named without the lemmas: an mutant is refused by what the function owes, and not by a step of its proof."""
+    """What is named without the lemmas: an mutant is refused by what the function owes, and not by
+    a step of its proof."""
     return {it: [goal for goal in named if GOAL.fullmatch(goal)] for it, named in found.items()}
 
 
 def answers_left(crate, said):
-    """The answers by path, without lemmas that fail, answers that cite what is gone with the mutant, and all that cites one of those."""
+    """The answers by path, without lemmas that fail, answers that cite what is gone with the
+    mutant, and all that cites one of those."""
     texts = {}
     for function in {it for it, _, _ in failing(said)}:
         folder = "/".join(("proofs", *function.split("::")))
         path = pathlib.Path("crates", crate, folder, "Answers.antt")
-        cut = [name for it, name, why in failing(said) if it == function and (not GOAL.fullmatch(name) or GONE.search(why))]
-        cut += re.findall(rf"(?m)^(?:\./)?{re.escape(folder)}/.* has no `([^`]+)` that can be named", said)
+        cut = [
+            name
+            for it, name, why in failing(said)
+            if it == function and (not GOAL.fullmatch(name) or GONE.search(why))
+        ]
+        cut += re.findall(
+            rf"(?m)^(?:\./)?{re.escape(folder)}/.* has no `([^`]+)` that can be named", said
+        )
         if not cut or not path.is_file():
             continue
         blocks = re.split(r"\n\n(?=\S)", path.read_text())
         for lemma in cut:
             cites = re.compile(rf"(?<![\w.-]){re.escape(lemma)}(?![\w-])")
-            cut += [name for it in blocks if cites.search(it) for name in declared(it) if name not in cut]
-        texts[f"{folder}/Answers.antt"] = "\n\n".join(it for it in blocks if not set(declared(it)) & set(cut))
+            cut += [
+                name
+                for it in blocks
+                if cites.search(it)
+                for name in declared(it)
+                if name not in cut
+            ]
+        texts[f"{folder}/Answers.antt"] = "\n\n".join(
+            it for it in blocks if not set(declared(it)) & set(cut)
+        )
     return texts
 
 
@@ -388,30 +485,49 @@ def declared(block):
 
 
 def of_clause_first(goals):
-    """The goal that says most of the contract: one of a clause of the function, else of its invariant, else the first."""
+    """The goal that says most of the contract: one of a clause of the function, else of its
+    invariant, else the first."""
     kinds = [r"^returns.*-clause-", r"^returns", r"invariant"]
     rank = lambda it: next((at for at, kind in enumerate(kinds) if re.search(kind, it)), len(kinds))
     return min(goals, key=rank) if goals else None
 
 
 def enclosing(mutant):
-    """The functions whose text an mutant changes, by the ends of the names that the prover gives them, or none where they can't be told."""
+    """The functions whose text an mutant changes, by the ends of the names that the prover gives
+    them, or none where they can't be told."""
     found = []
     for file, old, new in mutant.hunks:
         text = pathlib.Path("crates", mutant.crate, file).read_text()
         # Up to the first line that changes.
-        same = next((at for at, (one, other) in enumerate(zip(old, new)) if one != other), min(len(old), len(new)))
+        same = next(
+            (at for at, (one, other) in enumerate(zip(old, new)) if one != other),
+            min(len(old), len(new)),
+        )
         before = text[: text.index("\n".join(old))] + "\n".join(old[: same + 1])
-        name = re.findall(r"(?m)^\s*(?:pub(?:\([a-z]+\))? )?(?:const )?(?:extern \"C\" )?fn (\w+)", before)
+        name = re.findall(
+            r"(?m)^\s*(?:pub(?:\([a-z]+\))? )?(?:const )?(?:extern \"C\" )?fn (\w+)", before
+        )
         head = re.findall(r"(?m)^(impl\b.*|\})", before)
-        module = re.sub(r"(^|/)(lib|mod)$", "", file.removeprefix("src/").removesuffix(".rt")).replace("/", "::")
+        module = re.sub(
+            r"(^|/)(lib|mod)$", "", file.removeprefix("src/").removesuffix(".rt")
+        ).replace("/", "::")
         owner = ""
         if name and head and head[-1].startswith("impl"):
-            said = re.sub(r"<[^<>]*(?:<[^<>]*>)?[^<>]*>", "", head[-1].removeprefix("impl")).split("{")[0].split()
+            said = (
+                re.sub(r"<[^<>]*(?:<[^<>]*>)?[^<>]*>", "", head[-1].removeprefix("impl"))
+                .split("{")[0]
+                .split()
+            )
             of = said[said.index("for") + 1] if "for" in said else said[0]
             owner = (of + said[0].split("::")[-1] if "for" in said else of) + "::"
             # A method has the name of its type's module, wherever it stands.
-            module = module if re.search(rf"(?m)^(?:pub(?:\([a-z]+\))? )?(?:struct|enum) {re.escape(of)}\b", text) else ""
+            module = (
+                module
+                if re.search(
+                    rf"(?m)^(?:pub(?:\([a-z]+\))? )?(?:struct|enum) {re.escape(of)}\b", text
+                )
+                else ""
+            )
         if not name:
             return []
         found.append("::".join(it for it in (module, owner + name[-1]) if it))
@@ -419,11 +535,17 @@ def enclosing(mutant):
 
 
 # What a try comes to.
-REFUSED, OTHERWISE, LET_THROUGH, UNKNOWN = "refused", "refused otherwise", "LET THROUGH", "NOT TRIED"
+REFUSED, OTHERWISE, LET_THROUGH, UNKNOWN = (
+    "refused",
+    "refused otherwise",
+    "LET THROUGH",
+    "NOT TRIED",
+)
 
 
 def goals_of(mutant, found):
-    """The functions of the mutant among those that a check doesn't prove, where it names a goal of theirs."""
+    """The functions of the mutant among those that a check doesn't prove, where it names a goal of
+    theirs."""
     ends = tuple(f"::{it}" for it in mutant.functions())
     return {it: goals for it, goals in found.items() if goals and f"::{it}".endswith(ends)}
 
@@ -444,7 +566,10 @@ def verdict(mutant, status, said, names):
     own = goals_of(mutant, found) or {it: goals for it, goals in found.items() if goals}
     if not own:
         return UNKNOWN, f"no goal is named: {', '.join(found)}"
-    function, goal = min(((it, of_clause_first(own[it])) for it in own), key=lambda it: not it[1].startswith("returns"))
+    function, goal = min(
+        ((it, of_clause_first(own[it])) for it in own),
+        key=lambda it: not it[1].startswith("returns"),
+    )
     if names:
         text = mutant.path.read_text()
         at = text.index("--- ") if text.startswith("--- ") else text.index("\n--- ") + 1
@@ -453,7 +578,8 @@ def verdict(mutant, status, said, names):
 
 
 def alone(prover, mutant, kept, names):
-    """Tries one mutant by itself: first over the functions that it should be refused by, then over all."""
+    """Tries one mutant by itself: first over the functions that it should be refused by, then over
+    all."""
     texts, functions = mutant.over({}), mutant.functions()
     if isinstance(texts, str):
         return UNKNOWN, texts
@@ -485,12 +611,16 @@ def rounds_of(mutants):
 
 
 def together(prover, crate, group, functions, texts, kept, names):
-    """Tries mutants of several functions in one check: what refuses one stands in its function's own proof. Those that this doesn't settle
-    are tried by themselves."""
+    """Tries mutants of several functions in one check: what refuses one stands in its function's
+    own proof. Those that this doesn't settle are tried by themselves."""
     settled = {}
     if len(group) > 1:
         status, said = prover.check(crate, texts, sorted(functions), kept)
-        found = goals_in(refusals(crate, said)) if status == 1 and not re.search(r"\berror\[[\w-]+\]", said) else {}
+        found = (
+            goals_in(refusals(crate, said))
+            if status == 1 and not re.search(r"\berror\[[\w-]+\]", said)
+            else {}
+        )
         for mutant in group:
             if goals_of(mutant, found):
                 mine = verdict(mutant, status, said, names)
@@ -518,9 +648,20 @@ def try_crate(prover, crate, mutants, names):
 
 
 def changed_since(revision):
-    """The crates whose sources, specs or proofs differ from a commit, in what is committed or not."""
-    said = subprocess.run(["git", "diff", "--name-only", revision, "--", "crates"], capture_output=True, text=True, check=True)
-    new = subprocess.run(["git", "ls-files", "--others", "--exclude-standard", "crates"], capture_output=True, text=True, check=True)
+    """The crates whose sources, specs or proofs differ from a commit, in what is committed or
+    not."""
+    said = subprocess.run(
+        ["git", "diff", "--name-only", revision, "--", "crates"],
+        capture_output=True,
+        text=True,
+        check=True,
+    )
+    new = subprocess.run(
+        ["git", "ls-files", "--others", "--exclude-standard", "crates"],
+        capture_output=True,
+        text=True,
+        check=True,
+    )
     paths = [it.split("/") for it in (said.stdout + new.stdout).splitlines()]
     return sorted({it[1] for it in paths if len(it) > 3 and it[2] in PARTS})
 
@@ -546,9 +687,15 @@ def fit():
     faults = [f"{it.path}: {it.fault()}" for it in mutants if it.fault()]
     faults += lost(mutants)
     gate = sum(it.is_of_gate for it in mutants)
-    faults += [f"the gate tries {gate} mutants, and at most {GATE} are wanted"] if gate > GATE else []
+    faults += (
+        [f"the gate tries {gate} mutants, and at most {GATE} are wanted"] if gate > GATE else []
+    )
     unnamed = sum(not it.refused_by for it in mutants)
-    print(*faults, f"mutants: {len(mutants)}, {gate} of them in the gate, {unnamed} without a line `refused by`, {len(faults)} faults", sep="\n")
+    print(
+        *faults,
+        f"mutants: {len(mutants)}, {gate} of them in the gate, {unnamed} without a line `refused by`, {len(faults)} faults",
+        sep="\n",
+    )
     return 1 if faults else 0
 
 
@@ -573,7 +720,8 @@ def try_all(options):
     for crate in by_crate if not options.built else ():
         prover.build_below(crate)
     results = try_crates(prover, by_crate, options)
-    # A library may have been built over another build of one below it, as an earlier run on the machine had it.
+    # A library may have been built over another build of one below it, as an earlier run on the
+    # machine had it.
     again = {}
     for mutant, kind, _ in results:
         if kind == UNKNOWN:
@@ -581,9 +729,17 @@ def try_all(options):
     for crate in again:
         prover.build_below(crate, anew=True)
     results = [it for it in results if it[1] != UNKNOWN] + try_crates(prover, again, options)
-    faults = [f"{mutant.crate}/{mutant.name}: {kind}: {said}" for mutant, kind, said in results if kind != REFUSED]
+    faults = [
+        f"{mutant.crate}/{mutant.name}: {kind}: {said}"
+        for mutant, kind, said in results
+        if kind != REFUSED
+    ]
     count = len(results) - len(faults)
-    print(*faults, f"mutants tried: {len(results)}, refused as their files say: {count}, not so: {len(faults)}", sep="\n")
+    print(
+        *faults,
+        f"mutants tried: {len(results)}, refused as their files say: {count}, not so: {len(faults)}",
+        sep="\n",
+    )
     return 1 if faults else 0
 
 

@@ -1,6 +1,7 @@
 #!/usr/bin/env python3
-"""Compares README and the pages with what they quote. It needs the programs that the gate built, and runs at the top of the repository.
-With `--unbuilt` it leaves out what the programs print, and needs none.
+"""Compares README and the pages with what they quote. It needs the programs that the gate built,
+and runs at the top of the repository. With `--unbuilt` it leaves out what the programs print, and
+needs none.
 
 Above each fenced block stands a line that says what the block is:
 
@@ -9,11 +10,13 @@ Above each fenced block stands a line that says what the block is:
     <!-- ran by the gate --> commands, which `.ci/run` runs
     <!-- picture -->         a drawing
 
-A block without such a line is refused, so nothing that a page quotes goes uncompared. The Rust in the package's README is the front page of its
-docs, and `cargo test` runs it. Two tables of docs/FORMATS.md are compared too: the steps of its first schedule with what the program prints, and
-the refusals of scripts, script by script. Links and paths lead to what is there, and so do the files that CONTRIBUTING lists for a change. The forms
-that were replaced are those of .ci/replaced.txt. Words that only the sources use occur in code alone. No cell of a table is longer than a
-reader takes in at once.
+A block without such a line is refused, so nothing that a page quotes goes uncompared. The Rust in
+the package's README is the front page of its docs, and `cargo test` runs it. Two tables of
+docs/FORMATS.md are compared too: the steps of its first schedule with what the program prints, and
+the refusals of scripts, script by script. Links and paths lead to what is there, and so do the
+files that CONTRIBUTING lists for a change. The forms that were replaced are those of
+.ci/replaced.txt. Words that only the sources use occur in code alone. No cell of a table is longer
+than a reader takes in at once.
 """
 
 import pathlib
@@ -31,7 +34,9 @@ MARK = re.compile(r"<!-- (from|prints|ran by the gate|picture)(?: (.*))? -->$")
 MOST_OF_CELL = 300
 
 # Words of the sources for which the pages have one that readers know.
-INTERNAL = re.compile(r"\b(seats?|badges?|aside|settled?|at home|ungone|credits?|kit)\b", re.IGNORECASE)
+INTERNAL = re.compile(
+    r"\b(seats?|badges?|aside|settled?|at home|ungone|credits?|kit)\b", re.IGNORECASE
+)
 
 
 def runs_of(lines):
@@ -63,13 +68,18 @@ def printed(command, given=None):
 
 
 def blocks_of(page):
-    """Each fenced block of a page: its first line's number, the line above it, and its own lines."""
+    """Each fenced block of a page: its first line's number, the line above it, and its own
+    lines."""
     above, block, at = "", None, 0
     for number, line in enumerate(page.read_text().splitlines(), 1):
         if line.lstrip().startswith("```"):
             if block is None:
                 block, at = [], number
-                above = "<!-- ran by the gate -->" if page == FRONT_PAGE and line == "```rust" else above
+                above = (
+                    "<!-- ran by the gate -->"
+                    if page == FRONT_PAGE and line == "```rust"
+                    else above
+                )
             else:
                 yield at, above, block
                 block = above = None
@@ -81,14 +91,19 @@ def blocks_of(page):
 
 
 def fault_of(mark, block, built):
-    """What is wrong with a block under this line, or None. What a command prints is compared if the programs are built."""
+    """What is wrong with a block under this line, or None. What a command prints is compared if the
+    programs are built."""
     what = MARK.match(mark.strip())
     if not what:
         return "has no line that says what it is"
     kind, object = what.groups()
     if kind == "from":
         lines = pathlib.Path(object).read_text().splitlines()
-        return None if all(has_run(lines, it) for it in runs_of(block)) else f"doesn't stand in {object}"
+        return (
+            None
+            if all(has_run(lines, it) for it in runs_of(block))
+            else f"doesn't stand in {object}"
+        )
     if kind == "prints" and built:
         lines = printed(object) or printed(f"{object} 2>&1")
         same = all(has_run(lines, it) for it in runs_of(block)) if ".." in block else lines == block
@@ -105,7 +120,8 @@ def cells_of(page, head):
 
 
 def faults_of_schedule():
-    """The steps of the page's schedule are the lines of its file, each with the line that it prints."""
+    """The steps of the page's schedule are the lines of its file, each with the line that it
+    prints."""
     cells = cells_of(FORMATS, "| Line | Prints | |")
     steps, said = [it[0].strip("`") for it in cells], [it[1].strip("`") for it in cells]
     file = "examples/two_callers.txt"
@@ -123,7 +139,8 @@ def faults_of_refusals():
 
 
 def faults_of_touched():
-    """Each file of CONTRIBUTING's table of changes is there: `CRATE`: `FOLDER/` `NAME`, `NAME`; `FOLDER/NAME`."""
+    """Each file of CONTRIBUTING's table of changes is there: `CRATE`: `FOLDER/` `NAME`, `NAME`;
+    `FOLDER/NAME`."""
     page = pathlib.Path("CONTRIBUTING.md")
     for _, files in cells_of(page, "| You change | Files |"):
         for crate, parts in re.findall(r"`(\w+)`: (.*?)(?=\. |\.$|$)", files):
@@ -138,12 +155,25 @@ def faults_of_touched():
 
 
 def faults_of_replaced():
-    """Each form that was replaced has its row on the page of decisions, and no other form has; what replaces it is in its file."""
-    listed = [it.split("; ") for it in REPLACED.read_text().splitlines() if it and not it.startswith("#")]
-    forms, rows = [it[0] for it in listed], [it[0] for it in cells_of(DECISIONS, "| Form | What replaces it, and why |")]
-    yield from (f"{DECISIONS}: no row says what replaces this form: {it}" for it in forms if it not in rows)
-    yield from (f"{DECISIONS}: this form isn't in {REPLACED}: {it}" for it in rows if it not in forms)
-    yield from (f"{REPLACED}: {file} doesn't have {it}" for _, file, it in listed if it not in pathlib.Path(file).read_text())
+    """Each form that was replaced has its row on the page of decisions, and no other form has; what
+    replaces it is in its file."""
+    listed = [
+        it.split("; ") for it in REPLACED.read_text().splitlines() if it and not it.startswith("#")
+    ]
+    forms, rows = [it[0] for it in listed], [
+        it[0] for it in cells_of(DECISIONS, "| Form | What replaces it, and why |")
+    ]
+    yield from (
+        f"{DECISIONS}: no row says what replaces this form: {it}" for it in forms if it not in rows
+    )
+    yield from (
+        f"{DECISIONS}: this form isn't in {REPLACED}: {it}" for it in rows if it not in forms
+    )
+    yield from (
+        f"{REPLACED}: {file} doesn't have {it}"
+        for _, file, it in listed
+        if it not in pathlib.Path(file).read_text()
+    )
 
 
 def faults_of_tables(page):
@@ -157,14 +187,25 @@ def faults_of_tables(page):
 
 
 def faults_of_text(page):
-    """Each link of a page leads to a file, and so does each path of a folder that is at the top or beside the page. No word is internal."""
+    """Each link of a page leads to a file, and so does each path of a folder that is at the top or
+    beside the page. No word is internal."""
     text = re.sub(r"```.*?```|<!--.*?-->", "", page.read_text(), flags=re.S)
     yield from (f"{page}: the word {it}" for it in INTERNAL.findall(re.sub(r"`[^`]*`", "", text)))
     for path in re.findall(r"`([\w.]+/[\w./-]*\w)`", text):
-        near = [it / path for it in (page.parent, pathlib.Path()) if (it / path.split("/")[0]).is_dir()]
-        if near and "NAME" not in path and not any(it.exists() or it.with_suffix(".antt").exists() for it in near):
+        near = [
+            it / path for it in (page.parent, pathlib.Path()) if (it / path.split("/")[0]).is_dir()
+        ]
+        if (
+            near
+            and "NAME" not in path
+            and not any(it.exists() or it.with_suffix(".antt").exists() for it in near)
+        ):
             yield f"{page}: {path} isn't there"
-    yield from (f"{page}: no {it}" for it in re.findall(r"\]\(([^):]+)\)", text) if not (page.parent / it).exists())
+    yield from (
+        f"{page}: no {it}"
+        for it in re.findall(r"\]\(([^):]+)\)", text)
+        if not (page.parent / it).exists()
+    )
 
 
 def main():
@@ -182,7 +223,11 @@ def main():
     faults += [*faults_of_touched(), *faults_of_replaced()]
     if built:
         faults += [*faults_of_schedule(), *faults_of_refusals()]
-    print(*faults, f"pages: {count} blocks of {len(pages)} pages compared, {len(faults)} faults", sep="\n")
+    print(
+        *faults,
+        f"pages: {count} blocks of {len(pages)} pages compared, {len(faults)} faults",
+        sep="\n",
+    )
     return 1 if faults else 0
 
 

@@ -1,10 +1,12 @@
 #!/usr/bin/env python3
-"""Compares what a script picks by a pattern with the list of .ci/picks.txt, both ways: a test or a file that was renamed isn't left out unseen.
+"""Compares what a script picks by a pattern with the list of .ci/picks.txt, both ways: a test or a
+file that was renamed isn't left out unseen.
 
     .. | .ci/picks.py SCRIPT WHAT     the names that the script has picked, one a line; prints how many there are
     .ci/picks.py all                  at the end of the gate: prints the counts again, and each part must have been compared
 
-A script of Python calls `compare`. If the environment has PICKS, the counts are kept in that file for `all`.
+A script of Python calls `compare`. If the environment has PICKS, the counts are kept in that file
+for `all`.
 """
 
 import os
@@ -32,9 +34,16 @@ def faults_of(part, picked):
     listed = parts().get(part)
     if not listed:
         return [f"{part}: {LIST.name} has no such part"]
-    faults = [f"{part}: {it} is in {LIST.name}, and isn't picked" for it in listed if it not in picked]
-    faults += [f"{part}: {it} is picked, and isn't in {LIST.name}" for it in picked if it not in listed]
-    return faults + [f"{part}: {it} is picked twice" for it in sorted({it for it in picked if picked.count(it) > 1})]
+    faults = [
+        f"{part}: {it} is in {LIST.name}, and isn't picked" for it in listed if it not in picked
+    ]
+    faults += [
+        f"{part}: {it} is picked, and isn't in {LIST.name}" for it in picked if it not in listed
+    ]
+    return faults + [
+        f"{part}: {it} is picked twice"
+        for it in sorted({it for it in picked if picked.count(it) > 1})
+    ]
 
 
 def compare(script, what, picked):

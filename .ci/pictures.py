@@ -1,13 +1,14 @@
 #!/usr/bin/env python3
-"""Draws the pictures of docs/pictures, and checks what the programs draw. The code that draws isn't proved.
+"""Draws the pictures of docs/pictures, and checks what the programs draw. The code that draws isn't
+proved.
 
     pictures.py [--cases N] [--seed N]     draws them
     pictures.py --check [..]               ends with status 1 if a committed picture is another one
 
-Both take N random schedules and traces, by default 100 of each. In their pictures no text may cover another one or a thick line, or leave the
-picture. Where there is no picture, the programs have to print, say and end as they do without being asked for one, and how they end is listed. It
-runs at the top of the
-repository, on the programs that `.ci/programs.sh` has built.
+Both take N random schedules and traces, by default 100 of each. In their pictures no text may cover
+another one or a thick line, or leave the picture. Where there is no picture, the programs have to
+print, say and end as they do without being asked for one, and how they end is listed. It runs at
+the top of the repository, on the programs that `.ci/programs.sh` has built.
 """
 
 import argparse
@@ -26,19 +27,23 @@ from changed_answers import case as changed_trace
 
 PROGRAMS = pathlib.Path(os.environ.get("PROGRAMS", "rust/offline/target/programs"))
 FOLDER = pathlib.Path("docs/pictures")
-# Each picture, with the words that draw it and their input. A trace's picture goes to the file that `--draw` names.
+# Each picture, with the words that draw it and their input. A trace's picture goes to the file that
+# `--draw` names.
 PICTURES = {
     "two_callers.svg": (["spawnrun", "draw"], "examples/two_callers.txt"),
     "reused_slots.svg": (["spawnrun", "draw", "--generations", "2"], "examples/reused_slots.txt"),
     "given_twice.svg": (["tracecheck", "--draw"], "examples/given_twice.txt"),
 }
-# How high a text is above its baseline and below it, and how wide a letter is at most. A title has letters of its own.
+# How high a text is above its baseline and below it, and how wide a letter is at most. A title has
+# letters of its own.
 ABOVE, BELOW, LETTER, TITLE_LETTER = 8, 2, 6.1, 9
 SVG = "{http://www.w3.org/2000/svg}"
 
 
 def run(words, text):
-    ran = subprocess.run([PROGRAMS / words[0], *words[1:]], input=text, capture_output=True, timeout=120)
+    ran = subprocess.run(
+        [PROGRAMS / words[0], *words[1:]], input=text, capture_output=True, timeout=120
+    )
     return ran.returncode, ran.stdout, ran.stderr
 
 
@@ -64,33 +69,131 @@ DIFFERS = b"alloc => 1v1\n"
 MANY = b"reserve 1 41 =>" + b"".join(b" %dv1" % it for it in range(1, 42))
 # Words, the input, the exit status, what is printed, and how standard error begins.
 ENDS = [
-    (["spawnrun", "draw", "--help"], b"", 2, b"", b"Draws the schedule of allocator events on standard input, as an SVG\n"),
-    (["spawnrun", "draw", "--slots", "0"], b"", 2, b"", b"error: invalid value '0' for '--slots <N>'"),
+    (
+        ["spawnrun", "draw", "--help"],
+        b"",
+        2,
+        b"",
+        b"Draws the schedule of allocator events on standard input, as an SVG\n",
+    ),
+    (
+        ["spawnrun", "draw", "--slots", "0"],
+        b"",
+        2,
+        b"",
+        b"error: invalid value '0' for '--slots <N>'",
+    ),
     (["spawnrun", "draw", "replay"], b"", 4, b"", b"spawnrun: no such file: replay\n"),
-    (["spawnrun", "draw", "one", "two"], b"", 2, b"", b"error: unexpected argument 'one' found\n\nUsage: spawnrun draw [OPTIONS]\n"),
+    (
+        ["spawnrun", "draw", "one", "two"],
+        b"",
+        2,
+        b"",
+        b"error: unexpected argument 'one' found\n\nUsage: spawnrun draw [OPTIONS]\n",
+    ),
     (["spawnrun", "draw"], b"flush\n" * 201, 1, b"refused size\n", TOO_MUCH + b"201 events\n"),
-    (["spawnrun", "draw"], b"alloc\n" * 41, 1, b"refused size\n", TOO_MUCH + b"more slots at line 41 (counted from 1)\n"),
-    (["spawnrun", "draw"], b"begin 1 4294967295\nstep 1\nanswer 1\nflush", 1, b"refused size\n", TOO_MUCH + b"more slots at line 2 (counted"),
-    (["spawnrun", "draw"], b"x" * 67108865, 1, b"refused size\n", TOO_MUCH + b"more than 67108864 bytes\n"),
-    (["spawnrun", "draw"], b"alloc\nfree", 1, b"refused line 2 count\n", b"the words of a line must be"),
+    (
+        ["spawnrun", "draw"],
+        b"alloc\n" * 41,
+        1,
+        b"refused size\n",
+        TOO_MUCH + b"more slots at line 41 (counted from 1)\n",
+    ),
+    (
+        ["spawnrun", "draw"],
+        b"begin 1 4294967295\nstep 1\nanswer 1\nflush",
+        1,
+        b"refused size\n",
+        TOO_MUCH + b"more slots at line 2 (counted",
+    ),
+    (
+        ["spawnrun", "draw"],
+        b"x" * 67108865,
+        1,
+        b"refused size\n",
+        TOO_MUCH + b"more than 67108864 bytes\n",
+    ),
+    (
+        ["spawnrun", "draw"],
+        b"alloc\nfree",
+        1,
+        b"refused line 2 count\n",
+        b"the words of a line must be",
+    ),
     (["spawnrun", "draw", "examples/two_callers.txt"], b"x", 0, b"<svg ", b""),
-    (["spawnrun", "draw", "--slots", "1", "examples/data/reuse.json"], b"", 1, b"refused line 1 word\n", b"a line must be "),
-    (["tracecheck", "--draw=no/folder", "examples/given_twice.txt"], b"x", 4, b"differs line 6: ", b"no/folder can't be written: "),
-    (["tracecheck", "--draw", "no/folder", "examples/no_such.txt"], b"", 4, b"", b"tracecheck: no such file: examples/no_such.txt\n"),
-    (["tracecheck", "--draw", "examples/given_twice.txt"], DIFFERS, 2, b"", b"error: 'examples/given_twice.txt' is no SVG, and isn't written over\n\nUsage"),
+    (
+        ["spawnrun", "draw", "--slots", "1", "examples/data/reuse.json"],
+        b"",
+        1,
+        b"refused line 1 word\n",
+        b"a line must be ",
+    ),
+    (
+        ["tracecheck", "--draw=no/folder", "examples/given_twice.txt"],
+        b"x",
+        4,
+        b"differs line 6: ",
+        b"no/folder can't be written: ",
+    ),
+    (
+        ["tracecheck", "--draw", "no/folder", "examples/no_such.txt"],
+        b"",
+        4,
+        b"",
+        b"tracecheck: no such file: examples/no_such.txt\n",
+    ),
+    (
+        ["tracecheck", "--draw", "examples/given_twice.txt"],
+        DIFFERS,
+        2,
+        b"",
+        b"error: 'examples/given_twice.txt' is no SVG, and isn't written over\n\nUsage",
+    ),
     (["tracecheck", "--draw"], DIFFERS, 2, b"", b"Usage: tracecheck --draw FILE [OPTIONS]\n"),
-    (["tracecheck", "--draw", "--help"], DIFFERS, 2, b"", b"Usage: tracecheck --draw FILE [OPTIONS]\n"),
-    (["tracecheck", "--draw", "no/folder", "--slots", "0"], DIFFERS, 2, b"", b"error: invalid value '0' for '--slots <N>'"),
-    (["tracecheck", "--draw=no/folder"], b"alloc => 0v1\n", 0, b"agrees: 1 lines, 1 handles given\n", b""),
-    (["tracecheck", "--draw=no/folder"], DIFFERS + b"x", 4, b"differs line 1: alloc => 1v1, expected 0v1\n", b"no/folder can't be written: "),
-    (["tracecheck", "--draw", "no/folder"], MANY, 1, b"differs line 1: ", b"a picture must have at most 200 lines and 40 slots; found more slots at line 1 "),
+    (
+        ["tracecheck", "--draw", "--help"],
+        DIFFERS,
+        2,
+        b"",
+        b"Usage: tracecheck --draw FILE [OPTIONS]\n",
+    ),
+    (
+        ["tracecheck", "--draw", "no/folder", "--slots", "0"],
+        DIFFERS,
+        2,
+        b"",
+        b"error: invalid value '0' for '--slots <N>'",
+    ),
+    (
+        ["tracecheck", "--draw=no/folder"],
+        b"alloc => 0v1\n",
+        0,
+        b"agrees: 1 lines, 1 handles given\n",
+        b"",
+    ),
+    (
+        ["tracecheck", "--draw=no/folder"],
+        DIFFERS + b"x",
+        4,
+        b"differs line 1: alloc => 1v1, expected 0v1\n",
+        b"no/folder can't be written: ",
+    ),
+    (
+        ["tracecheck", "--draw", "no/folder"],
+        MANY,
+        1,
+        b"differs line 1: ",
+        b"a picture must have at most 200 lines and 40 slots; found more slots at line 1 ",
+    ),
 ]
 
 
 def faults_of_ends():
     for words, text, status, output, errors in ENDS:
         ended = run(words, text)
-        is_as_said = ended[0] == status and ended[1].startswith(output) and ended[2].startswith(errors)
+        is_as_said = (
+            ended[0] == status and ended[1].startswith(output) and ended[2].startswith(errors)
+        )
         if not is_as_said or not output and ended[1] or not errors and ended[2]:
             yield f"{words} {text[:99]}: ends with {ended}"
     yield from faults_of_devices()
@@ -100,11 +203,16 @@ def faults_of_devices():
     """A read that fails, and a write."""
     folder = os.open(".", os.O_RDONLY)
     with open("/dev/full", "wb") as full:
-        for how in ({"stdin": folder, "stdout": subprocess.DEVNULL}, {"stdin": subprocess.DEVNULL, "stdout": full}):
+        for how in (
+            {"stdin": folder, "stdout": subprocess.DEVNULL},
+            {"stdin": subprocess.DEVNULL, "stdout": full},
+        ):
             ran = subprocess.run([PROGRAMS / "spawnrun", "draw"], stderr=subprocess.PIPE, **how)
             if (ran.returncode, ran.stderr) != (4, b"device\n"):
                 yield f"spawnrun draw with {how}: {ran}"
-    ran = subprocess.run([PROGRAMS / "tracecheck", "--draw", "no/folder"], stdin=folder, capture_output=True)
+    ran = subprocess.run(
+        [PROGRAMS / "tracecheck", "--draw", "no/folder"], stdin=folder, capture_output=True
+    )
     if (ran.returncode, ran.stdout, ran.stderr) != (4, b"", b"device\n"):
         yield f"tracecheck --draw of a folder: {ran}"
     os.close(folder)
@@ -122,14 +230,22 @@ class Box:
     what: str
 
     def meets(self, other):
-        return self.left < other.right and other.left < self.right and self.top < other.bottom and other.top < self.bottom
+        return (
+            self.left < other.right
+            and other.left < self.right
+            and self.top < other.bottom
+            and other.top < self.bottom
+        )
 
 
 def box_of_text(element):
     classes = element.get("class", "").split()
     width = len(element.text) * (TITLE_LETTER if "title" in classes else LETTER)
     if element.get("transform"):
-        x, y = (int(it) for it in element.get("transform").removeprefix("translate(").split(")")[0].split())
+        x, y = (
+            int(it)
+            for it in element.get("transform").removeprefix("translate(").split(")")[0].split()
+        )
         return Box(x - ABOVE, y - width, x + BELOW, y, element.text)
     x, y = int(element.get("x")), int(element.get("y"))
     left = x - width if "end" in classes else x - width / 2 if "middle" in classes else x
@@ -146,7 +262,10 @@ def faults_of(svg):
         yield "it has no title and no description"
     texts = sorted((box_of_text(it) for it in root.iter(f"{SVG}text")), key=lambda box: box.top)
     thick = [it for it in root.iter(f"{SVG}line") if it.get("class") in ("flush", "differs")]
-    lines = [Box(*(int(it.get(key)) for key in ("x1", "y1", "x2", "y2")), it.get("class")) for it in thick]
+    lines = [
+        Box(*(int(it.get(key)) for key in ("x1", "y1", "x2", "y2")), it.get("class"))
+        for it in thick
+    ]
     for at, box in enumerate(texts):
         if box.left < 0 or box.top < 0 or box.right > width or box.bottom > height:
             yield f"{box} leaves it"
@@ -191,11 +310,14 @@ class Schedules:
 
 
 def faults_of_schedule(words, text):
-    """A schedule that is drawn: one of few slots and events, or one that is refused as `replay` refuses it."""
+    """A schedule that is drawn: one of few slots and events, or one that is refused as `replay`
+    refuses it."""
     status, output, errors = run(["spawnrun", "draw", *words], text)
     if status == 0:
         yield from faults_of(output)
-    elif not errors.startswith(b"a picture must have at most ") and run(["spawnrun", "replay", *words], text) != (status, output, errors):
+    elif not errors.startswith(b"a picture must have at most ") and run(
+        ["spawnrun", "replay", *words], text
+    ) != (status, output, errors):
         yield f"it isn't refused as by replay: {errors}"
 
 
@@ -238,12 +360,20 @@ def main():
     faults = [f"{file}: {fault}" for file, svg in drawn.items() for fault in faults_of(svg)]
     if given.check:
         others = {it: it.read_bytes() for it in FOLDER.iterdir()}
-        faults += [f"{it}: another picture is drawn, or none: .ci/pictures.py" for it in drawn | others if drawn.get(it) != others.get(it)]
+        faults += [
+            f"{it}: another picture is drawn, or none: .ci/pictures.py"
+            for it in drawn | others
+            if drawn.get(it) != others.get(it)
+        ]
     else:
         for file, svg in drawn.items():
             file.write_bytes(svg)
     faults += [*faults_of_ends(), *faults_of_random(given.cases, given.seed)]
-    print(*faults[:9], f"pictures: {len(drawn)} drawn, {given.cases} random schedules and traces, {len(faults)} faults", sep="\n")
+    print(
+        *faults[:9],
+        f"pictures: {len(drawn)} drawn, {given.cases} random schedules and traces, {len(faults)} faults",
+        sep="\n",
+    )
     return 1 if faults else 0
 
 

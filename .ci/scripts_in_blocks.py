@@ -1,12 +1,13 @@
 #!/usr/bin/env python3
-"""Runs random scripts in blocks (`spawnrun run --blocks N`) on 1, 2, 3, 8 and 64 workers, and compares all reports, byte by byte, with each
-other and with that of a model, which is written here and shares no code with the sources. Prints how many scripts agreed, and fails at the
-first one that doesn't.
+"""Runs random scripts in blocks (`spawnrun run --blocks N`) on 1, 2, 3, 8 and 64 workers, and
+compares all reports, byte by byte, with each other and with that of a model, which is written here
+and shares no code with the sources. Prints how many scripts agreed, and fails at the first one that
+doesn't.
 
     .ci/scripts_in_blocks.py [--scripts N] [--seed N] [--program FILE] [--jobs N]
 
-The scripts name handles, births and names, spawn one and many, past the block and past the slots, despawn, insert and remove. It takes the
-toolchain's build, or with `--program` that by cargo.
+The scripts name handles, births and names, spawn one and many, past the block and past the slots,
+despawn, insert and remove. It takes the toolchain's build, or with `--program` that by cargo.
 """
 
 import argparse
@@ -39,12 +40,19 @@ class Scripts:
         return {name: self.random.randrange(-9, 99) for name in chosen}
 
     def target(self, names, frame, bound):
-        kinds = ["handle", "handle"] + ["each"] * 2 * bool(names) + ["name"] * 2 * bool(bound) + ["birth"] * bool(frame)
+        kinds = (
+            ["handle", "handle"]
+            + ["each"] * 2 * bool(names)
+            + ["name"] * 2 * bool(bound)
+            + ["birth"] * bool(frame)
+        )
         kind = self.pick(kinds)
         if kind == "handle":
             return {"handle": f"{self.random.randrange(12)}v{self.random.randrange(1, 4)}"}
         if kind == "birth":
-            return {"birth": f"{self.random.randrange(frame)}.{self.random.randrange(3)}.{self.random.randrange(4)}"}
+            return {
+                "birth": f"{self.random.randrange(frame)}.{self.random.randrange(3)}.{self.random.randrange(4)}"
+            }
         return {kind: self.pick(names if kind == "each" else sorted(bound))}
 
     def operation(self, names, frame, bound):
@@ -62,7 +70,11 @@ class Scripts:
         on = self.target(names, frame, bound)
         if made == "despawn":
             return {"despawn": on}
-        return {"insert": self.bundle(names), "on": on} if made == "insert" else {"remove": self.pick(names), "on": on}
+        return (
+            {"insert": self.bundle(names), "on": on}
+            if made == "insert"
+            else {"remove": self.pick(names), "on": on}
+        )
 
     def system(self, names, frame):
         bound = set()
@@ -70,7 +82,10 @@ class Scripts:
 
     def script(self):
         names = self.random.sample(NAMES, self.random.randrange(4))
-        frames = [[self.system(names, frame) for _ in range(self.random.randrange(5))] for frame in range(self.random.randrange(1, 6))]
+        frames = [
+            [self.system(names, frame) for _ in range(self.random.randrange(5))]
+            for frame in range(self.random.randrange(1, 6))
+        ]
         script = {"format": 2, "components": names, "frames": frames}
         if self.chance(0.4):
             script["slots"] = self.random.randrange(1, 16)
@@ -80,7 +95,8 @@ class Scripts:
 
 
 class World:
-    """What lives, and the handles that are given next: those that wait, in the order in which they are given, and then new slots."""
+    """What lives, and the handles that are given next: those that wait, in the order in which they
+    are given, and then new slots."""
 
     def __init__(self, script):
         self.slots = script.get("slots", 2**32 - 1)
@@ -90,7 +106,9 @@ class World:
 
     def deal(self, systems, size):
         """A block of handles for each of so many systems."""
-        ahead = self.waiting + [(index, 1) for index in range(self.made, min(self.slots, self.made + size * systems))]
+        ahead = self.waiting + [
+            (index, 1) for index in range(self.made, min(self.slots, self.made + size * systems))
+        ]
         return [ahead[size * number : size * (number + 1)] for number in range(systems)]
 
     def by_birth(self):
@@ -109,7 +127,8 @@ class World:
         return [handle for handle in self.by_birth() if self.living[handle][0] == birth][:1]
 
     def issued(self, system, block):
-        """The commands of a system with this block: each its kind, the handles, and what it says. And how many handles it used."""
+        """The commands of a system with this block: each its kind, the handles, and what it says.
+        And how many handles it used."""
         commands, bound, used = [], {}, 0
         for operation in system:
             if "spawn" in operation or "spawn_many" in operation:
@@ -119,26 +138,44 @@ class World:
                     continue
                 given = block[used : used + wanted]
                 used += wanted
-                # Slots that were made before come first, the one that is given last before the others.
+                # Slots that were made before come first, the one that is given last before the
+                # others.
                 old = [handle for handle in given if handle[0] < self.made]
                 listed = old[::-1] + [handle for handle in given if handle[0] >= self.made]
-                commands.append(("spawn", listed, operation.get("with", {}) if "spawn_many" in operation else operation["spawn"]))
+                commands.append(
+                    (
+                        "spawn",
+                        listed,
+                        operation.get("with", {})
+                        if "spawn_many" in operation
+                        else operation["spawn"],
+                    )
+                )
                 if "as" in operation:
                     bound[operation["as"]] = listed
             elif "despawn" in operation:
-                commands += [("despawn", [handle], None) for handle in self.targeted(operation["despawn"], bound)]
+                commands += [
+                    ("despawn", [handle], None)
+                    for handle in self.targeted(operation["despawn"], bound)
+                ]
             else:
                 kind = "insert" if "insert" in operation else "remove"
-                commands += [(kind, [handle], operation[kind]) for handle in self.targeted(operation["on"], bound)]
+                commands += [
+                    (kind, [handle], operation[kind])
+                    for handle in self.targeted(operation["on"], bound)
+                ]
         return commands, used
 
     def end_phase(self, blocks, used):
-        """What was used is not given again. A new slot that comes before one that was used was made too."""
+        """What was used is not given again. A new slot that comes before one that was used was made
+        too."""
         gone = {handle for block, count in zip(blocks, used) for handle in block[:count]}
         dealt = [handle for block in blocks for handle in block]
         made = max([self.made] + [index + 1 for index, _ in gone])
         left = [handle for handle in dealt if handle not in gone and handle[0] < made]
-        self.waiting = left + self.waiting[len([handle for handle in dealt if handle[0] < self.made]) :]
+        self.waiting = (
+            left + self.waiting[len([handle for handle in dealt if handle[0] < self.made]) :]
+        )
         self.made = made
         return len(gone)
 
@@ -166,11 +203,17 @@ class World:
 
     def frame(self, number, systems, size, shows):
         blocks = self.deal(len(systems), size)
-        queues, used = zip(*[self.issued(*both) for both in zip(systems, blocks)]) if systems else ((), ())
+        queues, used = (
+            zip(*[self.issued(*both) for both in zip(systems, blocks)]) if systems else ((), ())
+        )
         born = self.end_phase(blocks, used)
         for system, queue in enumerate(queues):
-            handles = [handle for kind, handles, _ in queue if kind == "spawn" for handle in handles]
-            self.living.update((handle, ((number, system, ordinal), {})) for ordinal, handle in enumerate(handles))
+            handles = [
+                handle for kind, handles, _ in queue if kind == "spawn" for handle in handles
+            ]
+            self.living.update(
+                (handle, ((number, system, ordinal), {})) for ordinal, handle in enumerate(handles)
+            )
         lines = []
         for system, queue in enumerate(queues):
             for at, command in enumerate(queue):
@@ -210,7 +253,16 @@ def compare(program, seed, count):
             for shows in (True, False) if number % 4 == 0 else (True,):
                 expected = report(script, size, shows)
                 for workers in WORKERS:
-                    words = ["run", "--blocks", str(size), "--workers", str(workers), "--show", "handles" if shows else "births", file.name]
+                    words = [
+                        "run",
+                        "--blocks",
+                        str(size),
+                        "--workers",
+                        str(workers),
+                        "--show",
+                        "handles" if shows else "births",
+                        file.name,
+                    ]
                     ran = subprocess.run([program, *words], capture_output=True, text=True)
                     if ran.returncode or ran.stdout != expected or ran.stderr:
                         return f"{json.dumps(script)}\n{' '.join(words[:-1])}\nexpected:\n{expected}\nstatus {ran.returncode}:\n{ran.stdout}{ran.stderr}"
@@ -218,7 +270,9 @@ def compare(program, seed, count):
 
 
 def main():
-    parser = argparse.ArgumentParser(description=__doc__, formatter_class=argparse.RawDescriptionHelpFormatter)
+    parser = argparse.ArgumentParser(
+        description=__doc__, formatter_class=argparse.RawDescriptionHelpFormatter
+    )
     parser.add_argument("--scripts", type=int, default=300)
     parser.add_argument("--seed", type=int, default=1)
     parser.add_argument("--program", default="crates/spawnrun/out/spawnrun")
@@ -228,7 +282,10 @@ def main():
     parts = [min(share, asked.scripts - begin) for begin in range(0, asked.scripts, share)]
     program = os.path.abspath(asked.program)
     with concurrent.futures.ProcessPoolExecutor(asked.jobs) as pool:
-        tries = [pool.submit(compare, program, asked.seed * 1_000_003 + at, count) for at, count in enumerate(parts)]
+        tries = [
+            pool.submit(compare, program, asked.seed * 1_000_003 + at, count)
+            for at, count in enumerate(parts)
+        ]
         for tried in tries:
             if wrong := tried.result():
                 sys.exit(f"a script differs: {wrong}")

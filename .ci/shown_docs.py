@@ -1,12 +1,15 @@
 #!/usr/bin/env python3
-"""What a user of the package sees in its docs: counts the types and the functions that have an example, and the links that lead nowhere.
+"""What a user of the package sees in its docs: counts the types and the functions that have an
+example, and the links that lead nowhere.
 
     shown_docs.py FOLDER    the folder that `cargo doc` wrote, with its folder `forgeni`
 
-It reads the pages of rustdoc that `all.html` lists. A type has an example if the docs above its fields, variants and functions have one.
-Functions are those of the pages: free ones, those of a type and those of a trait. What a type has from a trait isn't counted again, so `fmt`
-or `clone` never is. An example is code that `cargo test` runs or compiles: code that has to fail is none. LIMITS says what is wanted. A link
-leads nowhere if its file isn't there, or if the file has no such place. Links to other sites aren't followed.
+It reads the pages of rustdoc that `all.html` lists. A type has an example if the docs above its
+fields, variants and functions have one. Functions are those of the pages: free ones, those of a
+type and those of a trait. What a type has from a trait isn't counted again, so `fmt` or `clone`
+never is. An example is code that `cargo test` runs or compiles: code that has to fail is none.
+LIMITS says what is wanted. A link leads nowhere if its file isn't there, or if the file has no such
+place. Links to other sites aren't followed.
 """
 
 import collections
@@ -22,9 +25,15 @@ LIMITS = {"types": 100, "functions": 85}
 TYPES = ("struct", "enum", "trait", "type", "union")
 METHOD = re.compile(r'id="((?:ty)?method\.\w+)" class="method"')
 # Where the docs of a type end, and where its own functions do.
-PARTS = re.compile(r'<h2 id="(?:fields|variants|implementations|required-|provided-|object-safety|dyn-compatibility|aliased-type)')
-REST = re.compile(r'<h2 id="(?:(?:trait|synthetic|blanket)-implementations|deref-methods|implementors|foreign-impls)')
-EXAMPLE = re.compile(r'<div class="example-wrap(?! compile_fail)[^"]*"><pre class="rust rust-example-rendered')
+PARTS = re.compile(
+    r'<h2 id="(?:fields|variants|implementations|required-|provided-|object-safety|dyn-compatibility|aliased-type)'
+)
+REST = re.compile(
+    r'<h2 id="(?:(?:trait|synthetic|blanket)-implementations|deref-methods|implementors|foreign-impls)'
+)
+EXAMPLE = re.compile(
+    r'<div class="example-wrap(?! compile_fail)[^"]*"><pre class="rust rust-example-rendered'
+)
 
 
 def examples(root):
@@ -42,7 +51,9 @@ def examples(root):
         yield "functions" if kind == "fn" else "types", full, bool(EXAMPLE.search(top))
         parts = METHOD.split(own) if kind != "type" else []
         for at in range(1, len(parts), 2):
-            yield "functions", f"{full}::{parts[at].partition('.')[2]}", bool(EXAMPLE.search(parts[at + 1]))
+            yield "functions", f"{full}::{parts[at].partition('.')[2]}", bool(
+                EXAMPLE.search(parts[at + 1])
+            )
 
 
 def lost_links(folder):
@@ -63,7 +74,12 @@ def lost_links(folder):
                 continue
             file = (page.parent / urllib.parse.unquote(path)).resolve() if path else page
             is_line = re.fullmatch(r"\d+(-\d+)?", place)
-            if not file.exists() or place and not is_line and not {place, urllib.parse.unquote(place)} & places_of(file):
+            if (
+                not file.exists()
+                or place
+                and not is_line
+                and not {place, urllib.parse.unquote(place)} & places_of(file)
+            ):
                 yield page.relative_to(folder), link
 
 

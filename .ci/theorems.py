@@ -5,14 +5,17 @@
     theorems.py write            writes the lists of the page
     theorems.py show FUNCTION    prints the contract, and what one has to read, file by file
 
-A theorem is some clauses of the contract of a call. A line `<!-- read FILE FUNCTION: CLAUSE.. -->` names them, and the script writes what
-stands below it, up to an empty line: what the call requires, and how many lines there are to read. These are the definitions that the
-clauses cite, those that these cite, and so on. A definition is counted with the comment above it, once, and a type with its model. What
-comes from the kit is no part of a list: `show` names it, and `<!-- kit -->` counts it. If a block above quotes the contract from FILE, what
-the call requires isn't written again, and the clauses are those of the block.
+A theorem is some clauses of the contract of a call. A line `<!-- read FILE FUNCTION: CLAUSE.. -->`
+names them, and the script writes what stands below it, up to an empty line: what the call requires,
+and how many lines there are to read. These are the definitions that the clauses cite, those that
+these cite, and so on. A definition is counted with the comment above it, once, and a type with its
+model. What comes from the kit is no part of a list: `show` names it, and `<!-- kit -->` counts it.
+If a block above quotes the contract from FILE, what the call requires isn't written again, and the
+clauses are those of the block.
 
-The page is refused if a quote leaves out something that the call requires, if a clause isn't one of the call, or if a list isn't what the
-sources give. It needs no program, and runs at the top of the repository.
+The page is refused if a quote leaves out something that the call requires, if a clause isn't one of
+the call, or if a list isn't what the sources give. It needs no program, and runs at the top of the
+repository.
 """
 
 import collections
@@ -30,14 +33,18 @@ PAGE = pathlib.Path("docs/PROVED.md")
 READ = re.compile(r"<!-- read (\S+) (\S+): (.*) -->$")
 CRATES = pathlib.Path("crates")
 Item = collections.namedtuple("Item", "file lines text")
-HEAD = re.compile(r"(?:  )?(?:(?:abbrev|unfoldable) pub|pub (?:record|data)) (\S+)|abbrev (mutual)|pub (?!mod )(\S+)")
+HEAD = re.compile(
+    r"(?:  )?(?:(?:abbrev|unfoldable) pub|pub (?:record|data)) (\S+)|abbrev (mutual)|pub (?!mod )(\S+)"
+)
 TYPE = re.compile(r"(?:pub(?:\(\w+\))? )?(?:struct|enum|trait|const|type) (\w+)")
 MODEL = re.compile(r"impl(?:<.*>)? Model for (\w+)")
 
 
 def code_of(lines):
     """The lines without comments and texts."""
-    return re.sub(r'"(\\.|[^"\\])*"', "", "\n".join(re.sub(r"(^|\s)(--|//).*", "", it) for it in lines))
+    return re.sub(
+        r'"(\\.|[^"\\])*"', "", "\n".join(re.sub(r"(^|\s)(--|//).*", "", it) for it in lines)
+    )
 
 
 def spec_names(name, text):
@@ -47,13 +54,19 @@ def spec_names(name, text):
 
 @functools.cache
 def specs_of(file):
-    """The definitions of a file of specs, by name. Each goes on to the next comment or definition after an empty line."""
+    """The definitions of a file of specs, by name. Each goes on to the next comment or definition
+    after an empty line."""
     lines, spans, found = file.read_text().splitlines(), [], {}
     for blank, numbers in itertools.groupby(range(len(lines)), lambda it: not lines[it].strip()):
         at, *others = numbers
         last = others[-1] if others else at
-        block = re.sub(r"^module (?:.*\n)*?.*\bwhere$", "", "\n".join(lines[at : last + 1]), flags=re.M).split("\n")
-        first = next((it for it in block if it and not it.lstrip().startswith(("--", "infix", "module "))), "use ")
+        block = re.sub(
+            r"^module (?:.*\n)*?.*\bwhere$", "", "\n".join(lines[at : last + 1]), flags=re.M
+        ).split("\n")
+        first = next(
+            (it for it in block if it and not it.lstrip().startswith(("--", "infix", "module "))),
+            "use ",
+        )
         head = HEAD.match(first)
         if head:
             spans.append([head[head.lastindex], at, last])
@@ -61,12 +74,15 @@ def specs_of(file):
             spans[-1][2] = last
     for name, at, last in spans:
         text = code_of(lines[at : last + 1])
-        found.update((it, Item(file, frozenset(range(at, last + 1)), text)) for it in spec_names(name, text))
+        found.update(
+            (it, Item(file, frozenset(range(at, last + 1)), text)) for it in spec_names(name, text)
+        )
     return found
 
 
 def rust_span(lines, at):
-    """The lines of the item at this line, its comments and attributes with it, but not the examples in its docs."""
+    """The lines of the item at this line, its comments and attributes with it, but not the examples
+    in its docs."""
     first = last = at
     while first and lines[first - 1].startswith(("///", "#[")):
         first -= 1
@@ -79,7 +95,8 @@ def rust_span(lines, at):
 
 @functools.cache
 def types_of(file):
-    """The types of a Rust file, each with its model. A type with a model cites by that alone: its fields are private."""
+    """The types of a Rust file, each with its model. A type with a model cites by that alone: its
+    fields are private."""
     lines, types, models = file.read_text().splitlines(), {}, {}
     for at, line in enumerate(lines):
         for pattern, found in [(TYPE, types), (MODEL, models)]:
@@ -89,12 +106,15 @@ def types_of(file):
     made = {}
     for name, span in types.items():
         model = models.get(name, [])
-        made[name] = Item(file, frozenset([*span, *model]), code_of([lines[it] for it in model or span]))
+        made[name] = Item(
+            file, frozenset([*span, *model]), code_of([lines[it] for it in model or span])
+        )
     return made
 
 
 def type_in(crate, path, name):
-    """A type of a crate, in the file whose modules the path names if several have one of that name."""
+    """A type of a crate, in the file whose modules the path names if several have one of that
+    name."""
     source = CRATES / crate / "src"
 
     def rank(file):
@@ -102,7 +122,14 @@ def type_in(crate, path, name):
         named = sum(it in path for it in modules)
         return len(modules) - named, -named, str(file)
 
-    return next((types_of(it)[name] for it in sorted(source.rglob("*.rt"), key=rank) if name in types_of(it)), None)
+    return next(
+        (
+            types_of(it)[name]
+            for it in sorted(source.rglob("*.rt"), key=rank)
+            if name in types_of(it)
+        ),
+        None,
+    )
 
 
 def definition(module, name):
@@ -123,7 +150,8 @@ def as_pairs(names):
 
 @functools.cache
 def scope_of(file):
-    """What the names of a file stand for: its own definitions, those that it uses, and modules under another name."""
+    """What the names of a file stand for: its own definitions, those that it uses, and modules
+    under another name."""
     text = code_of(file.read_text().splitlines())
     scope = collections.defaultdict(set)
     modules = {here: module for module, here in re.findall(r"use (Rattle[\w.]+) as (\w+)", text)}
@@ -177,22 +205,35 @@ def lines_by_file(items):
     lines = collections.defaultdict(set)
     for item in items:
         lines[item.file] |= item.lines
-    order = [it.split(":")[0].split()[0] for it in pathlib.Path("crates.txt").read_text().splitlines() if ":" in it and it[0] != "#"]
-    return {it: sorted(lines[it]) for it in sorted(lines, key=lambda it: (order.index(it.parts[1]), str(it)))}
+    order = [
+        it.split(":")[0].split()[0]
+        for it in pathlib.Path("crates.txt").read_text().splitlines()
+        if ":" in it and it[0] != "#"
+    ]
+    return {
+        it: sorted(lines[it])
+        for it in sorted(lines, key=lambda it: (order.index(it.parts[1]), str(it)))
+    }
 
 
 def contract_of(file, name):
-    """The contract of a call: its signature, what it requires, its clauses by name, and the `impl` around it."""
+    """The contract of a call: its signature, what it requires, its clauses by name, and the `impl`
+    around it."""
     owner, _, function = name.rpartition("::")
     lines = file.read_text().splitlines()
 
     def within(at):
         depth = len(lines[at]) - len(lines[at].lstrip())
-        return next((lines[it] for it in range(at, 0, -1) if depth and lines[it].startswith("impl")), "")
+        return next(
+            (lines[it] for it in range(at, 0, -1) if depth and lines[it].startswith("impl")), ""
+        )
 
     def is_head(at):
         is_of = re.match(r"impl(?:<.*?>)? (\w+)", within(at))
-        return re.match(rf"\s*pub (?:const )?fn {function}\b", lines[at]) and (is_of[1] if is_of else "") == owner
+        return (
+            re.match(rf"\s*pub (?:const )?fn {function}\b", lines[at])
+            and (is_of[1] if is_of else "") == owner
+        )
 
     start = next(it for it in range(len(lines)) if is_head(it))
     depth = len(lines[start]) - len(lines[start].lstrip())
@@ -203,7 +244,9 @@ def contract_of(file, name):
         if line.strip() and not line.strip().startswith("//"):
             parts[-1].append(line.strip())
     signature, *clauses = parts
-    ensures = {re.match(r"ensures (\w+)", it[0])[1]: it for it in clauses if it[0].startswith("ensures")}
+    ensures = {
+        re.match(r"ensures (\w+)", it[0])[1]: it for it in clauses if it[0].startswith("ensures")
+    }
     return signature, [it for it in clauses if it[0].startswith("requires")], ensures, within(start)
 
 
@@ -213,7 +256,8 @@ def formula_of(clause):
 
 
 def theorems():
-    """Each theorem of the page: its call, its file, what is cited of it, how its list begins, and what is wrong."""
+    """Each theorem of the page: its call, its file, what is cited of it, how its list begins, and
+    what is wrong."""
     quotes = {at: (mark, [it.strip() for it in block]) for at, mark, block in pages.blocks_of(PAGE)}
     block = None
     for at, line in enumerate(PAGE.read_text().splitlines(), 1):
@@ -225,23 +269,43 @@ def theorems():
         signature, requires, ensures, within = contract_of(file, name)
         faults = [f"has no clause {it}" for it in names if it not in ensures]
         clauses = [ensures[it] for it in names if it in ensures]
-        quoted = block and block[0].split()[2:3] == [found[1]] and any(re.search(rf"fn {name.split('::')[-1]}\b", it) for it in block[1])
+        quoted = (
+            block
+            and block[0].split()[2:3] == [found[1]]
+            and any(re.search(rf"fn {name.split('::')[-1]}\b", it) for it in block[1])
+        )
         if quoted:
-            faults += [f"leaves out {it}" for clause in [*requires, *clauses] for it in clause if it not in block[1]]
+            faults += [
+                f"leaves out {it}"
+                for clause in [*requires, *clauses]
+                for it in clause
+                if it not in block[1]
+            ]
         text = code_of([within, *signature, *itertools.chain(*requires, *clauses)])
-        conditions = "" if quoted or not requires else f", which requires {', '.join(f'`{formula_of(it)}`' for it in requires)}"
-        yield name, file, text, f"To read for `{name}`{conditions}", [f"{PAGE}:{at}: {name} {it}" for it in faults]
+        conditions = (
+            ""
+            if quoted or not requires
+            else f", which requires {', '.join(f'`{formula_of(it)}`' for it in requires)}"
+        )
+        yield name, file, text, f"To read for `{name}`{conditions}", [
+            f"{PAGE}:{at}: {name} {it}" for it in faults
+        ]
 
 
 def wrapped(text):
     """The lines of an element of a list."""
-    return textwrap.wrap(text, width=140, subsequent_indent="  ", break_long_words=False, break_on_hyphens=False)
+    return textwrap.wrap(
+        text, width=140, subsequent_indent="  ", break_long_words=False, break_on_hyphens=False
+    )
 
 
 def reading(items, before, head):
-    """What there is to read for one theorem: how much, and how much of it no theorem above needs."""
+    """What there is to read for one theorem: how much, and how much of it no theorem above
+    needs."""
     files, known = lines_by_file(items), lines_by_file(before)
-    total, new = sum(map(len, files.values())), sum(len(set(lines) - set(known.get(it, []))) for it, lines in files.items())
+    total, new = sum(map(len, files.values())), sum(
+        len(set(lines) - set(known.get(it, []))) for it, lines in files.items()
+    )
     added = f", {new} of them not above" if 0 < new < total else ""
     return wrapped(f"- {head}: {total} lines in {len(files)} files{added}.")
 
@@ -249,7 +313,9 @@ def reading(items, before, head):
 def kit_counted(kit):
     """How many definitions of the kit are cited."""
     modules = {module for module, _ in kit}
-    return wrapped(f"- From Rattle's library, which the gate doesn't prove again: {len(kit)} definitions in {len(modules)} modules.")
+    return wrapped(
+        f"- From Rattle's library, which the gate doesn't prove again: {len(kit)} definitions in {len(modules)} modules."
+    )
 
 
 def made():
@@ -287,7 +353,11 @@ def main():
     elif page != PAGE.read_text():
         faults.append(f"{PAGE}: its lists are not what the sources give: `.ci/theorems.py write`")
     if what == "check":
-        picks.compare(".ci/theorems.py", "theorems", [it[2] for it in map(READ.match, PAGE.read_text().splitlines()) if it])
+        picks.compare(
+            ".ci/theorems.py",
+            "theorems",
+            [it[2] for it in map(READ.match, PAGE.read_text().splitlines()) if it],
+        )
     print(*faults, f"theorems: {len(faults)} faults", sep="\n")
     return 1 if faults else 0
 

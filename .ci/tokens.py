@@ -1,11 +1,14 @@
 #!/usr/bin/env python3
-"""Compares the reader of JSON of the programs that cargo builds with Python's, on random and spoilt texts.
+"""Compares the reader of JSON of the programs that cargo builds with Python's, on random and spoilt
+texts.
 
     tokens.py [--texts N] [--seed N]
 
-The tokens of each text have to be those that a scanner here finds with Python's `json` for strings, numbers and words; and each value has to
-be the one that `json` reads, or both refuse it: nested at most 127 deep, with numbers that a float holds, with no surrogate alone. A text that
-is cut at any place has to be refused as one that ends too early, or to be a value. It runs at the top of the repository.
+The tokens of each text have to be those that a scanner here finds with Python's `json` for strings,
+numbers and words; and each value has to be the one that `json` reads, or both refuse it: nested at
+most 127 deep, with numbers that a float holds, with no surrogate alone. A text that is cut at any
+place has to be refused as one that ends too early, or to be a value. It runs at the top of the
+repository.
 """
 
 import argparse
@@ -38,28 +41,98 @@ class Texts:
         self.random = random.Random(seed)
 
     def string(self):
-        parts = ["a", "é", "€", "😀", "\u2028", "\x7f", "\\n", '\\"', "\\\\", "\\/", "\\u0041", "\\u00e9", "\\uD83D\\uDE00", "\\ud800\\udc00", "plain text", "\\u0000"]
+        parts = [
+            "a",
+            "é",
+            "€",
+            "😀",
+            "\u2028",
+            "\x7f",
+            "\\n",
+            '\\"',
+            "\\\\",
+            "\\/",
+            "\\u0041",
+            "\\u00e9",
+            "\\uD83D\\uDE00",
+            "\\ud800\\udc00",
+            "plain text",
+            "\\u0000",
+        ]
         rare = ["\\ud800", "\\udc00", "\\ud800\\u0041", "\\x", "\x01", "\\u12", "\\u12g4"]
         count = self.random.choice([0, 1, 1, 2, 3, 9])
-        return '"' + "".join(self.random.choice(rare if self.random.random() < 0.01 else parts) for _ in range(count)) + '"'
+        return (
+            '"'
+            + "".join(
+                self.random.choice(rare if self.random.random() < 0.01 else parts)
+                for _ in range(count)
+            )
+            + '"'
+        )
 
     def number(self):
         pick = self.random
-        edges = ["0", "-0", "-0.0", "0.0", "1e5", "1E+3", "2.5e-7", "18446744073709551615", "18446744073709551616", "-9223372036854775808"]
-        edges += ["-9223372036854775809", "9223372036854775807", "9223372036854775808", "1e308", "1e309", "-1e309", "5e-324", "1e-400", "1e22", "1e23"]
-        edges += ["1.7976931348623157e308", "1.7976931348623159e308", "2.2250738585072011e-308", "9007199254740993", "9007199254740993.0", "0." + "0" * 30 + "1"]
-        digits = lambda most: "".join(pick.choice("0123456789") for _ in range(pick.randrange(1, most)))
+        edges = [
+            "0",
+            "-0",
+            "-0.0",
+            "0.0",
+            "1e5",
+            "1E+3",
+            "2.5e-7",
+            "18446744073709551615",
+            "18446744073709551616",
+            "-9223372036854775808",
+        ]
+        edges += [
+            "-9223372036854775809",
+            "9223372036854775807",
+            "9223372036854775808",
+            "1e308",
+            "1e309",
+            "-1e309",
+            "5e-324",
+            "1e-400",
+            "1e22",
+            "1e23",
+        ]
+        edges += [
+            "1.7976931348623157e308",
+            "1.7976931348623159e308",
+            "2.2250738585072011e-308",
+            "9007199254740993",
+            "9007199254740993.0",
+            "0." + "0" * 30 + "1",
+        ]
+        digits = lambda most: "".join(
+            pick.choice("0123456789") for _ in range(pick.randrange(1, most))
+        )
         made = pick.choice(["", "-"]) + pick.choice(["0", str(pick.randrange(1, 10)) + digits(20)])
-        made += pick.choice(["", "." + digits(20)]) + pick.choice(["", "", pick.choice("eE") + pick.choice(["", "+", "-"]) + digits(4)])
+        made += pick.choice(["", "." + digits(20)]) + pick.choice(
+            ["", "", pick.choice("eE") + pick.choice(["", "+", "-"]) + digits(4)]
+        )
         bits = struct.unpack("<d", pick.randbytes(8))[0]
-        return pick.choice([pick.choice(edges), made, repr(bits) if math.isfinite(bits) else "1", str(pick.randrange(-100, 100))])
+        return pick.choice(
+            [
+                pick.choice(edges),
+                made,
+                repr(bits) if math.isfinite(bits) else "1",
+                str(pick.randrange(-100, 100)),
+            ]
+        )
 
     def blanks(self):
         return self.random.choice([""] * 8 + [" ", "\n", "\t ", "\r\n"])
 
     def list_of(self, ends, items):
         between = [self.blanks() + "," + self.blanks() for _ in items]
-        inner = "".join(part for pair in zip(items, between) for part in pair).rstrip(BLANKS).removesuffix(",") if items else ""
+        inner = (
+            "".join(part for pair in zip(items, between) for part in pair)
+            .rstrip(BLANKS)
+            .removesuffix(",")
+            if items
+            else ""
+        )
         return ends[0] + self.blanks() + inner + self.blanks() + ends[1]
 
     def value(self, depth):
@@ -71,15 +144,24 @@ class Texts:
         count = self.random.randrange(4)
         if kind < 6:
             return self.list_of("[]", [self.value(depth - 1) for _ in range(count)])
-        keys = [self.random.choice(['"a"', '"b"', '"\\u0061"', self.string()]) for _ in range(count)]
-        return self.list_of("{}", [key + self.blanks() + ":" + self.blanks() + self.value(depth - 1) for key in keys])
+        keys = [
+            self.random.choice(['"a"', '"b"', '"\\u0061"', self.string()]) for _ in range(count)
+        ]
+        return self.list_of(
+            "{}",
+            [key + self.blanks() + ":" + self.blanks() + self.value(depth - 1) for key in keys],
+        )
 
     def deep(self):
         depth = self.random.choice([1, 2, 126, 127, 128, 129, 400])
         kinds = [self.random.choice(["[", '{"a":']) for _ in range(depth)]
         ends = "".join("]" if kind == "[" else "}" for kind in reversed(kinds))
         inner = self.value(0) if kinds[-1] != "[" or self.random.random() < 0.5 else ""
-        return "".join(kinds) + inner + ends[: self.random.choice([depth, depth, self.random.randrange(depth + 1)])]
+        return (
+            "".join(kinds)
+            + inner
+            + ends[: self.random.choice([depth, depth, self.random.randrange(depth + 1)])]
+        )
 
     def spoilt(self, text):
         for _ in range(self.random.choice([1, 1, 1, 2, 3])):
@@ -96,7 +178,11 @@ class Texts:
         return text
 
     def text(self):
-        text = self.deep() if self.random.random() < 0.03 else self.blanks() + self.value(3) + self.blanks()
+        text = (
+            self.deep()
+            if self.random.random() < 0.03
+            else self.blanks() + self.value(3) + self.blanks()
+        )
         return text if self.random.random() < 0.2 else self.spoilt(text)
 
     def spoilt_bytes(self, text):
@@ -104,7 +190,13 @@ class Texts:
         made = text.encode()
         if self.random.random() < 0.1:
             at = self.random.randrange(len(made) + 1)
-            made = made[:at] + self.random.choice([b"\x80", b"\xc3", b"\xed\xa0\x80", b"\xff", b"\xf0\x9f", b"\xc0\x80"]) + made[at:]
+            made = (
+                made[:at]
+                + self.random.choice(
+                    [b"\x80", b"\xc3", b"\xed\xa0\x80", b"\xff", b"\xf0\x9f", b"\xc0\x80"]
+                )
+                + made[at:]
+            )
         return made
 
 
@@ -183,7 +275,13 @@ def value_of(made):
         text = made.decode()
         if text.startswith("\ufeff"):
             raise Refused("mark")
-        value = json.loads(text, parse_int=number_of, parse_float=number_of, parse_constant=lambda it: refuse(it), strict=True)
+        value = json.loads(
+            text,
+            parse_int=number_of,
+            parse_float=number_of,
+            parse_constant=lambda it: refuse(it),
+            strict=True,
+        )
     except (ValueError, RecursionError) as fault:
         raise Refused(str(fault)) from fault
     if "bad" in tokens(text):
@@ -218,7 +316,11 @@ def depth_of(text):
 def is_same(value, other):
     """Whether both are the same value, also of which kind a number is, and in the sign of 0."""
     if isinstance(value, dict) and isinstance(other, dict):
-        return value.keys() == other.keys() and list(other) == sorted(other, key=str.encode) and all(is_same(value[it], other[it]) for it in value)
+        return (
+            value.keys() == other.keys()
+            and list(other) == sorted(other, key=str.encode)
+            and all(is_same(value[it], other[it]) for it in value)
+        )
     if isinstance(value, list) and isinstance(other, list):
         return len(value) == len(other) and all(map(is_same, value, other))
     if isinstance(value, float) and isinstance(other, float):
@@ -227,18 +329,37 @@ def is_same(value, other):
 
 
 def is_shortest(text):
-    """Whether no number of a written value has more digits than it needs, by Python's shortest ones."""
+    """Whether no number of a written value has more digits than it needs, by Python's shortest
+    ones."""
     digits = lambda it: len(re.sub(r"[-+.]|[eE].*", "", it).strip("0"))
-    floats = [it for it in tokens(text) if isinstance(it, str) and re.search("[.e]", it) and NUMBER.fullmatch(it)]
+    floats = [
+        it
+        for it in tokens(text)
+        if isinstance(it, str) and re.search("[.e]", it) and NUMBER.fullmatch(it)
+    ]
     return all(digits(it) == digits(repr(float(it))) for it in floats)
 
 
 def run_test(test, folder, texts):
     """What a test of the package says of each text."""
     (folder / "texts").write_bytes(b"\0".join(texts))
-    command = ["cargo", "test", "--offline", "--quiet", "--features", "programs", "--lib", "--", "--ignored", "--exact", TESTS % test]
+    command = [
+        "cargo",
+        "test",
+        "--offline",
+        "--quiet",
+        "--features",
+        "programs",
+        "--lib",
+        "--",
+        "--ignored",
+        "--exact",
+        TESTS % test,
+    ]
     names = {"TEXTS": str(folder / "texts"), "SAID": str(folder / "said")}
-    ran = subprocess.run(command, cwd=PACKAGE, env={**os.environ, **names}, capture_output=True, text=True)
+    ran = subprocess.run(
+        command, cwd=PACKAGE, env={**os.environ, **names}, capture_output=True, text=True
+    )
     if ran.returncode or "1 passed" not in ran.stdout:
         sys.exit(f"{test}: {ran.stdout}{ran.stderr}")
     return (folder / "said").read_bytes().split(b"\0")[:-1]
@@ -256,7 +377,10 @@ def compare_values(made, said):
     values = 0
     for text, found in zip(made, said, strict=True):
         found = found.decode()
-        is_fault = re.fullmatch("(EOF while parsing|invalid JSON|number out of range) at line [0-9]+ column [0-9]+", found)
+        is_fault = re.fullmatch(
+            "(EOF while parsing|invalid JSON|number out of range) at line [0-9]+ column [0-9]+",
+            found,
+        )
         try:
             value = value_of(text)
         except Refused as why:
@@ -272,7 +396,9 @@ def compare_values(made, said):
 def compare_cuts(wholes, folder):
     """Each beginning of a value is a value, or ends too early, or has a number out of range."""
     cuts = [whole[:end] for whole in wholes for end in range(len(whole))]
-    for text, found in zip(cuts, run_test("serde_json::tests::values_of_a_file", folder, cuts), strict=True):
+    for text, found in zip(
+        cuts, run_test("serde_json::tests::values_of_a_file", folder, cuts), strict=True
+    ):
         if found.startswith(b"invalid JSON"):
             sys.exit(f"{text!r}, the beginning of a value, is said to be {found.decode()}")
     return len(cuts)
@@ -288,12 +414,20 @@ def main():
     made = [source.spoilt_bytes(text) for text in texts]
     with tempfile.TemporaryDirectory() as name:
         folder = pathlib.Path(name)
-        compare_tokens(texts, run_test("json::tests::tokens_of_a_file", folder, [it.encode() for it in texts]))
+        compare_tokens(
+            texts, run_test("json::tests::tokens_of_a_file", folder, [it.encode() for it in texts])
+        )
         said = run_test("serde_json::tests::values_of_a_file", folder, made)
         values = compare_values(made, said)
-        wholes = [text for text, found in zip(made, said) if found[:1] in b"[{\"-0123456789tfn" and b"at line" not in found]
+        wholes = [
+            text
+            for text, found in zip(made, said)
+            if found[:1] in b'[{"-0123456789tfn' and b"at line" not in found
+        ]
         cuts = compare_cuts(wholes[: given.texts // 20], folder)
-    print(f"tokens: of {given.texts} texts of seed {given.seed} {values} are values; tokens and values are Python's; {cuts} beginnings end too early")
+    print(
+        f"tokens: of {given.texts} texts of seed {given.seed} {values} are values; tokens and values are Python's; {cuts} beginnings end too early"
+    )
 
 
 if __name__ == "__main__":

@@ -1,15 +1,19 @@
 #!/usr/bin/env python3
-"""Compares the operations of the package that could make a `usize` of 2^32 or more with .ci/usize.txt, which says why none does.
+"""Compares the operations of the package that could make a `usize` of 2^32 or more with
+.ci/usize.txt, which says why none does.
 
     .ci/usize.py [ARCHIVE]     ARCHIVE is the folder of an unpacked archive: there it has the features serde and rayon too
 
-In Rattle `usize` has 64 bits, and a machine may have 32. These are the operations: `+`, `*`, shifts and `!`; a cast from a type with greater
-numbers than u32; a number of 2^32 or more; and each call or constant of `usize` itself but those of HARMLESS. (No difference is greater than
-what it is taken from, and where one is below 0, the proofs fail, or rustc's checks.) rustc finds them: its MIR has the type of each value,
-also where the source has none. An operation that has no line in the list fails, and a line that has no operation. Several that are written
-alike in one function have one line, which ends with how many they are.
+In Rattle `usize` has 64 bits, and a machine may have 32. These are the operations: `+`, `*`, shifts
+and `!`; a cast from a type with greater numbers than u32; a number of 2^32 or more; and each call
+or constant of `usize` itself but those of HARMLESS. (No difference is greater than what it is taken
+from, and where one is below 0, the proofs fail, or rustc's checks.) rustc finds them: its MIR has
+the type of each value, also where the source has none. An operation that has no line in the list
+fails, and a line that has no operation. Several that are written alike in one function have one
+line, which ends with how many they are.
 
-First the operations of PLANTED have to be found, and nothing else there. So it fails if a new rustc writes its MIR in other words.
+First the operations of PLANTED have to be found, and nothing else there. So it fails if a new rustc
+writes its MIR in other words.
 """
 
 import collections
@@ -23,18 +27,25 @@ import tempfile
 
 TOP = pathlib.Path(__file__).resolve().parent.parent
 LIST = TOP / ".ci/usize.txt"
-# Not optimised, so that all is there that is written. What std's macros write has its place in std, and is left out.
+# Not optimised, so that all is there that is written. What std's macros write has its place in std,
+# and is left out.
 MIR = ["-Zunpretty=mir", "-Zmir-include-spans=on", "-Zmir-opt-level=0", "-Coverflow-checks=on"]
 # Places in a picture of at most 200 events and 40 slots, of which no contract speaks.
 APART = "drawing"
 NARROW = {"bool", "char", "u8", "u16", "u32"}
 # They return nothing greater than what they are called with, or say that it doesn't fit.
-HARMLESS = set("checked_sub clone cmp default div_ceil eq fetch_sub fmt from hash ilog2 load max min ne new partial_cmp".split())
+HARMLESS = set(
+    "checked_sub clone cmp default div_ceil eq fetch_sub fmt from hash ilog2 load max min ne new partial_cmp".split()
+)
 HARMLESS |= {"saturating_sub", "try_from"}
 
-HEAD = re.compile(r"(?:(?:fn|const|static(?: mut)?) )?(?P<path>[\w:{}#[\]]+?)(?:\((?P<parameters>.*)\) ->|: .*? = (?P<value>.*))")
+HEAD = re.compile(
+    r"(?:(?:fn|const|static(?: mut)?) )?(?P<path>[\w:{}#[\]]+?)(?:\((?P<parameters>.*)\) ->|: .*? = (?P<value>.*))"
+)
 LOCAL = re.compile(r" +let (?:mut )?(_\d+): (.*?); ")
-STATEMENT = re.compile(r" {8}(?P<text>\S.*?);? +// scope \d+ at (?P<file>.*?):(?P<place>\d+:\d+: \d+:\d+)$")
+STATEMENT = re.compile(
+    r" {8}(?P<text>\S.*?);? +// scope \d+ at (?P<file>.*?):(?P<place>\d+:\d+: \d+:\d+)$"
+)
 COMPUTED = re.compile(r"(?P<into>\S.*?) = (?:Add|Mul|Shl|Shr|Not|Neg)\w*\(")
 CAST = re.compile(r" = (?:move |copy )?(?P<of>.*) as [ui]size \(")
 LITERAL = re.compile(r"const (\d+)_[ui]size")
@@ -80,7 +91,8 @@ impl<T: Copy + Into<u64>> Planted<T> {
 
 
 class Operation(collections.namedtuple("Operation", "file place function")):
-    """Where an operation is: a file of the package, `LINE:COLUMN: LINE:COLUMN`, and the function or constant around it."""
+    """Where an operation is: a file of the package, `LINE:COLUMN: LINE:COLUMN`, and the
+    function or constant around it."""
 
     def said(self, folder):
         """As the list has it."""
@@ -117,7 +129,11 @@ def found_in(mir):
         local, statement = LOCAL.match(line), STATEMENT.match(line)
         if local:
             types[local[1]] = local[2]
-        elif statement and not statement["file"].startswith("/") and is_operation(statement["text"], types):
+        elif (
+            statement
+            and not statement["file"].startswith("/")
+            and is_operation(statement["text"], types)
+        ):
             found.add(Operation(statement["file"], statement["place"], function))
     return found
 
@@ -137,7 +153,13 @@ def is_great(text):
 
 
 def mir_of(command, folder):
-    done = subprocess.run(command, cwd=folder, env={**os.environ, "RUSTC_BOOTSTRAP": "1"}, stdout=subprocess.PIPE, text=True)
+    done = subprocess.run(
+        command,
+        cwd=folder,
+        env={**os.environ, "RUSTC_BOOTSTRAP": "1"},
+        stdout=subprocess.PIPE,
+        text=True,
+    )
     if done.returncode:
         sys.exit(f"{command[0]} fails")
     return done.stdout
@@ -146,27 +168,59 @@ def mir_of(command, folder):
 def test_planted():
     with tempfile.TemporaryDirectory() as folder:
         (pathlib.Path(folder) / "planted.rs").write_text(PLANTED)
-        mir = mir_of(["rustc", "--edition=2024", "--crate-type=lib", "--cap-lints=allow", *MIR, "planted.rs"], folder)
+        mir = mir_of(
+            [
+                "rustc",
+                "--edition=2024",
+                "--crate-type=lib",
+                "--cap-lints=allow",
+                *MIR,
+                "planted.rs",
+            ],
+            folder,
+        )
     lines = PLANTED.splitlines()
     # The line of an operation, or of the name of a constant without a place.
     found = {
-        lines[int(it.place.split(":")[0]) - 1] if it.place else next(one for one in lines if it.function.split(" ")[0] in one)
+        lines[int(it.place.split(":")[0]) - 1]
+        if it.place
+        else next(one for one in lines if it.function.split(" ")[0] in one)
         for it in found_in(mir)
     }
     wrong = sorted(found ^ {it for it in lines if it.endswith("// found")})
     if wrong:
-        sys.exit("\n".join(["the MIR of this rustc isn't understood: these lines are found and aren't marked, or are and aren't", *wrong]))
+        sys.exit(
+            "\n".join(
+                [
+                    "the MIR of this rustc isn't understood: these lines are found and aren't marked, or are and aren't",
+                    *wrong,
+                ]
+            )
+        )
 
 
 def listed():
     """The lines of the list without their remarks."""
-    return {": ".join(it.strip().split(": ")[:2]) for it in LIST.read_text().splitlines() if it.startswith("  ")}
+    return {
+        ": ".join(it.strip().split(": ")[:2])
+        for it in LIST.read_text().splitlines()
+        if it.startswith("  ")
+    }
 
 
 def main(archive=None):
     test_planted()
     folder = pathlib.Path(archive) if archive else TOP / "rust/offline"
-    cargo = ["cargo", "rustc", "--package=forgeni", "--offline", "--quiet", "--lib", "--profile=check", "--target-dir=target/usize"]
+    cargo = [
+        "cargo",
+        "rustc",
+        "--package=forgeni",
+        "--offline",
+        "--quiet",
+        "--lib",
+        "--profile=check",
+        "--target-dir=target/usize",
+    ]
     cargo += ["--config", str(TOP / ".ci/debian.toml")] if archive else []
     features = "programs,serde,rayon" if archive else "programs"
     builds = [["--features", features], ["--no-default-features"]]
@@ -178,7 +232,9 @@ def main(archive=None):
     faults += [f"{LIST.name}: there is no such operation: {it}" for it in sorted(listed() - said)]
     if faults:
         sys.exit("\n".join(faults))
-    print(f"{folder}: {counts.total()} operations that could make a great usize, each in {LIST.name}, and {len(apart)} of pictures")
+    print(
+        f"{folder}: {counts.total()} operations that could make a great usize, each in {LIST.name}, and {len(apart)} of pictures"
+    )
 
 
 if __name__ == "__main__":

@@ -1,20 +1,23 @@
 #!/usr/bin/env python3
-"""Measures for docs/PERFORMANCE.md and draws its chart, and README's. It needs nothing but Python, and runs from any folder.
+"""Measures for docs/PERFORMANCE.md and draws its chart, and README's. It needs nothing but Python,
+and runs from any folder.
 
     docs/performance.py measure [PART..]   runs the scripts that the page names (or those with a PART in their names), puts
                                            their tables into the page, and draws the charts
     docs/performance.py draw               draws the charts of the tables in the page: docs/performance.svg has all rows, and
-                                           docs/benchmarks.svg those of README; and writes the page's table of limits
+                                       docs/benchmarks.svg those of README; and writes the page's table of limits
     docs/performance.py check              ends with status 1 if a chart or the limits are others, or a table is missing
 
-The figures stand in the page alone. A line above a table says what prints it, and the tables below it up to the next such line:
+The figures stand in the page alone. A line above a table says what prints it, and the tables below
+it up to the next such line:
 
     <!-- measured by COMMAND -->
 
-The command prints one table or several. A table of the page is the printed one whose head begins with the same two columns. A line that
-begins with a dash says when and on what machine the commands that it names were measured. `measure` needs what the scripts need: `cargo` and `rt`
-on the path, and the two peers that docs/PERFORMANCE.md names. A script builds what it measures, which takes a few minutes more where it has
-not been built.
+The command prints one table or several. A table of the page is the printed one whose head begins
+with the same two columns. A line that begins with a dash says when and on what machine the commands
+that it names were measured. `measure` needs what the scripts need: `cargo` and `rt` on the path,
+and the two peers that docs/PERFORMANCE.md names. A script builds what it measures, which takes a
+few minutes more where it has not been built.
 """
 
 import datetime
@@ -80,8 +83,8 @@ def numbers_of(cell):
     return [*map(float, re.findall(r"[0-9.]+", cell)), None]
 
 
-# What the chart shows: groups of rows. A row has a label, a ratio of times beside each peer where there is one, and the least and the
-# greatest ratio of one place.
+# What the chart shows: groups of rows. A row has a label, a ratio of times beside each peer where
+# there is one, and the least and the greatest ratio of one place.
 
 PEERS = ["plain Rust", "slotmap", "sharded-slab", "the shared cursor"]
 PARTS = {
@@ -98,29 +101,40 @@ BESIDE_PLAIN = {
 
 
 def groups_of(lines):
-    """The groups by name. A row of the works belongs to the part that begins with it or before it, and ends with our time in nanoseconds."""
+    """The groups by name. A row of the works belongs to the part that begins with it or before it,
+    and ends with our time in nanoseconds."""
     groups, part = {}, ""
     for work, ours, _, plain, by_place, _, slots in rows_with(lines, "Work", "Here"):
         part = next((it for begin, it in PARTS.items() if work.startswith(begin)), part)
         ratios = [numbers_of(plain)[0], numbers_of(slots)[0], None]
-        groups.setdefault(part, []).append((work.replace("`", ""), ratios, numbers_of(by_place)[:2], ours))
+        groups.setdefault(part, []).append(
+            (work.replace("`", ""), ratios, numbers_of(by_place)[:2], ours)
+        )
     for columns, part in BESIDE_PLAIN.items():
         for work, of, ours, _, plain, by_place in rows_with(lines, *columns):
             label = f"{work.replace('`', '')}: {of}"
-            groups.setdefault(part, []).append((label, [numbers_of(plain)[0], None, None], numbers_of(by_place)[:2], ours))
+            groups.setdefault(part, []).append(
+                (label, [numbers_of(plain)[0], None, None], numbers_of(by_place)[:2], ours)
+            )
     for work, entities, ours, _, plain, by_place, _, slots in rows_with(lines, "Work", "Entities"):
         ratios = [numbers_of(plain)[0], numbers_of(slots)[0], None]
         label = f"{work.replace('`', '')}: {entities}"
-        groups.setdefault("Components, by number of entities", []).append((label, ratios, numbers_of(by_place)[:2], ours))
+        groups.setdefault("Components, by number of entities", []).append(
+            (label, ratios, numbers_of(by_place)[:2], ours)
+        )
     for column, how in (-2, "singly"), (-1, "64 at once"):
         for row in rows_with(lines, "Threads", "Singly"):
             ratios = [None, None, numbers_of(row[column])[0]]
             if any(ratios):
                 part = "A phase of threads, and its flush"
-                groups.setdefault(part, []).append((f"{how}, threads: {row[0]}", ratios, [], row[column + 3]))
+                groups.setdefault(part, []).append(
+                    (f"{how}, threads: {row[0]}", ratios, [], row[column + 3])
+                )
     for threads, ours, _, counter, ratio in rows_with(lines, "Threads", "`Blocks::reserve`"):
         ratios = [float(ours) / float(counter), None, None, float(ratio)]
-        groups.setdefault("A reservation from a block", []).append((f"from a block, threads: {threads}", ratios, [], ours))
+        groups.setdefault("A reservation from a block", []).append(
+            (f"from a block, threads: {threads}", ratios, [], ours)
+        )
     return groups
 
 
@@ -140,15 +154,21 @@ FEW = {
 
 def few_of(groups):
     """The one group of README's chart, in the order of FEW, with our times in its labels."""
-    rows = {label: (f"{FEW[label]}: {ours} ns", *others, ours) for of in groups.values() for label, *others, ours in of if label in FEW}
+    rows = {
+        label: (f"{FEW[label]}: {ours} ns", *others, ours)
+        for of in groups.values()
+        for label, *others, ours in of
+        if label in FEW
+    }
     return {"": [rows[it] for it in FEW]}
 
 
-# The picture. Each mark stands at a ratio of times; left of the line of the same time we are the faster side. A peer's mark has a colour and
-# a shape, so that peers can be told apart by either.
+# The picture. Each mark stands at a ratio of times; left of the line of the same time we are the
+# faster side. A peer's mark has a colour and a shape, so that peers can be told apart by either.
 
 TITLE = "Time of each call, ours divided by a peer's"
-# The plot has this width; to its left are the labels, whose letters have at most this one, and to its right the figures.
+# The plot has this width; to its left are the labels, whose letters have at most this one, and to
+# its right the figures.
 PLOT, LETTER, FIGURES, ROW, HEAD = 470, 6.5, 228, 19, 30
 MOST = 2
 MARKS = {
@@ -176,7 +196,9 @@ STYLE = """
 
 def plot(least, left):
     """Where a ratio is in the plot that begins there, with that power of two."""
-    return lambda ratio: round(left + (min(math.log2(ratio), MOST) - least) / (MOST - least) * PLOT, 1)
+    return lambda ratio: round(
+        left + (min(math.log2(ratio), MOST) - least) / (MOST - least) * PLOT, 1
+    )
 
 
 def text(x, y, words, kind):
@@ -200,14 +222,25 @@ def row_of(label, ratios, span, place_of, left, y):
             yield mark(kind, place_of(ratio), y)
     for column, ratio in enumerate(ratios):
         if ratio:
-            yield text(left + PLOT + 70 + 48 * column, y + 4, f"{ratio:.2f}" if ratio >= 0.095 else f"{ratio:.2g}", "figure")
+            yield text(
+                left + PLOT + 70 + 48 * column,
+                y + 4,
+                f"{ratio:.2f}" if ratio >= 0.095 else f"{ratio:.2g}",
+                "figure",
+            )
 
 
 def drawn(groups):
     """The chart of these groups of rows."""
     left = 30 + round(LETTER * max(len(label) for rows in groups.values() for label, *_ in rows))
     right, width = left + PLOT, left + PLOT + FIGURES
-    least = min(math.floor(math.log2(it)) for rows in groups.values() for _, ratios, *_ in rows for it in ratios if it)
+    least = min(
+        math.floor(math.log2(it))
+        for rows in groups.values()
+        for _, ratios, *_ in rows
+        for it in ratios
+        if it
+    )
     place_of = plot(least, left)
     even = place_of(1)
     top, heads = 96, HEAD if len(groups) > 1 else 10
@@ -224,7 +257,10 @@ def drawn(groups):
         x = place_of(2.0**power)
         marks.append(line("even" if power == 0 else "grid", x, top, x, bottom))
         name = "the same" if power == 0 else f"{2**power}×" if power > 0 else f"1/{2**-power}"
-        marks += [text(x, top - 8, name, "quiet middle"), text(x, bottom + 16, name, "quiet middle")]
+        marks += [
+            text(x, top - 8, name, "quiet middle"),
+            text(x, bottom + 16, name, "quiet middle"),
+        ]
     x = 16
     for kind, words in zip(MARKS, PEERS):
         marks += [mark(kind, x + 6, 48), text(x + 18, 52, f"beside {words}", "quiet")]
@@ -238,7 +274,10 @@ def drawn(groups):
     y = top
     for name, rows in groups.items():
         if name:
-            marks += [f'<rect class="paper" x="{left}" y="{y}" width="{PLOT}" height="{HEAD - 8}"/>', text(16, y + 18, name, "group")]
+            marks += [
+                f'<rect class="paper" x="{left}" y="{y}" width="{PLOT}" height="{HEAD - 8}"/>',
+                text(16, y + 18, name, "group"),
+            ]
         y += heads
         for label, ratios, span, _ in rows:
             marks += row_of(label, ratios, span, place_of, left, y + 3)
@@ -255,23 +294,54 @@ def charts_of(lines):
     return {CHART: drawn(groups), FEW_CHART: drawn(few_of(groups))}
 
 
-# The table of limits: a work, the head of its table, how its rows begin, and the limits of the median of their ratios.
+# The table of limits: a work, the head of its table, how its rows begin, and the limits of the
+# median of their ratios.
 
 LIMITS_HEAD = "| Work | Limit | Ratio to plain Rust | Limit | Ratio to slotmap |"
 LIMITS = [
     ("`alloc`, then `free`", ("Work", "Here"), ["`alloc`, then"], 0.95, None),
-    ("`state`, `contains`, `is_alive`", ("Work", "Here"), ["`state`", "`contains`", "`is_alive`"], 1.0, 1.1),
+    (
+        "`state`, `contains`, `is_alive`",
+        ("Work", "Here"),
+        ["`state`", "`contains`", "`is_alive`"],
+        1.0,
+        1.1,
+    ),
     ("A phase to `flush` to `free`, singly", ("Work", "Here"), ["A phase"], 1.05, None),
     ("The same, 64 at once", ("Work", "Here"), ["The same"], 1.2, None),
     ("`request` to `flush` to `free`", ("Work", "Here"), ["`request`"], 0.5, None),
-    ("Spawn, 4 times `get`, despawn, rising", ("Work", "Entities"), ["Spawn, 4 times `get`, despawn, rising"], 1.1, 1.05),
-    ("The same, scattered", ("Work", "Entities"), ["Spawn, 4 times `get`, despawn, scattered"], 1.1, 1.15),
+    (
+        "Spawn, 4 times `get`, despawn, rising",
+        ("Work", "Entities"),
+        ["Spawn, 4 times `get`, despawn, rising"],
+        1.1,
+        1.05,
+    ),
+    (
+        "The same, scattered",
+        ("Work", "Entities"),
+        ["Spawn, 4 times `get`, despawn, scattered"],
+        1.1,
+        1.15,
+    ),
     ("`iter` over a map", ("Work", "Entities"), ["`iter`"], 1.05, 0.9),
     ("A command of `apply`, of each kind", ("Command of `apply`", "Order"), [""], 1.0, None),
     ("A `Storage`, and `born`", ("Work of a `Storage`", "Entities"), [""], 1.2, None),
-    ("A frame of 64 systems that compute, 4 workers", ("Systems", "Workers"), ["compute | 4"], 1.1, None),
+    (
+        "A frame of 64 systems that compute, 4 workers",
+        ("Systems", "Workers"),
+        ["compute | 4"],
+        1.1,
+        None,
+    ),
     ("`Entities::try_clone_from`; plain: a copy", ("Slots", "`try_clone_from`"), [""], 1.3, 1.2),
-    ("`HandleMap::clone_from`; plain: `Vec<Option<T>>`", ("Slots", "`HandleMap<i64>::clone_from`"), [""], 1.3, None),
+    (
+        "`HandleMap::clone_from`; plain: `Vec<Option<T>>`",
+        ("Slots", "`HandleMap<i64>::clone_from`"),
+        [""],
+        1.3,
+        None,
+    ),
 ]
 
 
@@ -299,7 +369,9 @@ def with_limits(lines):
     rows = []
     for name, columns, begins, plain, slots in LIMITS:
         beside_plain, beside_slots, *_ = [*medians_of(lines, columns, begins), None, None]
-        rows.append(f"| {name} | {beside_limit(plain, beside_plain)} | {beside_limit(slots, beside_slots)} |")
+        rows.append(
+            f"| {name} | {beside_limit(plain, beside_plain)} | {beside_limit(slots, beside_slots)} |"
+        )
     at = lines.index(LIMITS_HEAD)
     end = next(end for begin, end in tables_of(lines) if begin == at)
     return [*lines[: at + 2], *rows, *lines[end:]]
@@ -343,14 +415,24 @@ DAY = re.compile(r"^- (on \d[^:]*):\s+((?:`[^`]+`,?\s+)+)", re.MULTILINE)
 
 def days_of(lines):
     """When each command was measured, and on what machine."""
-    return {command: it[1] for it in DAY.finditer("\n".join(lines)) for command in re.findall("`([^`]+)`", it[2])}
+    return {
+        command: it[1]
+        for it in DAY.finditer("\n".join(lines))
+        for command in re.findall("`([^`]+)`", it[2])
+    }
 
 
 def with_days(lines, days):
     """These lines, with those days: an item of a list for each day and machine."""
     text = "\n".join(lines)
-    items = [f"- {day}: {', '.join(f'`{it}`' for it in days if days[it] == day)}" for day in dict.fromkeys(days.values())]
-    said = "\n".join("\n".join(textwrap.wrap(it, 140, subsequent_indent="  ", break_on_hyphens=False)) for it in items)
+    items = [
+        f"- {day}: {', '.join(f'`{it}`' for it in days if days[it] == day)}"
+        for day in dict.fromkeys(days.values())
+    ]
+    said = "\n".join(
+        "\n".join(textwrap.wrap(it, 140, subsequent_indent="  ", break_on_hyphens=False))
+        for it in items
+    )
     at = DAY.search(text).start()
     return f"{text[:at]}{said}\n\n{DAY.sub('', text[at:])}".splitlines()
 
@@ -412,7 +494,11 @@ def main(words):
             draw(lines)
         case ["check"]:
             faults = [*faults_of(lines)]
-            print(*faults, f"performance: {len([*measured_tables(lines)])} tables, {len(faults)} faults", sep="\n")
+            print(
+                *faults,
+                f"performance: {len([*measured_tables(lines)])} tables, {len(faults)} faults",
+                sep="\n",
+            )
             return 1 if faults else 0
         case _:
             print(__doc__, file=sys.stderr)

@@ -25,7 +25,8 @@ class Value:
 
 
 class Expressions:
-    """Draws integer expressions, and keeps what is known of the variables of the program that it writes."""
+    """Draws integer expressions, and keeps what is known of the variables of the program that it
+    writes."""
 
     def __init__(self, number, seed):
         self.number, self.random = number, random.Random(f"{seed}/{number}")
@@ -63,7 +64,11 @@ class Expressions:
     def kept(self, is_mutable=None, type_of=None):
         """The variables that can be read: of each name the last one."""
         found = {name: (name, *rest) for scope in self.scopes for name, *rest in scope}
-        return [it for it in found.values() if (is_mutable is None or it[4] == is_mutable) and type_of in (None, it[1])]
+        return [
+            it
+            for it in found.values()
+            if (is_mutable is None or it[4] == is_mutable) and type_of in (None, it[1])
+        ]
 
     def new_or_hidden(self):
         """A new name, or that of a variable that the new one hides."""
@@ -73,12 +78,21 @@ class Expressions:
     # Integer expressions.
 
     def literal(self, type_of, low=None, high=None):
-        low, high = least(type_of) if low is None else low, largest(type_of) if high is None else high
-        edge = [it for it in (0, 1, 2, 3, 7, 10, 127, 128, 255, low, high, high - 1) if low <= it <= high]
+        low, high = (
+            least(type_of) if low is None else low,
+            largest(type_of) if high is None else high,
+        )
+        edge = [
+            it
+            for it in (0, 1, 2, 3, 7, 10, 127, 128, 255, low, high, high - 1)
+            if low <= it <= high
+        ]
         value = self.pick(*edge) if self.chance(60) else self.random.randint(low, high)
         if value == least(type_of) and value < 0:
             return Value(f"(-{-(value + 1)}{type_of} - 1)", type_of, value, value)
-        return Value(f"(-{-value}{type_of})" if value < 0 else f"{value}{type_of}", type_of, value, value)
+        return Value(
+            f"(-{-value}{type_of})" if value < 0 else f"{value}{type_of}", type_of, value, value
+        )
 
     def value(self, type_of=None, depth=3):
         type_of = type_of or self.pick(*BITS)
@@ -88,8 +102,26 @@ class Expressions:
                 name, _, low, high, _ = self.pick(*variables)
                 return Value(name, type_of, low, high)
             return self.literal(type_of)
-        kinds = [self.sum, self.sum, self.product, self.quotient, self.bits, self.shift, self.negated, self.cast, self.cast, self.method]
-        kinds += [self.choice, self.matched, self.nested, self.noted, self.tuple_field, self.fallback]
+        kinds = [
+            self.sum,
+            self.sum,
+            self.product,
+            self.quotient,
+            self.bits,
+            self.shift,
+            self.negated,
+            self.cast,
+            self.cast,
+            self.method,
+        ]
+        kinds += [
+            self.choice,
+            self.matched,
+            self.nested,
+            self.noted,
+            self.tuple_field,
+            self.fallback,
+        ]
         found = self.pick(*kinds)(type_of, depth - 1)
         return found if found and found.fits(type_of) else self.literal(type_of)
 
@@ -107,7 +139,9 @@ class Expressions:
     def sum(self, type_of, depth):
         a, b = self.value(type_of, depth), self.value(type_of, depth)
         sign = self.pick("+", "-")
-        low, high = (a.low + b.low, a.high + b.high) if sign == "+" else (a.low - b.high, a.high - b.low)
+        low, high = (
+            (a.low + b.low, a.high + b.high) if sign == "+" else (a.low - b.high, a.high - b.low)
+        )
         if least(type_of) <= low and high <= largest(type_of):
             return Value(f"({a.text} {sign} {b.text})", type_of, low, high)
         word = "add" if sign == "+" else "sub"
@@ -115,7 +149,12 @@ class Expressions:
         if self.chance(60):
             return Value(f"{a.text}.saturating_{word}({b.text})", type_of, low, high)
         c = self.literal(type_of)
-        return Value(f"{a.text}.checked_{word}({b.text}).unwrap_or({c.text})", type_of, min(low, c.low), max(high, c.high))
+        return Value(
+            f"{a.text}.checked_{word}({b.text}).unwrap_or({c.text})",
+            type_of,
+            min(low, c.low),
+            max(high, c.high),
+        )
 
     def product(self, type_of, depth):
         a = self.value(type_of, depth)
@@ -123,7 +162,9 @@ class Expressions:
         ends = [x * y for x in (a.low, a.high) for y in (b.low, b.high)]
         if least(type_of) <= min(ends) and max(ends) <= largest(type_of):
             return Value(f"({a.text} * {b.text})", type_of, min(ends), max(ends))
-        low, high = (min(max(it, least(type_of)), largest(type_of)) for it in (min(ends), max(ends)))
+        low, high = (
+            min(max(it, least(type_of)), largest(type_of)) for it in (min(ends), max(ends))
+        )
         return Value(f"{a.text}.saturating_mul({b.text})", type_of, low, high)
 
     def quotient(self, type_of, depth):
@@ -135,19 +176,39 @@ class Expressions:
             by = Value(f"({b.text} + 1{type_of})", type_of, 1, 21)
         if self.chance(50):
             size = max(abs(by.low), abs(by.high)) - 1
-            return Value(f"({a.text} % {by.text})", type_of, max(a.low, -size) if a.low < 0 else 0, min(a.high, size) if a.high > 0 else 0)
+            return Value(
+                f"({a.text} % {by.text})",
+                type_of,
+                max(a.low, -size) if a.low < 0 else 0,
+                min(a.high, size) if a.high > 0 else 0,
+            )
         size = max(abs(a.low), abs(a.high))
-        return Value(f"({a.text} / {by.text})", type_of, max(-size, least(type_of)) if type_of[0] == "i" else 0, min(size, largest(type_of)))
+        return Value(
+            f"({a.text} / {by.text})",
+            type_of,
+            max(-size, least(type_of)) if type_of[0] == "i" else 0,
+            min(size, largest(type_of)),
+        )
 
     def bits(self, type_of, depth):
-        a, b, sign = self.value(type_of, depth), self.value(type_of, depth), self.pick("&", "|", "^")
+        a, b, sign = (
+            self.value(type_of, depth),
+            self.value(type_of, depth),
+            self.pick("&", "|", "^"),
+        )
         size = max(abs(it) for it in (a.low, a.high, b.low, b.high, 1)).bit_length()
         low = 0 if min(a.low, b.low) >= 0 else max(-(1 << size), least(type_of))
-        return Value(f"({a.text} {sign} {b.text})", type_of, low, min((1 << size) - 1, largest(type_of)))
+        return Value(
+            f"({a.text} {sign} {b.text})", type_of, low, min((1 << size) - 1, largest(type_of))
+        )
 
     def shift(self, type_of, depth):
         a = self.value(type_of, depth)
-        by = self.small("u32", BITS[type_of] - 1, depth) if self.chance(40) else self.literal("u32", 0, BITS[type_of] - 1)
+        by = (
+            self.small("u32", BITS[type_of] - 1, depth)
+            if self.chance(40)
+            else self.literal("u32", 0, BITS[type_of] - 1)
+        )
         if self.chance(50):
             ends = [it >> places for it in (a.low, a.high) for places in (by.low, by.high)]
             return Value(f"({a.text} >> {by.text})", type_of, min(ends), max(ends))
@@ -163,7 +224,11 @@ class Expressions:
     def cast(self, type_of, depth):
         a = self.value(None, depth)
         if a.type != type_of and a.fits(type_of):
-            wider = BITS[a.type] < BITS[type_of] and (a.type[0] == type_of[0] or a.type[0] == "u") and "size" not in a.type + type_of
+            wider = (
+                BITS[a.type] < BITS[type_of]
+                and (a.type[0] == type_of[0] or a.type[0] == "u")
+                and "size" not in a.type + type_of
+            )
             if wider and self.chance(40):
                 return Value(f"{type_of}::from({a.text})", type_of, a.low, a.high)
             return Value(f"({a.text} as {type_of})", type_of, a.low, a.high)
@@ -179,8 +244,17 @@ class Expressions:
         return Value(f"{a.text}.max({b.text})", type_of, max(a.low, b.low), max(a.high, b.high))
 
     def choice(self, type_of, depth):
-        condition, a, b = self.condition(depth), self.value(type_of, depth), self.value(type_of, depth)
-        return Value(f"(if {condition} {{ {a.text} }} else {{ {b.text} }})", type_of, min(a.low, b.low), max(a.high, b.high))
+        condition, a, b = (
+            self.condition(depth),
+            self.value(type_of, depth),
+            self.value(type_of, depth),
+        )
+        return Value(
+            f"(if {condition} {{ {a.text} }} else {{ {b.text} }})",
+            type_of,
+            min(a.low, b.low),
+            max(a.high, b.high),
+        )
 
     def matched(self, type_of, depth):
         """A match on a number, each arm of which some number reaches."""
@@ -193,7 +267,11 @@ class Expressions:
                 break
             low, high = (f"-{-it}" if it < 0 else f"{it}" for it in (at, end))
             bound = self.name("n")
-            patterns = [f"{low}..={high}", f"{low} | {high}", f"{bound} @ {low}..={high}"] if end > at else [low] * 3
+            patterns = (
+                [f"{low}..={high}", f"{low} | {high}", f"{bound} @ {low}..={high}"]
+                if end > at
+                else [low] * 3
+            )
             pattern = self.pick(*patterns)
             self.scopes.append([])
             if "@" in pattern:
@@ -215,10 +293,13 @@ class Expressions:
         self.keep(name, inner.type, inner.low, inner.high)
         result = self.value(type_of, depth)
         self.scopes.pop()
-        return Value(f"({{ let {name} = {inner.text}; {result.text} }})", type_of, result.low, result.high)
+        return Value(
+            f"({{ let {name} = {inner.text}; {result.text} }})", type_of, result.low, result.high
+        )
 
     def noted(self, type_of, depth):
-        """A number that is noted when it is evaluated. Its parts note nothing, since the trace is lent to one of them at a time."""
+        """A number that is noted when it is evaluated. Its parts note nothing, since the trace is
+        lent to one of them at a time."""
         if not self.may_trace:
             return None
         self.may_trace = False
@@ -226,8 +307,14 @@ class Expressions:
         self.may_trace = True
         if type_of[0] == "u":
             text = f"trace.note({a.text} as u64)" if type_of != "u64" else f"trace.note({a.text})"
-            return Value(f"({text} as {type_of})" if type_of != "u64" else text, type_of, a.low, a.high)
-        text = f"trace.note_signed(i64::from({a.text}))" if type_of != "i64" else f"trace.note_signed({a.text})"
+            return Value(
+                f"({text} as {type_of})" if type_of != "u64" else text, type_of, a.low, a.high
+            )
+        text = (
+            f"trace.note_signed(i64::from({a.text}))"
+            if type_of != "i64"
+            else f"trace.note_signed({a.text})"
+        )
         return Value(f"({text} as {type_of})" if type_of != "i64" else text, type_of, a.low, a.high)
 
     def tuple_field(self, type_of, depth):
@@ -245,7 +332,9 @@ class Expressions:
         mapped = self.value(type_of, depth)
         self.scopes.pop()
         self.may_trace = before
-        word = self.pick(f"map(|{bound}| {mapped.text})", f"and_then(|{bound}| Some({mapped.text}))")
+        word = self.pick(
+            f"map(|{bound}| {mapped.text})", f"and_then(|{bound}| Some({mapped.text}))"
+        )
         text = f"Some({a.text}).{word}.unwrap_or({b.text})"
         return Value(text, type_of, min(mapped.low, b.low), max(mapped.high, b.high))
 

@@ -65,7 +65,12 @@ class Program(Statements):
 
     def an_enum(self):
         """An enum with all kinds of variants, and matches on it."""
-        name, a, b, c = f"Shape{self.number}x{self.names}", self.pick(*BITS), self.pick(*BITS), self.pick(*BITS)
+        name, a, b, c = (
+            f"Shape{self.number}x{self.names}",
+            self.pick(*BITS),
+            self.pick(*BITS),
+            self.pick(*BITS),
+        )
         self.names += 1
         self.item(
             "#[derive(Clone, Copy, Debug, PartialEq, Eq)]",
@@ -89,15 +94,24 @@ class Program(Statements):
                 (f"Line(x) | {name}::Fall {{ at: x, .. }}", {"x": a}, False),
                 ("Pair(y, _)", {"y": b}, False),
             ):
-                self.scopes.append([(it, of, least(of), largest(of), False) for it, of in bound.items()])
+                self.scopes.append(
+                    [(it, of, least(of), largest(of), False) for it, of in bound.items()]
+                )
                 guard = f" if {self.condition(1)}" if guarded else ""
                 self.say(f"    {name}::{pattern}{guard} => {self.value(given, 2).text},")
                 self.scopes.pop()
             self.say("}")
 
         self.function(f"fn {look}(shape: {name}, all_of: u8, trace: &mut Trace) -> {given}", body)
-        made = [f"{name}::Dot", f"{name}::Line({self.quiet(a, 1).text})", f"{name}::Pair({self.quiet(b, 1).text}, {self.quiet(c, 1).text})"]
-        made += [f"{name}::Fall {{ by: {self.quiet(c, 1).text}, at: {self.quiet(a, 1).text} }}", f"{name}::Line(3)"]
+        made = [
+            f"{name}::Dot",
+            f"{name}::Line({self.quiet(a, 1).text})",
+            f"{name}::Pair({self.quiet(b, 1).text}, {self.quiet(c, 1).text})",
+        ]
+        made += [
+            f"{name}::Fall {{ by: {self.quiet(c, 1).text}, at: {self.quiet(a, 1).text} }}",
+            f"{name}::Line(3)",
+        ]
         for shape in self.random.sample(made, 4):
             found = self.name()
             self.say(f"let {found} = {look}({shape}, {self.quiet('u8', 1).text}, trace);")
@@ -107,9 +121,14 @@ class Program(Statements):
         self.note_text(f"u64::from({is_one} || {self.pick(*made)} == {self.pick(*made)})")
 
     def a_trait(self):
-        """A trait with a constant and a default, two types that implement it, and a function that takes any of them."""
+        """A trait with a constant and a default, two types that implement it, and a function that
+        takes any of them."""
         trait, given = f"Weigh{self.number}x{self.names}", self.pick(*BITS)
-        one, two, by = f"One{self.number}x{self.names}", f"Two{self.number}x{self.names}", f"weigh{self.number}x{self.names}"
+        one, two, by = (
+            f"One{self.number}x{self.names}",
+            f"Two{self.number}x{self.names}",
+            f"weigh{self.number}x{self.names}",
+        )
         self.names += 1
         method, default = f"weight{self.number}x{self.names}", f"double{self.number}x{self.names}"
         self.item(
@@ -136,7 +155,9 @@ class Program(Statements):
             "}",
         )
         saved, scopes = self.may_trace, self.scopes
-        self.may_trace, self.scopes = False, [[("self.0", inner, least(inner), largest(inner), False)]]
+        self.may_trace, self.scopes = False, [
+            [("self.0", inner, least(inner), largest(inner), False)]
+        ]
         self.item(
             f"impl {trait} for {one} {{",
             f"    const K: {given} = {self.literal(given).text};",
@@ -146,7 +167,12 @@ class Program(Statements):
             "    }",
             "}",
         )
-        self.scopes = [[(it, of, least(of), largest(of), False) for it, of in (("self.second", inner), ("inner", given))]]
+        self.scopes = [
+            [
+                (it, of, least(of), largest(of), False)
+                for it, of in (("self.second", inner), ("inner", given))
+            ]
+        ]
         own = ""
         if self.chance(50):
             own = f"\n    fn {default}(&self) -> {given} {{\n        let inner = self.first.{default}();\n        {self.value(given).text}\n    }}\n"
@@ -178,7 +204,11 @@ class Program(Statements):
 
     def an_early_return(self):
         """A function that ends early, by `?`, `return` or `let .. else`."""
-        type_of, name, is_result = self.pick(*BITS), f"early{self.number}x{self.names}", self.chance(50)
+        type_of, name, is_result = (
+            self.pick(*BITS),
+            f"early{self.number}x{self.names}",
+            self.chance(50),
+        )
         self.names += 1
         wrap, none = ("Ok", "Err(all_of)") if is_result else ("Some", "None")
 
@@ -188,7 +218,9 @@ class Program(Statements):
             self.keep("first", type_of, least(type_of), largest(type_of))
             self.statements(1)
             self.say(f"if {self.quiet_condition()} {{ return {none}; }}")
-            self.say(f"let Some(second) = first.checked_{self.pick('add', 'sub')}({self.quiet(type_of, 1).text}) else {{")
+            self.say(
+                f"let Some(second) = first.checked_{self.pick('add', 'sub')}({self.quiet(type_of, 1).text}) else {{"
+            )
             self.say(f"    trace.note({self.random.randrange(100)});")
             self.say(f"    return {wrap}(first);")
             self.say("};")
@@ -196,13 +228,25 @@ class Program(Statements):
             self.statements(1)
 
         of = f"Result<{type_of}, u8>" if is_result else f"Option<{type_of}>"
-        self.function(f"fn {name}(given: {of}, all_of: u8, trace: &mut Trace) -> {of}", body, f"{wrap}(second)")
+        self.function(
+            f"fn {name}(given: {of}, all_of: u8, trace: &mut Trace) -> {of}",
+            body,
+            f"{wrap}(second)",
+        )
         for _ in range(3):
-            given = self.pick(f"{wrap}({self.quiet(type_of, 2).text})", f"{wrap}({self.quiet(type_of, 1).text})", none.replace("all_of", "7u8"))
+            given = self.pick(
+                f"{wrap}({self.quiet(type_of, 2).text})",
+                f"{wrap}({self.quiet(type_of, 1).text})",
+                none.replace("all_of", "7u8"),
+            )
             self.say(f"match {name}({given}, {self.quiet('u8', 1).text}, trace) {{")
             kind = "note_signed(last as i64)" if type_of[0] == "i" else "note(last as u64)"
             self.say(f"    {wrap}(last) => {{ trace.{kind}; }}")
-            self.say("    Err(why) => { trace.note(u64::from(why)); }" if is_result else "    None => { trace.note(1000); }")
+            self.say(
+                "    Err(why) => { trace.note(u64::from(why)); }"
+                if is_result
+                else "    None => { trace.note(1000); }"
+            )
             self.say("}")
 
     def a_closure(self):
@@ -214,10 +258,14 @@ class Program(Statements):
         self.scopes.pop()
         move = self.pick("", "", "move ")
         self.say(f"let {name} = {move}|x: {a}| {body.text};")
-        self.say(f"let {name}x = {name}({self.value(a, 2).text}) ^ {name}({self.value(a, 1).text});")
+        self.say(
+            f"let {name}x = {name}({self.value(a, 2).text}) ^ {name}({self.value(a, 1).text});"
+        )
         self.note(Value(f"{name}x", given, 0, 0))
         self.say(f"let mut {name}n = {self.literal('u8').text};")
-        self.say(f"let mut {name}c = |by: u8| {{ {name}n = {name}n.saturating_{self.pick('add', 'sub')}(by); {name}n ^ by }};")
+        self.say(
+            f"let mut {name}c = |by: u8| {{ {name}n = {name}n.saturating_{self.pick('add', 'sub')}(by); {name}n ^ by }};"
+        )
         self.say(f"let {name}y = {name}c({self.quiet('u8', 1).text});")
         self.say(f"let {name}z = {name}c({name}y);")
         self.note_text(f"u64::from({name}y) * 1000 + u64::from({name}z) + u64::from({name}n)")
@@ -245,21 +293,31 @@ class Program(Statements):
                 self.depth -= 1
                 self.say("}")
             elif kind == 1:
-                self.say(f"{name}.retain(|each| *each {self.pick('<', '>=', '!=')} {self.literal(type_of).text});")
+                self.say(
+                    f"{name}.retain(|each| *each {self.pick('<', '>=', '!=')} {self.literal(type_of).text});"
+                )
             elif kind == 2:
-                self.say(f"if {name}.insert({name}.len() / 2, {self.quiet(type_of, 1).text}).is_err() {{ return; }}")
+                self.say(
+                    f"if {name}.insert({name}.len() / 2, {self.quiet(type_of, 1).text}).is_err() {{ return; }}"
+                )
             elif kind == 3:
-                self.say(f"if {name}.len() > 1 {{ {name}.{self.pick('remove(1)', 'swap_remove(0)', 'truncate(1)')}; }}")
+                self.say(
+                    f"if {name}.len() > 1 {{ {name}.{self.pick('remove(1)', 'swap_remove(0)', 'truncate(1)')}; }}"
+                )
             elif kind == 4:
                 self.say(f"{name}.sort_unstable();")
             else:
                 stop = f"if last {self.pick('<', '>')} {self.literal(type_of).text} {{ break; }}"
-                self.block(f"while let Some(last) = {name}.pop() {{", lambda: (self.note(Value("last", type_of, 0, 0)), self.say(stop)))
+                self.block(
+                    f"while let Some(last) = {name}.pop() {{",
+                    lambda: (self.note(Value("last", type_of, 0, 0)), self.say(stop)),
+                )
         self.note_text(f"{name}.len() as u64")
         self.block(f"for each in {name} {{", lambda: self.note(Value("each", type_of, 0, 0)))
 
     def a_shared_value(self):
-        """Values with several owners. Whether an owner is the last one shows which others were dropped before."""
+        """Values with several owners. Whether an owner is the last one shows which others were
+        dropped before."""
         name, looks = self.name("s"), f"looks{self.number}x{self.names}"
         self.names += 1
         self.item(
@@ -267,7 +325,9 @@ class Program(Statements):
             "    if **one > at { Some(**one - at) } else { None }",
             "}",
         )
-        self.say(f"let Ok({name}) = Arc::new(alloc, {self.quiet('u8', 1).text}) else {{ return; }};")
+        self.say(
+            f"let Ok({name}) = Arc::new(alloc, {self.quiet('u8', 1).text}) else {{ return; }};"
+        )
         self.say(f"let Ok({name}y) = Arc::try_clone(&{name}) else {{ return; }};")
         kind, at = self.random.randrange(6), self.literal("u8", 0, 100).text
         if kind == 0:
@@ -284,22 +344,31 @@ class Program(Statements):
         elif kind == 4:
             self.say(f"let {name}v = Some({name}y);")
             first = f"Some(_) if {self.quiet_condition()} => {{ trace.note(1); }}"
-            self.say(f"match {name}v {{ {first} Some(_inner) => {{ trace.note(2); }} None => {{ trace.note(3); }} }}")
+            self.say(
+                f"match {name}v {{ {first} Some(_inner) => {{ trace.note(2); }} None => {{ trace.note(3); }} }}"
+            )
         else:
             self.say(f"let mut {name}v = Some({name}y);")
             self.say(f"let {name}o = mem::replace(&mut {name}v, None);")
             self.note_text(f"u64::from({name}o.is_some()) + u64::from({name}v.is_some()) * 2")
         form = self.random.randrange(3)
         if form == 0:
-            self.say(f"if let Ok({name}c) = Arc::try_clone(&{name}) {{ trace.note(u64::from(*{name}c)); }}")
+            self.say(
+                f"if let Ok({name}c) = Arc::try_clone(&{name}) {{ trace.note(u64::from(*{name}c)); }}"
+            )
         elif form == 1:
-            self.say(f"let {name}k = {{ let Ok(inner) = Arc::try_clone(&{name}) else {{ return; }}; {looks}(&inner, {at}) }};")
+            self.say(
+                f"let {name}k = {{ let Ok(inner) = Arc::try_clone(&{name}) else {{ return; }}; {looks}(&inner, {at}) }};"
+            )
             self.note_text(f"u64::from({name}k.unwrap_or(9))")
         self.note_text(f"u64::from(Arc::try_unwrap({name}).is_ok())")
 
     def numbers(self):
         """An iterator of its own, and chains over it."""
-        type_of, name = self.pick("u8", "u16", "u32", "u64", "usize"), f"Steps{self.number}x{self.names}"
+        type_of, name = (
+            self.pick("u8", "u16", "u32", "u64", "usize"),
+            f"Steps{self.number}x{self.names}",
+        )
         self.names += 1
         self.item(
             "#[derive(Drop)]",
@@ -319,18 +388,33 @@ class Program(Statements):
             "    }",
             "}",
         )
-        made = lambda: f"({name} {{ left: {self.small(type_of, 40).text}, by: {self.random.randint(3, 9)} }})"
-        chains = [f".take({self.random.randint(1, 4)})", f".filter(|each| *each % {self.random.randint(2, 4)} != 1)"]
+        made = (
+            lambda: f"({name} {{ left: {self.small(type_of, 40).text}, by: {self.random.randint(3, 9)} }})"
+        )
+        chains = [
+            f".take({self.random.randint(1, 4)})",
+            f".filter(|each| *each % {self.random.randint(2, 4)} != 1)",
+        ]
         chains += [f".map(|each| each / 2 + {self.random.randint(0, 9)})"]
         chain = "".join(self.random.sample(chains, self.random.randint(1, 3)))
-        self.block(f"for each in {made()}{chain} {{", lambda: self.note(Value("each", type_of, 0, 0)))
+        self.block(
+            f"for each in {made()}{chain} {{", lambda: self.note(Value("each", type_of, 0, 0))
+        )
         self.note_text(f"{made()}{self.pick(*chains)}.count() as u64")
         said = "at as u64 * 10_000 + left as u64 * 100 + right as u64"
-        self.block(f"for (at, (left, right)) in {made()}.zip({made()}).enumerate() {{", lambda: self.note_text(said))
+        self.block(
+            f"for (at, (left, right)) in {made()}.zip({made()}).enumerate() {{",
+            lambda: self.note_text(said),
+        )
 
     def a_record(self):
         """A struct that a function changes, and comparisons."""
-        name, change, a, b = f"Row{self.number}x{self.names}", f"change{self.number}x{self.names}", self.pick(*BITS), self.pick(*BITS)
+        name, change, a, b = (
+            f"Row{self.number}x{self.names}",
+            f"change{self.number}x{self.names}",
+            self.pick(*BITS),
+            self.pick(*BITS),
+        )
         self.names += 1
         self.item(
             "#[derive(Clone, Copy, Debug, PartialEq, Eq)]",
@@ -348,7 +432,9 @@ class Program(Statements):
 
         self.function(f"fn {change}(row: &mut {name}, trace: &mut Trace)", body)
         row = self.name("r")
-        self.say(f"let mut {row} = {name} {{ b: ({self.value(b, 1).text}, {self.value(a, 1).text}), a: {self.value(a, 1).text} }};")
+        self.say(
+            f"let mut {row} = {name} {{ b: ({self.value(b, 1).text}, {self.value(a, 1).text}), a: {self.value(a, 1).text} }};"
+        )
         self.say(f"{change}(&mut {row}, trace);")
         self.say(f"let {row}o = {row};")
         self.say(f"{change}(&mut {row}, trace);")
@@ -357,7 +443,9 @@ class Program(Statements):
         self.note(Value(f"{row}a", a, 0, 0))
         self.note(Value(f"{row}b", b, 0, 0))
         self.note(Value(f"{row}u.b.1", a, 0, 0))
-        self.note_text(f"u64::from({row}.a.cmp(&{row}o.a) == {row}o.a.cmp(&{row}u.a)) + if {row} == {row}o {{ 10 }} else {{ 20 }}")
+        self.note_text(
+            f"u64::from({row}.a.cmp(&{row}o.a) == {row}o.a.cmp(&{row}u.a)) + if {row} == {row}o {{ 10 }} else {{ 20 }}"
+        )
 
     def text(self):
         self.statements(2)

@@ -7,7 +7,8 @@ class Statements(Expressions):
     """Draws statements, and writes them."""
 
     def note(self, value):
-        """Notes a value. The trace is lent to one of them at a time, so a value that notes something itself is evaluated first."""
+        """Notes a value. The trace is lent to one of them at a time, so a value that notes
+        something itself is evaluated first."""
         if "trace" in value.text:
             self.say(f"let noted = {value.text};")
             value = Value("noted", value.type, value.low, value.high)
@@ -33,7 +34,15 @@ class Statements(Expressions):
 
     def statements(self, count):
         for _ in range(count):
-            kinds = [self.let, self.let, self.variable, self.assigned, self.assigned, self.assigned, self.noting]
+            kinds = [
+                self.let,
+                self.let,
+                self.variable,
+                self.assigned,
+                self.assigned,
+                self.assigned,
+                self.noting,
+            ]
             if self.depth < 4:
                 kinds += [self.branch, self.counted, self.counted, self.repeated, self.array]
             self.pick(*kinds)()
@@ -66,7 +75,9 @@ class Statements(Expressions):
         elif kind == 2:
             self.say(f"{name} {self.pick('/=', '%=')} {self.literal(type_of, 2, 60).text};")
         elif kind == 3:
-            self.say(f"{name} {self.pick('<<=', '>>=')} {self.small('u32', BITS[type_of] - 1).text};")
+            self.say(
+                f"{name} {self.pick('<<=', '>>=')} {self.small('u32', BITS[type_of] - 1).text};"
+            )
         elif kind == 4:
             self.say(f"{name} %= 90{type_of};")
             self.say(f"{name} += {self.small(type_of, 30).text};")
@@ -74,7 +85,9 @@ class Statements(Expressions):
             self.say(f"{name} /= 8{type_of};")
             self.say(f"{name} *= {self.literal(type_of, 2, 7).text};")
         else:
-            self.say(f"{name} = {name}.saturating_{self.pick('add', 'sub')}({self.value(type_of).text});")
+            self.say(
+                f"{name} = {name}.saturating_{self.pick('add', 'sub')}({self.value(type_of).text});"
+            )
 
     def noting(self):
         self.note(self.quiet())
@@ -92,8 +105,18 @@ class Statements(Expressions):
         low = self.random.randint(max(least(type_of), -5), 9)
         high = low + self.random.randint(0, 5)
         first, last = self.literal(type_of, low, low).text, self.literal(type_of, high, high).text
-        numbers = self.pick(f"{first}..{last}", f"{first}..={last}", f"({first}..{last}).rev()", f"({first}..={last}).rev()")
-        numbers = self.pick(numbers, numbers, f"({numbers}).take(3)", f"({numbers}).filter(|{name}| *{name} % 2 == 0)")
+        numbers = self.pick(
+            f"{first}..{last}",
+            f"{first}..={last}",
+            f"({first}..{last}).rev()",
+            f"({first}..={last}).rev()",
+        )
+        numbers = self.pick(
+            numbers,
+            numbers,
+            f"({numbers}).take(3)",
+            f"({numbers}).filter(|{name}| *{name} % 2 == 0)",
+        )
         label = f"'{name}: " if self.chance(30) else ""
 
         def body():
@@ -129,7 +152,8 @@ class Statements(Expressions):
         self.keep(given, type_of, least(type_of), largest(type_of))
 
     def array(self):
-        """An array: its elements by index, the order in which a compound assignment reads, and parts of it."""
+        """An array: its elements by index, the order in which a compound assignment reads, and
+        parts of it."""
         type_of, name, size = self.pick(*BITS), self.name("a"), self.random.randint(3, 5)
         elements = ", ".join(self.value(type_of, 1).text for _ in range(size))
         self.say(f"let mut {name} = [{elements}];")
@@ -142,22 +166,35 @@ class Statements(Expressions):
             self.note(Value(f"({name}x ^ {name}y)", type_of, 0, 0))
         elif kind == 1:
             part = self.pick(f"[{at}..{end}]", f"[{at}..]", f"[..{end}]", "[..]")
-            self.block(f"for each in {name}{part}.iter() {{", lambda: self.note(Value("(*each)", type_of, 0, 0)))
+            self.block(
+                f"for each in {name}{part}.iter() {{",
+                lambda: self.note(Value("(*each)", type_of, 0, 0)),
+            )
         elif kind == 2:
             said = f"at as u64 + u64::from(*each > {self.literal(type_of).text})"
-            self.block(f"for (at, each) in {name}.iter().enumerate() {{", lambda: self.note_text(said))
+            self.block(
+                f"for (at, each) in {name}.iter().enumerate() {{", lambda: self.note_text(said)
+            )
         elif kind == 3:
             self.say(f"let ({name}x, {name}y) = {name}.split_at({at});")
             self.note_text(f"({name}x.len() * 10 + {name}y.len()) as u64")
-            said = f"trace.note(tail.len() as u64 + u64::from(*head == {self.literal(type_of).text}));"
+            said = (
+                f"trace.note(tail.len() as u64 + u64::from(*head == {self.literal(type_of).text}));"
+            )
             self.say(f"if let Some((head, tail)) = {name}y.split_first() {{ {said} }}")
         elif kind == 4:
             wanted = self.literal(type_of).text
-            self.note_text(f"{name}.iter().position(|each| *each >= {wanted}).unwrap_or({size}) as u64")
-            self.note_text(f"u64::from({name}.iter().all(|each| *each < {wanted}) || {name}.iter().any(|each| *each == {wanted}))")
+            self.note_text(
+                f"{name}.iter().position(|each| *each >= {wanted}).unwrap_or({size}) as u64"
+            )
+            self.note_text(
+                f"u64::from({name}.iter().all(|each| *each < {wanted}) || {name}.iter().any(|each| *each == {wanted}))"
+            )
             self.note_text(f"{name}.iter().filter(|each| **each != {wanted}).count() as u64")
         else:
-            self.say(f"{name}[{at % size}] = {name}[{end % size}].max({name}[{self.random.randrange(size)}]);")
+            self.say(
+                f"{name}[{at % size}] = {name}[{end % size}].max({name}[{self.random.randrange(size)}]);"
+            )
             said = f"*each {self.pick('^=', '|=', '&=')} {self.quiet(type_of, 1).text};"
             self.block(f"for each in {name}.iter_mut() {{", lambda: self.say(said))
             self.block(f"for each in {name} {{", lambda: self.note(Value("each", type_of, 0, 0)))

@@ -1,7 +1,7 @@
 //! Files of calls, each with what it has to return.
 //!
-//! If an allocation of the driver itself fails, the driver asks once more. A call is made again only if its
-//! file expects that (`refusals`).
+//! If an allocation of the driver itself fails, the driver asks once more. A call is made again
+//! only if its file expects that (`refusals`).
 
 mod allocating;
 mod call;

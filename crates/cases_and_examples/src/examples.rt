@@ -1,5 +1,5 @@
-//! How the libraries are used, from one thread to frames. Each example is a module, which stands for
-//! itself.
+//! How the libraries are used, from one thread to frames. Each example is a module, which stands
+//! for itself.
 
 mod by_hand;
 mod caller;

@@ -44,8 +44,8 @@ impl Entities {
     /// Takes over the state of another allocator, as [`try_clone`](Self::try_clone) copies it. What
     /// this one had before is gone.
     ///
-    /// It uses the room that this one has, so one that had as many slots before takes no memory. This
-    /// is how a game that predicts goes back to a frame that the server has confirmed:
+    /// It uses the room that this one has, so one that had as many slots before takes no memory.
+    /// This is how a game that predicts goes back to a frame that the server has confirmed:
     ///
     /// ```
     /// use forgeni::Entities;
@@ -64,8 +64,8 @@ impl Entities {
     ///
     /// # Errors
     ///
-    /// [`OutOfMemory`](Memory) if there is no memory for slots that the source has beyond those of this
-    /// allocator. Nothing has changed then: all room is asked for first.
+    /// [`OutOfMemory`](Memory) if there is no memory for slots that the source has beyond those of
+    /// this allocator. Nothing has changed then: all room is asked for first.
     pub fn try_clone_from(&mut self, source: &Entities) -> Result<(), Memory>
         ensures ok { OnOk result (self.new ≡ source.now) }
         ensures rows_of_living { HasRowsOfLiving self.new }

@@ -91,7 +91,8 @@ impl Entities {
         ensures rows { result.rows ≡ map.empty }
         ensures rows_of_living { HasRowsOfLiving result }
 
-        // Whatever calls come then, no handle is given twice, and none that was given is given again.
+        // Whatever calls come then, no handle is given twice, and none that was given is given
+        // again.
         ensures given_once { (steps : List Step) → IsRun result.allocator steps
             → AreSpent (after_run result.allocator steps) (given_in_run result.allocator steps) }
     {
@@ -120,7 +121,8 @@ impl Entities {
         ensures rows { result.rows ≡ map.empty }
         ensures rows_of_living { HasRowsOfLiving result }
 
-        // Whatever calls come then, no handle is given twice, and none that was given is given again.
+        // Whatever calls come then, no handle is given twice, and none that was given is given
+        // again.
         ensures given_once { (steps : List Step) → IsRun result.allocator steps
             → AreSpent (after_run result.allocator steps) (given_in_run result.allocator steps) }
     {
@@ -196,8 +198,8 @@ impl Entities {
         self.slots.made()
     }
 
-    /// How many slots there are after the next [`flush`](Self::flush): those that were made, and one for
-    /// each reserved handle of a new slot.
+    /// How many slots there are after the next [`flush`](Self::flush): those that were made, and
+    /// one for each reserved handle of a new slot.
     ///
     /// ```
     /// use forgeni::Entities;
@@ -464,10 +466,10 @@ impl Entities {
         Ok(Freed { next })
     }
 
-    /// Brings to life what is reserved, and appends it to `out`: first the handles of new slots, then
-    /// those of old ones. What a refused request passed over can be given again. If nothing is
-    /// reserved, it appends nothing. It takes time for each handle that it appends, however long the
-    /// list is.
+    /// Brings to life what is reserved, and appends it to `out`: first the handles of new slots,
+    /// then those of old ones. What a refused request passed over can be given again. If nothing is
+    /// reserved, it appends nothing. It takes time for each handle that it appends, however long
+    /// the list is.
     ///
     /// If the list has room for the handles and no slot is new, the call takes no memory. So a list
     /// that is cleared and used again takes none eventually.
@@ -491,8 +493,9 @@ impl Entities {
     ///
     /// # Errors
     ///
-    /// [`OutOfMemory`](Memory) if there is no memory for new slots or for the list. Nothing has changed then,
-    /// neither here nor in `out`: all room is asked for before the first handle is listed.
+    /// [`OutOfMemory`](Memory) if there is no memory for new slots or for the list. Nothing has
+    /// changed then, neither here nor in `out`: all room is asked for before the first handle is
+    /// listed.
     pub fn flush(&mut self, out: &mut Vec<Handle>) -> Result<(), Memory>
         ensures ok { OnOk result (self.new.allocator ≡ after_flush self.old.allocator) }
         ensures rows { self.new.rows ≡ self.old.rows }

@@ -193,8 +193,8 @@ impl Entities {
         Ok(())
     }
 
-    /// Appends the image that the allocator has if none of its entities has a row, for a caller whose
-    /// rows follow from what it writes beside it. There is room for it.
+    /// Appends the image that the allocator has if none of its entities has a row, for a caller
+    /// whose rows follow from what it writes beside it. There is room for it.
     pub fn write_image_without_rows(&self, out: &mut Vec<u8>)
         requires { vec_len out.old + (40 + 12 * self.now.allocator.made) ≤ vec_capacity out.old }
         ensures written { out.new.items ≡ out.old.items ++ image (without_rows self.now) }
@@ -208,11 +208,11 @@ impl Entities {
 
     /// The allocator whose image these bytes are, all of them.
     ///
-    /// The bytes may come from anywhere. Each image that [`write_image`](Self::write_image) writes is
-    /// read as the same allocator, which gives no handle that was given before. Bytes that are the
-    /// image of no allocator are refused. The call takes 8 bytes of memory for each slot and 4 for each
-    /// that waits, which is no more than the slots have in the image. It takes none before it has
-    /// compared the number of slots with the length.
+    /// The bytes may come from anywhere. Each image that [`write_image`](Self::write_image) writes
+    /// is read as the same allocator, which gives no handle that was given before. Bytes that are
+    /// the image of no allocator are refused. The call takes 8 bytes of memory for each slot and 4
+    /// for each that waits, which is no more than the slots have in the image. It takes none before
+    /// it has compared the number of slots with the length.
     ///
     /// A forged image can make the next [`flush`](Self::flush) take up to 68 GB, since it may say
     /// that each of 2^32 - 1 slots is reserved. For bytes from a stranger, use
@@ -236,17 +236,18 @@ impl Entities {
     ///
     /// # Errors
     ///
-    /// Each but [`Memory`](ImageFault::Memory) says that no allocator has this image. The first fault
-    /// that the bytes have, in this order, is returned:
+    /// Each but [`Memory`](ImageFault::Memory) says that no allocator has this image. The first
+    /// fault that the bytes have, in this order, is returned:
     ///
     /// - [`ImageFault::Magic`] if the bytes don't begin as an image does.
     /// - [`ImageFault::Length`] if there are fewer than 40 bytes.
     /// - [`ImageFault::Version`] if the image is of another version of the format.
     /// - [`ImageFault::Limits`] if no allocator can have these limits.
-    /// - [`ImageFault::Counts`] if more slots were made than the limits allow, or more wait than were
-    ///   made.
+    /// - [`ImageFault::Counts`] if more slots were made than the limits allow, or more wait than
+    ///   were made.
     /// - [`ImageFault::Requests`] if no requests reserve that many handles.
-    /// - [`ImageFault::Length`] if there are fewer or more bytes than an image of so many slots has.
+    /// - [`ImageFault::Length`] if there are fewer or more bytes than an image of so many slots
+    ///   has.
     /// - [`ImageFault::Slot`] with the first slot that is invalid.
     /// - [`ImageFault::Position`] with the first position that no slot waits at.
     ///
@@ -264,8 +265,8 @@ impl Entities {
             → first_fault bytes.now ≡ Some fault) }
         ensures faultless { OnOk result (first_fault bytes.now ≡ None) }
 
-        // Memory is asked for only after all before the slots was found faultless, the number of bytes
-        // too, and only if there are slots. What is kept has no more bytes than the slots.
+        // Memory is asked for only after all before the slots was found faultless, the number of
+        // bytes too, and only if there are slots. What is kept has no more bytes than the slots.
         ensures memory { IfErr result (λ fault. fault ≡ ImageFault.Memory
             → header_fault bytes.now ≡ None) }
         ensures slots { IfErr result (λ fault. fault ≡ ImageFault.Memory
@@ -276,8 +277,8 @@ impl Entities {
         ensures exact { (e : Entities) → HasImage e → image e ≡ bytes.now
             → (result ≡ Ok e) ⊎ (result ≡ Err ImageFault.Memory) }
 
-        // Of what was given before the image was written, nothing is given again, whatever calls come
-        // after it is read. Nor is anything given twice by these.
+        // Of what was given before the image was written, nothing is given again, whatever calls
+        // come after it is read. Nor is anything given twice by these.
         ensures given_once { (e : Entities) (given : List Handle) → HasImage e
             → image e ≡ bytes.now → AreSpent e.allocator given → IfOk result (λ r.
             (steps : List Step) → IsRun r.allocator steps → AreSpent
@@ -317,8 +318,8 @@ impl Entities {
         // A flush of what is read leaves no more slots than are allowed.
         ensures within { IfOk result (λ e. slots_after_flush e.allocator ≤ most) }
 
-        // The image of an allocator is read as this allocator, unless memory runs out, exactly if it has
-        // no more slots then.
+        // The image of an allocator is read as this allocator, unless memory runs out, exactly if
+        // it has no more slots then.
         ensures exact { (e : Entities) → HasImage e → image e ≡ bytes.now
             → (result ≡ within most e) ⊎ (result ≡ Err ImageFault.Memory) }
 

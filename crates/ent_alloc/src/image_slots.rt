@@ -171,8 +171,9 @@ fn read_words(bytes: &[u8; SLOT], limits: Limits) -> Option<SlotRecord>
     record_of(limits, generation, kind, number)
 }
 
-/// The slot that these bytes are; `None` if no slot within the limits is so written. Most slots have a
-/// living occupant without a row, so it looks for one first, with one comparison of its two words.
+/// The slot that these bytes are; `None` if no slot within the limits is so written. Most slots
+/// have a living occupant without a row, so it looks for one first, with one comparison of its two
+/// words.
 fn read_slot(bytes: &[u8; SLOT], limits: Limits) -> Option<SlotRecord>
     ensures bytes { IfSome result (λ s. bytes.now ≡ record_bytes s) }
     ensures within { IfSome result (λ s. IsGeneration limits s.generation) }
@@ -226,7 +227,8 @@ fn vacant_positions(alloc: Global, count: u32) -> Result<Vec<u32>, AllocError>
     Ok(positions)
 }
 
-/// The fault of a slot. It is apart, so that the compiler keeps no fault ready while it reads the slots.
+/// The fault of a slot. It is apart, so that the compiler keeps no fault ready while it reads the
+/// slots.
 #[cold]
 #[inline(never)]
 fn slot_fault(index: u32) -> ImageFault

@@ -15,7 +15,8 @@ use std::marker::Model;
 
 /// An allocator and the room that its lists have.
 ///
-/// Contracts see the allocator, and for how many slots there is room, in all and of those that wait.
+/// Contracts see the allocator, and for how many slots there is room, in all and of those that
+/// wait.
 #[derive(Drop)]
 pub struct Prepared {
     limits: Limits,

@@ -21,8 +21,8 @@ pub(crate) fn are_of<J: BlockNumbering>(number: u64, reservers: &[BlockReserver<
     true
 }
 
-/// How many blocks are held by nothing here. `None` if what is here doesn't hold some of the blocks,
-/// in their order.
+/// How many blocks are held by nothing here. `None` if what is here doesn't hold some of the
+/// blocks, in their order.
 pub(crate) fn missing<H: Held>(parts: &[Part], held: &[H]) -> Option<usize>
     ensures among { IsSome result ↔ IsTrue (are_among parts.now (map H.block held.now)) }
     ensures count { IfSome result (λ n. length held.now + n ≡ length parts.now) }
@@ -43,8 +43,8 @@ pub(crate) fn missing<H: Held>(parts: &[Part], held: &[H]) -> Option<usize>
     }
 }
 
-/// Appends all blocks with what was used of each: all of it, if nothing here holds it. There is room
-/// for them.
+/// Appends all blocks with what was used of each: all of it, if nothing here holds it. There is
+/// room for them.
 pub(crate) fn account<H: Held>(parts: &[Part], held: &[H], all: &mut Vec<Part>)
     requires none { all.old.items ≡ [] }
     requires room { length parts.now ≤ vec_capacity all.old }

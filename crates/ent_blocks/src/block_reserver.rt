@@ -109,8 +109,8 @@ impl<J: BlockNumbering> BlockReserver<J> {
         self.part.left()
     }
 
-    /// How many handles would have been enough: those that are used, and the largest of the requests
-    /// that were refused since too few were left. At most 4,294,967,295.
+    /// How many handles would have been enough: those that are used, and the largest of the
+    /// requests that were refused since too few were left. At most 4,294,967,295.
     /// [`BlockSize::adapt`](crate::BlockSize::adapt) takes it.
     ///
     /// ```
@@ -168,8 +168,8 @@ impl<J: BlockNumbering> Held for BlockReserver<J> {
 
 /// A reserver of the same block, which remembers as much. The two give the same handles, so one of
 /// them has to be dropped unused, and no contract sees to that. It is for `ent_runner` alone: a
-/// frame owns the reservers of its systems, makes another one for a job, which is done once, and drops
-/// its own.
+/// frame owns the reservers of its systems, makes another one for a job, which is done once, and
+/// drops its own.
 pub fn again<J: BlockNumbering>(reserver: &BlockReserver<J>) -> BlockReserver<J>
     ensures { result ≡ reserver.now }
 {

@@ -513,8 +513,8 @@ impl<J: BlockNumbering> Blocks<J> {
     }
 }
 
-/// [`Blocks::reserve_many`] without a list: it takes no memory, and each handle is looked up when it is
-/// yielded.
+/// [`Blocks::reserve_many`] without a list: it takes no memory, and each handle is looked up when
+/// it is yielded.
 ///
 /// # Errors
 ///

@@ -53,8 +53,8 @@ impl<J: BlockNumbering> Model for Deal<J> {
 ///
 /// # Errors
 ///
-/// [`HandedBack`] has the allocator as it was, and [`DealError::NeedsFlush`] or [`DealError::Memory`].
-/// No sizes take no memory.
+/// [`HandedBack`] has the allocator as it was, and [`DealError::NeedsFlush`] or
+/// [`DealError::Memory`]. No sizes take no memory.
 pub fn open_in_blocks<J: BlockNumbering>(
     alloc: Global,
     entities: Entities,
@@ -89,8 +89,8 @@ pub fn open_in_blocks<J: BlockNumbering>(
     })
 }
 
-/// A number stands for nothing by itself. A function that is proved for every `J` may be called with
-/// `Brand` for it, and the proof of that call picks what the numbers stand for.
+/// A number stands for nothing by itself. A function that is proved for every `J` may be called
+/// with `Brand` for it, and the proof of that call picks what the numbers stand for.
 impl BlockNumbering for std::marker::Brand {
     ghost use Rattle.ent_blocks.specs.Blocks.{no_blocks};
 

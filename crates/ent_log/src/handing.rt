@@ -6,8 +6,8 @@ use crate::entry::Entry;
 use crate::rest::Rest;
 use ent_alloc::Entities;
 
-/// Calls `run` at the entry in front, if there is one, and then at the rest in turn, until it fails.
-/// The entry that it handed back then is in front.
+/// Calls `run` at the entry in front, if there is one, and then at the rest in turn, until it
+/// fails. The entry that it handed back then is in front.
 pub(crate) fn hand_on<C: Drop, E: Drop, F>(
     front: &mut Option<Entry<C>>,
     rest: &mut Rest<C>,

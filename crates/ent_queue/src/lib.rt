@@ -1,4 +1,5 @@
-//! Queues of commands that systems write and a world applies, and what systems fill them with, or logs.
+//! Queues of commands that systems write and a world applies, and what systems fill them with, or
+//! logs.
 #![tactic(auto, using(crate::proofs::Laws::laws))]
 
 mod bundle;

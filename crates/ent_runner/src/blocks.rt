@@ -1,5 +1,5 @@
-//! Logs and queues that systems fill side by side, each from a block of handles of its own: so which
-//! handles a system gets depends on no other system, and on no thread.
+//! Logs and queues that systems fill side by side, each from a block of handles of its own: so
+//! which handles a system gets depends on no other system, and on no thread.
 
 mod filling;
 mod frame;

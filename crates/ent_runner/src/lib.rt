@@ -1,5 +1,5 @@
-//! Systems run on workers. Each fills an output of its own, a queue of a world or a log, with handles of
-//! one shared allocator or of a block of its own.
+//! Systems run on workers. Each fills an output of its own, a queue of a world or a log, with
+//! handles of one shared allocator or of a block of its own.
 #![tactic(auto)]
 
 mod blocks;

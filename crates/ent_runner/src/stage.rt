@@ -51,8 +51,8 @@ pub(crate) struct BlockStage<'b, 'r, 's, J: BlockNumbering, T> {
     pub(crate) systems: &'s T,
 }
 
-/// Nothing is lent to them: each has its own reserver. So there is nothing that workers share but the
-/// claims.
+/// Nothing is lent to them: each has its own reserver. So there is nothing that workers share but
+/// the claims.
 impl<J: BlockNumbering, O: Output, T: Systems<O, Blocks<J>>> Jobs<(O, BlockReserver<J>), ()>
     for BlockStage<'_, '_, '_, J, T> {
     ghost count = { λ stage. T.count stage.systems.now };

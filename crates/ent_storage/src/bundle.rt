@@ -11,8 +11,8 @@ use smallvec::SmallVec;
 use std::alloc::Global;
 use std::marker::Model;
 
-/// Components and their values, by strictly rising number: what an entity is given. Contracts see the
-/// list of them.
+/// Components and their values, by strictly rising number: what an entity is given. Contracts see
+/// the list of them.
 ///
 /// Up to `INLINE` components lie in the bundle itself, and take no memory.
 ///
@@ -69,8 +69,8 @@ impl<const INLINE: usize> Bundle<INLINE> {
         })
     }
 
-    /// A bundle of these components. The list may be in any order. If a component is in it twice, its
-    /// last value counts.
+    /// A bundle of these components. The list may be in any order. If a component is in it twice,
+    /// its last value counts.
     ///
     /// # Errors
     ///

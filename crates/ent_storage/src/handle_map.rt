@@ -95,8 +95,9 @@ use std::mem;
 /// A value takes 4 bytes more than its size, for its generation, and what alignment adds. A slot
 /// has 8 bytes for values of up to 4 bytes, and 16 bytes for values of 8.
 ///
-/// Contracts see a finite map from handles to values (`values`), how many slots there are (`slots`),
-/// for how many slots there is room (`room`), and for how many slots there may be values (`limit`).
+/// Contracts see a finite map from handles to values (`values`), how many slots there are
+/// (`slots`), for how many slots there is room (`room`), and for how many slots there may be values
+/// (`limit`).
 #[derive(Drop)]
 pub struct HandleMap<T> {
     pub(crate) slots: Vec<Slot<T>>,
@@ -150,8 +151,8 @@ impl<T> HandleMap<T> {
     /// A map without values, which refuses each handle whose slot is at or above this limit. It
     /// takes no memory.
     ///
-    /// [`Entities::total`](forgeni::Entities::total) is a limit that fits an allocator as long as it
-    /// makes no new slots. [`set_limit`](Self::set_limit) changes the limit.
+    /// [`Entities::total`](forgeni::Entities::total) is a limit that fits an allocator as long as
+    /// it makes no new slots. [`set_limit`](Self::set_limit) changes the limit.
     ///
     /// ```
     /// use forgeni::{HandleMap, InsertError};
@@ -207,8 +208,8 @@ impl<T> HandleMap<T> {
         })
     }
 
-    /// For how many slots the map may have values, from slot 0 on: 4,294,967,295, which is no limit,
-    /// or the limit that was set.
+    /// For how many slots the map may have values, from slot 0 on: 4,294,967,295, which is no
+    /// limit, or the limit that was set.
     ///
     /// ```
     /// use forgeni::HandleMap;
@@ -516,8 +517,8 @@ impl<T> HandleMap<T> {
 impl<T: Drop> HandleMap<T> {
     ghost use Rattle.ent_storage.specs.Entry.{entry_handle, entry_map, entry_ref, entry_value};
 
-    /// Gives the handle a value, and returns the one that it had. If an earlier occupant of the slot
-    /// has one, that is dropped.
+    /// Gives the handle a value, and returns the one that it had. If an earlier occupant of the
+    /// slot has one, that is dropped.
     ///
     /// If there is room for the slot ([`capacity`](Self::capacity)), it takes no memory, and
     /// constant time. If not, it takes memory and time for all slots up to that of the handle.
@@ -666,8 +667,8 @@ impl<T: Drop> HandleMap<T> {
     ///
     /// # Panics
     ///
-    /// A panic of `keep` is handed on. The map then has the values that were kept, those that `keep`
-    /// wasn't called on, and the one on which it panicked, as far as `keep` had changed it.
+    /// A panic of `keep` is handed on. The map then has the values that were kept, those that
+    /// `keep` wasn't called on, and the one on which it panicked, as far as `keep` had changed it.
     pub fn retain<F: FnMut(Handle, &mut T) -> bool>(&mut self, keep: F)
         requires { F.IsAlwaysCallable keep }
         ensures retained { Retains F.step keep (map.entries self.old.values)
@@ -723,8 +724,8 @@ impl<T: Drop> HandleMap<T> {
 }
 
 impl<T: Clone> HandleMap<T> {
-    /// A map with a clone of each value, and with the same slots and the same limit. Without slots it
-    /// takes no memory.
+    /// A map with a clone of each value, and with the same slots and the same limit. Without slots
+    /// it takes no memory.
     ///
     /// ```
     /// use forgeni::{Handle, HandleMap};
@@ -758,8 +759,8 @@ impl<T: Clone> HandleMap<T> {
         })
     }
 
-    /// Drops all values, and gives this map a clone of each value of the source, and the slots and the
-    /// limit of the source.
+    /// Drops all values, and gives this map a clone of each value of the source, and the slots and
+    /// the limit of the source.
     ///
     /// If there is room for the slots of the source ([`capacity`](Self::capacity)), it takes memory
     /// only for the clones. So a map into which another one is cloned again and again takes memory
@@ -787,8 +788,8 @@ impl<T: Clone> HandleMap<T> {
     ///
     /// # Panics
     ///
-    /// A panic of a clone is handed on. If there was room for the slots of the source, no values are
-    /// left. If there wasn't, nothing has changed.
+    /// A panic of a clone is handed on. If there was room for the slots of the source, no values
+    /// are left. If there wasn't, nothing has changed.
     pub fn try_clone_from(&mut self, alloc: Global, source: &Self) -> Result<(), Memory>
         ensures keys { OnOk result (map.keys self.new.values ≡ map.keys source.now.values) }
         ensures clones { OnOk result
@@ -810,8 +811,8 @@ impl<T: Clone> HandleMap<T> {
             *self = source.try_clone(alloc)?;
             return Ok(());
         }
-        // While the list is out of the map, a panic of a value's `drop` or `clone` leaves a map without
-        // values.
+        // While the list is out of the map, a panic of a value's `drop` or `clone` leaves a map
+        // without values.
         self.len = 0;
         let mut slots = mem::replace(&mut self.slots, Vec::new(alloc));
         slots.clear();

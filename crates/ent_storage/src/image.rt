@@ -226,7 +226,8 @@ impl Storage {
         }
     }
 
-    /// Gives the entity at this place the value of a component that it doesn't have, if there is one.
+    /// Gives the entity at this place the value of a component that it doesn't have, if there is
+    /// one.
     fn give(
         &mut self,
         place: usize,

@@ -100,8 +100,8 @@ impl Storage {
         Some(self.items_at(place, handle))
     }
 
-    /// The place of the entity in the vector of entities, if it is there. It stays the same until an
-    /// entity is taken out.
+    /// The place of the entity in the vector of entities, if it is there. It stays the same until
+    /// an entity is taken out.
     ///
     /// ```
     /// use forgeni::{Birth, Storage};

@@ -42,8 +42,8 @@ use std::marker::Model;
 /// that has retired few slots, and otherwise logarithmic time. The values of each component lie in
 /// a vector of their own.
 ///
-/// Contracts see a finite map from handles to births and components (`entities`), the handle at each
-/// place of the vector of entities (`places`), and for how many more entities there is room
+/// Contracts see a finite map from handles to births and components (`entities`), the handle at
+/// each place of the vector of entities (`places`), and for how many more entities there is room
 /// (`spare`).
 #[derive(Drop)]
 pub struct Storage {
@@ -137,8 +137,8 @@ impl Storage {
     /// Takes over the entities of another storage, each at its place, as
     /// [`try_clone`](Self::try_clone) copies them. What this one had before is gone.
     ///
-    /// It uses the room that this one has, and never gives it back. So a storage that another one is
-    /// cloned into again and again takes memory only as that one grows.
+    /// It uses the room that this one has, and never gives it back. So a storage that another one
+    /// is cloned into again and again takes memory only as that one grows.
     ///
     /// ```
     /// use forgeni::{Birth, ComponentId, Handle, Storage};
@@ -282,8 +282,8 @@ impl Storage {
     ///
     /// # Errors
     ///
-    /// Out of memory, or there would be more than 4,294,967,296 entities. The entities are as before,
-    /// and `spare` is below `additional`. It may have grown.
+    /// Out of memory, or there would be more than 4,294,967,296 entities. The entities are as
+    /// before, and `spare` is below `additional`. It may have grown.
     pub fn reserve(&mut self, additional: usize) -> Result<(), Memory>
         ensures entities { self.new.entities ≡ self.old.entities }
         ensures ok { OnOk result (additional ≤ self.new.spare) }
@@ -371,8 +371,8 @@ impl Storage {
     /// Nothing has changed.
     ///
     /// - `Present`: the entity is there already. This is tested first.
-    /// - `Memory`: `spare` is 0, and memory ran out, or there are 4,294,967,296 entities, which is the
-    ///   most.
+    /// - `Memory`: `spare` is 0, and memory ran out, or there are 4,294,967,296 entities, which is
+    ///   the most.
     #[inline(always)]
     pub fn born(&mut self, handle: Handle, birth: Birth) -> Result<(), StorageFault>
         ensures ok { OnOk result
@@ -395,8 +395,8 @@ impl Storage {
         self.born_within(handle, birth)
     }
 
-    /// Does what [`Storage::born`] does, where there is room: a caller that adds many tests that once
-    /// for all of them. It takes no memory, and `spare` is then less by 1.
+    /// Does what [`Storage::born`] does, where there is room: a caller that adds many tests that
+    /// once for all of them. It takes no memory, and `spare` is then less by 1.
     ///
     /// # Errors
     ///
@@ -498,8 +498,8 @@ impl Storage {
         }
     }
 
-    /// Sets each of the components, and leaves the entity's others as they are. The list may be in any
-    /// order. If a component is in it twice, its last value counts.
+    /// Sets each of the components, and leaves the entity's others as they are. The list may be in
+    /// any order. If a component is in it twice, its last value counts.
     ///
     /// It takes memory only for components that the entity does not have yet.
     ///

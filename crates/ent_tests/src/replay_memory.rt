@@ -13,8 +13,8 @@ const BULK: [Event; 4] = [
     Event::Flush,
 ];
 
-// Passes whichever single allocation is refused: a second run goes on after the events that are done.
-// `rt try --test --fail-alloc N -- out_of_memory` refuses the Nth.
+// Passes whichever single allocation is refused: a second run goes on after the events that are
+// done. `rt try --test --fail-alloc N -- out_of_memory` refuses the Nth.
 #[test]
 fn out_of_memory_cuts_a_run(rt: HostRuntime) -> Result<(), Fail> {
     assert!(rt; is_run_at_last(rt.alloc())?);

@@ -6,8 +6,8 @@ use std::alloc::Global;
 use std::process::Abort;
 use std::test::Fail;
 
-// The generation limit, a schedule over 3 slots, and its lines. They have each outcome and fault at least
-// once, except `Quota`: it takes hundreds of calls, and the cases of the program have it.
+// The generation limit, a schedule over 3 slots, and its lines. They have each outcome and fault at
+// least once, except `Quota`: it takes hundreds of calls, and the cases of the program have it.
 const SCHEDULES: &[(u32, &[u8], &[u8])] = &[
     // It begins with the events of a call that was never begun.
     (

@@ -5,7 +5,8 @@ ghost use Rattle.std.specs.FinMap as map;
 use crate::world::World;
 use ent_handle::Memory;
 
-/// Another world in the same state, with this number. So the queues of one are refused by the other.
+/// Another world in the same state, with this number. So the queues of one are refused by the
+/// other.
 ///
 /// # Errors
 ///

@@ -16,8 +16,8 @@ use ent_alloc::Entities;
 use ent_handle::HandedBack;
 
 impl<J: Numbering> Shared<J> {
-    /// Ends the phase with all its reservers: those that are returned, and these. The allocator is as
-    /// if their reservations had been made one by one, in the order of their atomic steps, and
+    /// Ends the phase with all its reservers: those that are returned, and these. The allocator is
+    /// as if their reservations had been made one by one, in the order of their atomic steps, and
     /// [`flush`](Entities::flush) brings to life what they were given. It takes no memory.
     ///
     /// ```
@@ -41,8 +41,9 @@ impl<J: Numbering> Shared<J> {
     /// # Errors
     ///
     /// [`HandedBack`] has the `Shared`, which goes on, the reservers that are handed back, and the
-    /// first of these errors that holds: [`CloseError::OtherPhase`] and [`CloseError::Missing`], with all reservers
-    /// handed back; [`CloseError::InUse`], and then those that came are returned.
+    /// first of these errors that holds: [`CloseError::OtherPhase`] and [`CloseError::Missing`],
+    /// with all reservers handed back; [`CloseError::InUse`], and then those that came are
+    /// returned.
     pub fn close(
         mut self,
         reservers: Vec<Reserver<J>>,
@@ -105,10 +106,10 @@ impl<J: Numbering> Shared<J> {
     /// # Errors
     ///
     /// [`HandedBack`] has the `Shared`, which goes on, the reservers that are handed back, and the
-    /// first of these errors that holds: [`CloseError::OtherPhase`], with all reservers handed back;
-    /// [`CloseError::InUse`], and then those that came are returned. As long as a reserver that
-    /// wasn't handed in exists, it is `InUse`. One that was given to [`core::mem::forget`] exists
-    /// for good.
+    /// first of these errors that holds: [`CloseError::OtherPhase`], with all reservers handed
+    /// back; [`CloseError::InUse`], and then those that came are returned. As long as a reserver
+    /// that wasn't handed in exists, it is `InUse`. One that was given to [`core::mem::forget`]
+    /// exists for good.
     pub fn close_lost(
         mut self,
         reservers: Vec<Reserver<J>>,

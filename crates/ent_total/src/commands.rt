@@ -110,8 +110,8 @@ impl<J: Numbering> Commands<J> {
     ///
     /// # Errors
     ///
-    /// `Memory`, and then nothing has changed. With `Space` and `Quota` the queue keeps the refusal,
-    /// which is a fault of the sync point's report, and the system may go on.
+    /// `Memory`, and then nothing has changed. With `Space` and `Quota` the queue keeps the
+    /// refusal, which is a fault of the sync point's report, and the system may go on.
     ///
     /// ```
     /// use forgeni::{ComponentId, World};
@@ -286,8 +286,8 @@ impl<J: Numbering> Commands<J> {
         issued
     }
 
-    /// Takes the entity out of the world. If it isn't alive when the command takes effect, that is a
-    /// fault of the sync point's report.
+    /// Takes the entity out of the world. If it isn't alive when the command takes effect, that is
+    /// a fault of the sync point's report.
     ///
     /// ```
     /// use forgeni::{FaultKind, World};

@@ -23,8 +23,8 @@ pub struct WorldDeal<J: BlockNumbering> {
 ///
 /// # Errors
 ///
-/// [`HandedBack`] has the world as it was, and [`DealError::NeedsFlush`] or [`DealError::Memory`]. No
-/// sizes take no memory.
+/// [`HandedBack`] has the world as it was, and [`DealError::NeedsFlush`] or [`DealError::Memory`].
+/// No sizes take no memory.
 pub fn open_in_blocks<J: BlockNumbering>(
     world: World,
     sizes: &[u32],

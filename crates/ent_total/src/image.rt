@@ -101,8 +101,8 @@ pub fn read_world(alloc: Global, bytes: &[u8], number: u64) -> Result<World, Wor
     of_image(alloc, bytes, number)
 }
 
-/// The world whose image these bytes are, all of them, with this number, if it has at most `most` slots
-/// after its next flush.
+/// The world whose image these bytes are, all of them, with this number, if it has at most `most`
+/// slots after its next flush.
 ///
 /// # Errors
 ///

@@ -64,7 +64,8 @@ pub fn share<J: Numbering>(
     ensures start { IfOk result (λ o. o.shared.start ≡ entities.allocator) }
     ensures rows { IfOk result (λ o. o.shared.rows ≡ entities.rows) }
     ensures count { IfOk result (λ o. o.shared.count ≡ count) }
-    ensures may_return { IfOk result (λ o. records_of o.returned ≡ opened_records entities.allocator 0 count) }
+    ensures may_return { IfOk result (λ o.
+        records_of o.returned ≡ opened_records entities.allocator 0 count) }
     ensures needs_flush { IsErrAnd result (λ h. h.error ≡ NeedsFlush)
         ↔ (0 < entities.allocator.asked) }
     ensures no_count { IsErrAnd result (λ h. h.error ≡ Count)
@@ -99,13 +100,13 @@ pub fn share<J: Numbering>(
 }
 
 impl<J: Numbering> Opening<J> {
-    /// The phase under this number, which no other phase has, and all its reservers, in the order of
-    /// their numbers. It takes no memory.
+    /// The phase under this number, which no other phase has, and all its reservers, in the order
+    /// of their numbers. It takes no memory.
     ///
     /// # Errors
     ///
-    /// The same, with some reservers returned to the phase: each owns a part of the allocator, and no
-    /// more owners could be counted. That takes 2^62 of them.
+    /// The same, with some reservers returned to the phase: each owns a part of the allocator, and
+    /// no more owners could be counted. That takes 2^62 of them.
     pub fn numbered(
         self,
         number: u64,

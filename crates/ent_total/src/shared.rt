@@ -17,8 +17,8 @@ use std::alloc::Global;
 use std::marker::{Model, PhantomData};
 use std::sync::Arc;
 
-/// An allocator while it is shared. [`Entities::share`](forgeni::Entities::share) makes it, with its
-/// reservers.
+/// An allocator while it is shared. [`Entities::share`](forgeni::Entities::share) makes it, with
+/// its reservers.
 ///
 /// The allocator is inside, so nothing but reservations happens until [`close`](Self::close) gives
 /// it back. If the `Shared` is dropped, the allocator goes with the last of the reservers.
@@ -159,9 +159,9 @@ impl<J: Numbering> Shared<J> {
         self.shared.is_alive(handle)
     }
 
-    /// The row that was set with the entity ([`try_set_row`](forgeni::Entities::try_set_row)), when the
-    /// phase was opened. `None` if the entity was not alive then, or had no row. Any thread may ask,
-    /// and it takes constant time.
+    /// The row that was set with the entity ([`try_set_row`](forgeni::Entities::try_set_row)), when
+    /// the phase was opened. `None` if the entity was not alive then, or had no row. Any thread may
+    /// ask, and it takes constant time.
     ///
     /// ```
     /// use forgeni::Entities;
@@ -265,7 +265,8 @@ impl<J: Numbering> Shared<J> {
     ///
     /// # Errors
     ///
-    /// `OutOfMemory` if the owners of the phase can't be counted any more. Then nothing has changed.
+    /// `OutOfMemory` if the owners of the phase can't be counted any more. Then nothing has
+    /// changed.
     pub fn reserver(&mut self) -> Result<Option<Reserver<J>>, Memory>
         ensures given { IfOk result (λ found. IfSome found (λ r.
             (r.number ≡ self.old.number) × (r.shared ≡ self.old.shared)

@@ -42,8 +42,8 @@ impl Applying {
         }
     }
 
-    /// Reads the components of a bundle, instead of what was read before. A bundle of one component,
-    /// the most frequent one, needs no list.
+    /// Reads the components of a bundle, instead of what was read before. A bundle of one
+    /// component, the most frequent one, needs no list.
     #[inline(always)]
     fn read(&mut self, bundle: &BundleRef<'_>) -> Result<(), Memory>
         ensures faults { self.new.faults.items ≡ self.old.faults.items }

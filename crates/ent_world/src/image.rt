@@ -93,8 +93,8 @@ fn read_header(bytes: &[u8]) -> Result<(u64, &[u8], &[u8]), WorldImageFault>
     Ok((phase, part, rest))
 }
 
-/// Appends the entities of these handles, which have rows. There is room for them and for `extra` more
-/// bytes.
+/// Appends the entities of these handles, which have rows. There is room for them and for `extra`
+/// more bytes.
 fn write_entities(
     entities: &Entities,
     storage: &Storage,
@@ -218,8 +218,8 @@ impl World {
     /// same world anew, with its limits, entities, births, components, waiting slots and requests.
     ///
     /// The image tells no more than that. Two worlds that are the same to every call have the same
-    /// image, whatever came before. It grows with the slots that were made and the entities that are
-    /// alive, not with the calls. There is room for `extra` more bytes then.
+    /// image, whatever came before. It grows with the slots that were made and the entities that
+    /// are alive, not with the calls. There is room for `extra` more bytes then.
     ///
     /// # Errors
     ///
@@ -265,8 +265,9 @@ impl World {
     ///
     /// # Errors
     ///
-    /// Each but [`Memory`](WorldImageFault::Memory) says that no world has this image, by the first fault
-    /// that the bytes have. `Memory` comes if there is no memory for the slots, whatever they are.
+    /// Each but [`Memory`](WorldImageFault::Memory) says that no world has this image, by the first
+    /// fault that the bytes have. `Memory` comes if there is no memory for the slots, whatever they
+    /// are.
     pub fn read_image(alloc: Global, bytes: &[u8]) -> Result<Self, WorldImageFault>
         ensures found { IfOk result (λ w. image w ≡ bytes.now) }
         ensures has_image { IfOk result HasImage }
@@ -281,14 +282,14 @@ impl World {
         ensures fault { IfErr result (λ fault. fault ≢ WorldImageFault.Memory
             → HasFault bytes.now fault) }
 
-        // Memory is asked for only after the allocator's part was found faultless up to its slots, and
-        // only for slots. There are no more slots and entities than the bytes have.
+        // Memory is asked for only after the allocator's part was found faultless up to its slots,
+        // and only for slots. There are no more slots and entities than the bytes have.
         ensures memory { IfErr result (λ fault. fault ≡ WorldImageFault.Memory
             → MayTakeMemory bytes.now) }
         ensures bound { IfOk result (λ w. least w ≤ length bytes.now) }
 
-        // Of what was given before the image was written, nothing is given again, whatever calls come
-        // after it is read. Nor is anything given twice by these.
+        // Of what was given before the image was written, nothing is given again, whatever calls
+        // come after it is read. Nor is anything given twice by these.
         ensures given_once { (w : WorldValue) (given : List HandleValue) → HasImage w
             → image w ≡ bytes.now → AreSpent w.allocator given → IfOk result (λ r.
             (steps : List Step) → IsRun r.allocator steps → AreSpent
@@ -297,13 +298,13 @@ impl World {
         World::of_image(alloc, bytes)
     }
 
-    /// The world whose image these bytes are, if it has at most `most` slots after its next flush. So the
-    /// flush takes no more memory than so many slots and handles do.
+    /// The world whose image these bytes are, if it has at most `most` slots after its next flush.
+    /// So the flush takes no more memory than so many slots and handles do.
     ///
     /// # Errors
     ///
-    /// Those of [`read_image`](World::read_image), and then [`Bound`](WorldImageFault::Bound) if there
-    /// would be more slots.
+    /// Those of [`read_image`](World::read_image), and then [`Bound`](WorldImageFault::Bound) if
+    /// there would be more slots.
     pub fn read_image_within(
         alloc: Global,
         bytes: &[u8],
@@ -315,8 +316,9 @@ impl World {
         // A flush of what is read leaves no more slots than are allowed.
         ensures within { IfOk result (λ w. slots_after_flush w.allocator ≤ most) }
 
-        // The image of a world is read as this world, unless memory runs out, exactly if it has no more
-        // slots then. All else is refused for a fault of the bytes, or for the bound if they have none.
+        // The image of a world is read as this world, unless memory runs out, exactly if it has no
+        // more slots then. All else is refused for a fault of the bytes, or for the bound if they
+        // have none.
         ensures exact { (w : WorldValue) → HasImage w → image w ≡ bytes.now
             → (result ≡ within most w.allocator w) ⊎ (result ≡ Err WorldImageFault.Memory) }
         ensures fault { IfErr result (λ fault. fault ≢ WorldImageFault.Memory

@@ -20,8 +20,8 @@ use ent_storage::Storage;
 use std::alloc::Global;
 use std::marker::Model;
 
-/// A world of which contracts also see the rows: the numbers that its allocator keeps with its living
-/// handles. A phase in blocks has them too, so they are in what its number stands for.
+/// A world of which contracts also see the rows: the numbers that its allocator keeps with its
+/// living handles. A phase in blocks has them too, so they are in what its number stands for.
 #[derive(Drop)]
 pub struct PlacedWorld {
     entities: Entities,
@@ -75,8 +75,8 @@ impl<J: BlockNumbering> Model for WorldDeal<J> {
     ghost invariant = { λ d. IsKeptInBlocks d.deal d.phase d.storage };
 }
 
-/// A world whose allocator is dealt in blocks: its callers reserve, each from a block of its own, and
-/// read the rest of it.
+/// A world whose allocator is dealt in blocks: its callers reserve, each from a block of its own,
+/// and read the rest of it.
 #[derive(Drop)]
 pub struct WorldInBlocks<J: BlockNumbering> {
     blocks: Blocks<J>,
@@ -120,12 +120,13 @@ impl World {
         }
     }
 
-    /// Deals the front of the pool in blocks of these sizes, as [`PlacedWorld::open_in_blocks`] does.
+    /// Deals the front of the pool in blocks of these sizes, as [`PlacedWorld::open_in_blocks`]
+    /// does.
     ///
     /// # Errors
     ///
-    /// The world as it was, and [`DealError::NeedsFlush`] or [`DealError::Memory`]. No sizes take no
-    /// memory.
+    /// The world as it was, and [`DealError::NeedsFlush`] or [`DealError::Memory`]. No sizes take
+    /// no memory.
     pub fn open_in_blocks<J: BlockNumbering>(
         self,
         sizes: &[u32],
@@ -144,14 +145,14 @@ impl World {
 }
 
 impl PlacedWorld {
-    /// Deals the front of the pool in blocks of these sizes, one after the other: a block is smaller
-    /// where the pool ends. It makes room for an entity of each handle that is dealt, which stays when
-    /// the world is closed again.
+    /// Deals the front of the pool in blocks of these sizes, one after the other: a block is
+    /// smaller where the pool ends. It makes room for an entity of each handle that is dealt, which
+    /// stays when the world is closed again.
     ///
     /// # Errors
     ///
-    /// The world as it was, and [`DealError::NeedsFlush`] or [`DealError::Memory`]. No sizes take no
-    /// memory.
+    /// The world as it was, and [`DealError::NeedsFlush`] or [`DealError::Memory`]. No sizes take
+    /// no memory.
     pub fn open_in_blocks<J: BlockNumbering>(
         self,
         sizes: &[u32],
@@ -260,8 +261,8 @@ impl<J: BlockNumbering> WorldInBlocks<J> {
         View::new(&self.storage, self.phase)
     }
 
-    /// Ends the phase with all its reservers, as [`Blocks::close`] does. Nothing of the world but its
-    /// allocator changes.
+    /// Ends the phase with all its reservers, as [`Blocks::close`] does. Nothing of the world but
+    /// its allocator changes.
     ///
     /// # Errors
     ///
@@ -334,8 +335,8 @@ impl<J: BlockNumbering> WorldInBlocks<J> {
         }
     }
 
-    /// Ends the phase although some reservers are lost, as [`Blocks::close_lost`] does: what is left of
-    /// a lost one's block counts as used. Nothing of the world but its allocator changes.
+    /// Ends the phase although some reservers are lost, as [`Blocks::close_lost`] does: what is
+    /// left of a lost one's block counts as used. Nothing of the world but its allocator changes.
     ///
     /// # Errors
     ///

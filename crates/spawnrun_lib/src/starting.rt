@@ -25,8 +25,8 @@ use std::time::Clock;
 /// before it, with the file as its input. If there is no such file, if it is a folder, or if it
 /// can't be opened, the status is 4, and a line on the error stream says so.
 ///
-/// If the output is a pipe whose reader has left, the status is 4, and nothing is written to the error
-/// stream.
+/// If the output is a pipe whose reader has left, the status is 4, and nothing is written to the
+/// error stream.
 pub fn start<R, I: Read + Drop, O: Write + Drop, E: Write + Drop, T: Write + Drop>(
     rt: &R,
     input: I,

@@ -1,4 +1,5 @@
-"""Runs `tracecheck` by both builds on a trace that is made while it runs, and prints the row of the table, or stops at a wrong verdict.
+"""Runs `tracecheck` by both builds on a trace that is made while it runs, and prints the row of the
+table, or stops at a wrong verdict.
 
 usage: measure.py PROGRAM BY_CARGO SHAPE LINES
 
@@ -23,7 +24,10 @@ def threads(lines):
     """Each thread was given every fourth of the new slots."""
     for first in range(0, lines, RUN):
         for caller in range(CALLERS):
-            yield "".join(f"reserve {caller} 1 => {at}v1\n" for at in range(first + caller, first + RUN, CALLERS))
+            yield "".join(
+                f"reserve {caller} 1 => {at}v1\n"
+                for at in range(first + caller, first + RUN, CALLERS)
+            )
         yield f"flush => born ({RUN})\n"
 
 
@@ -33,7 +37,9 @@ def short(lines):
         slots = [f"{at}v{turn}" for at in range(FEW)]
         given = slots if turn == 1 else slots[::-1]
         reserves = [f"reserve {at % CALLERS} 1 => {one}\n" for at, one in enumerate(given)]
-        yield "".join([*reserves, f"flush => born {' '.join(slots)}\n", *(f"free {one}\n" for one in slots)])
+        yield "".join(
+            [*reserves, f"flush => born {' '.join(slots)}\n", *(f"free {one}\n" for one in slots)]
+        )
 
 
 def watch(process, peak):
@@ -47,7 +53,8 @@ def watch(process, peak):
 
 
 def run(program, parts):
-    """The seconds of the processor that a run takes, the most memory that it holds, in MiB, and how many lines and bytes it is given."""
+    """The seconds of the processor that a run takes, the most memory that it holds, in MiB, and how
+    many lines and bytes it is given."""
     child = subprocess.Popen([program], stdin=subprocess.PIPE, stdout=subprocess.PIPE)
     peak, count, size = [0], 0, 0
     watched = Thread(target=watch, args=(child.pid, peak))

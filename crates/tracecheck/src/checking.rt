@@ -44,8 +44,8 @@ pub struct Checking {
 }
 
 impl Checking {
-    /// One that has taken no line. The trace begins in the state of this allocator, with its requests.
-    /// It takes no memory.
+    /// One that has taken no line. The trace begins in the state of this allocator, with its
+    /// requests. It takes no memory.
     pub fn new(alloc: Global, entities: Entities) -> Self
         ensures { HasTaken entities.allocator [] result }
     {

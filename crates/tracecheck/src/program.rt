@@ -36,8 +36,8 @@ use std::{env, io};
 /// | 3 | Memory ran out. Nothing was written. | `memory` |
 /// | 4 | A call of the image, the input or the output failed. | `device` |
 ///
-/// If `tells`, it writes to the terminal how many lines were read, after each million. A failure of the
-/// error stream or of the terminal changes no status.
+/// If `tells`, it writes to the terminal how many lines were read, after each million. A failure of
+/// the error stream or of the terminal changes no status.
 pub fn execute<S: AsStr, M: Source, I: Source, O: Sink, E: Sink, T: Sink>(
     alloc: Global,
     words: &[S],
@@ -162,8 +162,8 @@ fn execute_on<R: Files + AllocGlobal, I: Source, O: Sink, E: Sink, T: Sink>(
 /// can't be opened, the status is 4, and a line on the error stream says so. The same holds for the
 /// file of an image.
 ///
-/// If the output is a pipe whose reader has left, the status is 4, and nothing is written to the error
-/// stream.
+/// If the output is a pipe whose reader has left, the status is 4, and nothing is written to the
+/// error stream.
 pub fn start<R, I: Read + Drop, O: Write + Drop, E: Write + Drop, T: Write + Drop>(
     rt: &R,
     input: I,

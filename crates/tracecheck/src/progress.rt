@@ -9,8 +9,8 @@ use itoa::Buffer;
 // The lines between two reports.
 const STEP: u64 = 1_000_000;
 
-/// After each million lines, writes to the terminal how many were read, if `is_wanted`. Returns how many
-/// millions were written.
+/// After each million lines, writes to the terminal how many were read, if `is_wanted`. Returns how
+/// many millions were written.
 pub fn tell<T: Sink>(terminal: &mut T, is_wanted: bool, told: u64, lines: u64) -> u64
     ensures unwanted { is_wanted ≡ false → terminal.new ≡ terminal.old }
     ensures early { lines / 1000000 ≤ told → terminal.new ≡ terminal.old }

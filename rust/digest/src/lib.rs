@@ -1,5 +1,6 @@
-//! One run of each part of the package, as lines of text ([`text`]) and as images ([`images`]). Both are the same on every
-//! target: `.ci/targets.sh` compares them, and hands the images of each target to each other one ([`again`]).
+//! One run of each part of the package, as lines of text ([`text`]) and as images ([`images`]).
+//! Both are the same on every target: `.ci/targets.sh` compares them, and hands the images of each
+//! target to each other one ([`again`]).
 #![no_std]
 
 extern crate alloc;

@@ -6,7 +6,8 @@ use forgeni::{run_frame, run_in_blocks};
 use forgeni::{BlockCommands, ComponentId, Entities, Entry, Handle, HandleMap, Log, OutOfMemory};
 use forgeni::{Reserver, SparseMap, StdThreads, SyncPoint, SystemCommands, View, World};
 
-/// Calls for one caller, refusals included: of slots, of generations, and of handles from elsewhere.
+/// Calls for one caller, refusals included: of slots, of generations, and of handles from
+/// elsewhere.
 pub fn allocator() -> Result<u64> {
     let (mut digest, mut born) = (Digest(1), Vec::new());
     for step in 0..played::STEPS {
@@ -160,8 +161,8 @@ fn fill(commands: &mut BlockCommands<'_, usize>) -> core::result::Result<(), Out
 
 const AGE: ComponentId = ComponentId(5);
 
-/// Frames of a world: with one worker its image, and with two, where handles depend on the workers, the births and the
-/// components.
+/// Frames of a world: with one worker its image, and with two, where handles depend on the workers,
+/// the births and the components.
 pub fn frames() -> Result<u64> {
     let mut digest = Digest(7);
     for workers in 1..3 {

@@ -1,4 +1,5 @@
-//! The same for a host of WebAssembly. It asks for room, writes its input there, and reads the output where that lies.
+//! The same for a host of WebAssembly. It asks for room, writes its input there, and reads the
+//! output where that lies.
 
 use crate::{again, images, text, Result};
 use alloc::vec::Vec;

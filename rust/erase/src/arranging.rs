@@ -1,7 +1,8 @@
-//! The order in which the package shows things: a page has the `impl` blocks of a type in the order of the sources.
+//! The order in which the package shows things: a page has the `impl` blocks of a type in the order
+//! of the sources.
 //!
-//! The table says which modules of a crate come first, and how the functions of a type are parted into topics, each a block of its own below a
-//! heading. No function changes.
+//! The table says which modules of a crate come first, and how the functions of a type are parted
+//! into topics, each a block of its own below a heading. No function changes.
 
 use crate::edit::{edited, Change, Edit};
 use crate::source::{Fault, Source};
@@ -160,8 +161,8 @@ fn with_modules(text: &str, first: &[&str]) -> String {
     arranged
 }
 
-/// Tests that a result in the order of the table has the lines that it had before, and none but headings, and the first and last lines of blocks,
-/// besides.
+/// Tests that a result in the order of the table has the lines that it had before, and none but
+/// headings, and the first and last lines of blocks, besides.
 ///
 /// # Errors
 ///

@@ -13,8 +13,8 @@ impl Walk<'_> {
         Ok(self.source.partner(open) + 1)
     }
 
-    /// The attributes of an item, of which a derive gets these names more. Returns whether the item's error
-    /// messages are derived.
+    /// The attributes of an item, of which a derive gets these names more. Returns whether the
+    /// item's error messages are derived.
     pub(crate) fn attributes(
         &mut self,
         at: usize,
@@ -79,8 +79,8 @@ impl Walk<'_> {
             .fault(at, format!("an unknown attribute: `{text}`")))
     }
 
-    /// `#[derive(..)]`, with the word at `name`, which gets these names more. Returns whether it derives error
-    /// messages.
+    /// `#[derive(..)]`, with the word at `name`, which gets these names more. Returns whether it
+    /// derives error messages.
     fn derive(
         &mut self,
         at: usize,

@@ -3,9 +3,9 @@
 //! It knows nothing of how the result was written. It goes through the tokens of both texts side by
 //! side. Where they differ, the source's have to be ghost, or one of the two has to be in the short
 //! list of what is put in place of what. So nothing can be lost, as code that went into a comment,
-//! nor be added. Then it does the same with the comments: those of the result are those of the source,
-//! but for what stood at ghost items, and the clauses. A clause in docs is one of the next function. And no
-//! more than the package itself may call a function with a condition.
+//! nor be added. Then it does the same with the comments: those of the result are those of the
+//! source, but for what stood at ghost items, and the clauses. A clause in docs is one of the next
+//! function. And no more than the package itself may call a function with a condition.
 
 mod changes;
 mod comments;
@@ -179,8 +179,8 @@ impl Audit<'_> {
             .then(|| self.source.partner(open) + 1)
     }
 
-    /// The end of an `impl` of the equality of a struct in whose place the result has a derive. Beside ghost members
-    /// it has nothing, or the comparison of the field.
+    /// The end of an `impl` of the equality of a struct in whose place the result has a derive.
+    /// Beside ghost members it has nothing, or the comparison of the field.
     fn equality_end(&self) -> Option<usize> {
         let own = forms::COMPARED.iter().filter(|it| it.krate == self.krate);
         let mut ends = own.filter_map(|it| {
@@ -271,8 +271,8 @@ impl Audit<'_> {
         Ok(None)
     }
 
-    /// How many tokens a function's name takes with the `fn` or the type before it, if the result has the package's
-    /// name of it at this place.
+    /// How many tokens a function's name takes with the `fn` or the type before it, if the result
+    /// has the package's name of it at this place.
     fn renamed(&self, out: usize) -> Option<usize> {
         let (source, at) = (self.source, self.at);
         let mut all = forms::RENAMED_FUNCTIONS.iter();
@@ -292,7 +292,8 @@ impl Audit<'_> {
         renamed.map(|_| if source.at(at) == "fn" { 2 } else { 3 })
     }
 
-    /// Whether the result has a `const` here, before a function that is `const` in the package alone.
+    /// Whether the result has a `const` here, before a function that is `const` in the package
+    /// alone.
     fn is_added_const(&self) -> bool {
         let (name, path) = (self.source.at(self.at + 1), self.source.path);
         self.source.at(self.at) == "fn"

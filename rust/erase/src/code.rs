@@ -102,7 +102,8 @@ impl Walk<'_> {
         }
     }
 
-    /// Whether the `..` here, which has no end, takes a part of a slice: in `x[a..]` or in `x.get(a..)`.
+    /// Whether the `..` here, which has no end, takes a part of a slice: in `x[a..]` or in
+    /// `x.get(a..)`.
     fn is_of_slice(&self, at: usize) -> bool {
         let close = at + 1;
         let open = self.source.partner(close);
@@ -163,8 +164,8 @@ impl Walk<'_> {
         Err(self.source.fault(at, "a contract without a body"))
     }
 
-    /// Whether a block of a kind begins here that isn't known, as `proof { .. }`. No value has a name of
-    /// small letters before a brace, but in a condition.
+    /// Whether a block of a kind begins here that isn't known, as `proof { .. }`. No value has a
+    /// name of small letters before a brace, but in a condition.
     fn is_unknown_block(&self, at: usize) -> bool {
         let (word, before) = (self.source.at(at), self.source.before(at));
         if !word.starts_with(|c: char| c.is_lowercase()) || STATEMENT_WORDS.contains(&word) {
@@ -247,8 +248,8 @@ impl Walk<'_> {
         Ok(at + 2)
     }
 
-    /// The code in a proof isn't run in a release. So it may only look: at places, and by methods that are known only
-    /// to look.
+    /// The code in a proof isn't run in a release. So it may only look: at places, and by methods
+    /// that are known only to look.
     fn only_looks(&self, at: usize, end: usize) -> Result<(), Fault> {
         let looks = |at: usize| {
             let token = self.source.at(at);
@@ -386,8 +387,8 @@ impl Walk<'_> {
             .fault(at, format!("an unknown method, or form of it: `{name}`")))
     }
 
-    /// Whether `self.FIELD.fmt(f)` at its `fmt` writes a field whose type is a parameter of the `impl`, bounded by
-    /// the trait that this implements. So no other `fmt` is looked at.
+    /// Whether `self.FIELD.fmt(f)` at its `fmt` writes a field whose type is a parameter of the
+    /// `impl`, bounded by the trait that this implements. So no other `fmt` is looked at.
     fn is_of_a_parameter(&self, at: usize) -> bool {
         let source = self.source;
         if at < 5 || !source.has(at - 4, &["self", "."]) {
@@ -413,7 +414,8 @@ impl Walk<'_> {
         })
     }
 
-    /// An import from the kit goes to the top of the file, so a module within the file must have none.
+    /// An import from the kit goes to the top of the file, so a module within the file must have
+    /// none.
     pub(crate) fn import(&mut self, at: usize, path: &'static str) -> Result<(), Fault> {
         if self.is_module {
             let what = format!(

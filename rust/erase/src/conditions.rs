@@ -12,7 +12,8 @@ use crate::walk::Walk;
 /// What `pub` of a function with a condition becomes.
 const PACKAGE_ONLY: &str = "(crate)";
 
-/// What a `requires` clause says of a closure `F` that each closure of Rust meets: it may be called.
+/// What a `requires` clause says of a closure `F` that each closure of Rust meets: it may be
+/// called.
 const CALLABLE: [&str; 2] = [".", "IsAlwaysCallable"];
 
 /// Whether the clause whose braces open at `open` says only that a closure may be called.
@@ -20,8 +21,9 @@ fn is_of_a_closure(source: &Source<'_>, open: usize) -> bool {
     source.has(open + 2, &CALLABLE) && source.partner(open) == open + 5
 }
 
-/// What a `requires` clause says of commands that the package lends to a system: they are ready. Only proved code makes
-/// commands, `System::run` is called with those that are ready, and each call leaves them so. So no caller can have others.
+/// What a `requires` clause says of commands that the package lends to a system: they are ready.
+/// Only proved code makes commands, `System::run` is called with those that are ready, and each
+/// call leaves them so. So no caller can have others.
 const READY: [&str; 7] = ["IsReady", "S", ".", "serves", "self", ".", "old"];
 
 /// Whether the clause whose braces open at `open` is a condition that each caller meets.
@@ -47,8 +49,8 @@ pub(crate) fn has_condition(source: &Source<'_>, at: usize) -> bool {
     false
 }
 
-/// Whether the function whose `fn` stands at `at` is one that the table has for the package alone: what it gives has no
-/// name that a user knows.
+/// Whether the function whose `fn` stands at `at` is one that the table has for the package alone:
+/// what it gives has no name that a user knows.
 pub(crate) fn is_inside(source: &Source<'_>, krate: &str, at: usize) -> bool {
     let block = (0..at).rev().find(|at| source.at(*at) == "impl");
     let owner = block.and_then(|at| header(source, at).ok());
@@ -56,8 +58,8 @@ pub(crate) fn is_inside(source: &Source<'_>, krate: &str, at: usize) -> bool {
 }
 
 impl Walk<'_> {
-    /// A function that is `pub` at `visible`, and has a condition, is the package's own from now on.
-    /// Returns whether the package may show the function whose `fn` stands at `at`.
+    /// A function that is `pub` at `visible`, and has a condition, is the package's own from now
+    /// on. Returns whether the package may show the function whose `fn` stands at `at`.
     pub(crate) fn narrow(&mut self, visible: usize, at: usize, scope: Scope) -> bool {
         if scope == Scope::Trait {
             return self.is_public_trait;
@@ -98,8 +100,8 @@ impl Walk<'_> {
     }
 }
 
-/// The names that the import of the path from `at` to `end` gives, each with whether it is that of a
-/// function with a condition. There is no answer if there are several.
+/// The names that the import of the path from `at` to `end` gives, each with whether it is that of
+/// a function with a condition. There is no answer if there are several.
 pub(crate) fn imported(
     source: &Source<'_>,
     names: &Names,

@@ -1,8 +1,9 @@
 //! Contracts in docs: those of the functions that the package shows.
 //!
-//! A contract is folded, below the prose. It is a paragraph of Markdown, in which each name of a definition
-//! is a link to the page that has it. The pages are those of `forgeni::contracts`, which `.ci/contracts.py`
-//! makes. As a block of code it would have no links, and in HTML they would depend on the page that shows them.
+//! A contract is folded, below the prose. It is a paragraph of Markdown, in which each name of a
+//! definition is a link to the page that has it. The pages are those of `forgeni::contracts`, which
+//! `.ci/contracts.py` makes. As a block of code it would have no links, and in HTML they would
+//! depend on the page that shows them.
 
 use crate::edit::{Change, Edit};
 use crate::lex::{is_word, Kind};
@@ -40,7 +41,8 @@ pub(crate) struct Words<'a> {
 }
 
 impl<'a> Words<'a> {
-    /// Those that a source of this crate imports. The package doesn't show the crates of the programs.
+    /// Those that a source of this crate imports. The package doesn't show the crates of the
+    /// programs.
     pub(crate) fn of(source: &Source<'a>, krate: &str) -> Self {
         let mut words = Words {
             is_shown: !PROGRAM_CRATES.contains(&krate),
@@ -81,7 +83,8 @@ impl<'a> Words<'a> {
         }
     }
 
-    /// The page of a word, and its name there, if it is a definition's. Of `map.empty` it is one word.
+    /// The page of a word, and its name there, if it is a definition's. Of `map.empty` it is one
+    /// word.
     fn target(&self, word: &str) -> Option<(&str, String)> {
         if let Some((page, name)) = self.names.get(word) {
             return Some((page, name.clone()));
@@ -172,7 +175,8 @@ fn page(path: &str) -> Option<(String, String)> {
     Some((format!("{krate}::{page}"), String::new()))
 }
 
-/// The names that a contract binds: those between `λ` and a point, and those before the colon of `(name : Type)`.
+/// The names that a contract binds: those between `λ` and a point, and those before the colon of
+/// `(name : Type)`.
 fn bound(clauses: &str) -> BTreeSet<&str> {
     let mut found = BTreeSet::new();
     for part in clauses.split('λ').skip(1) {
@@ -221,8 +225,8 @@ impl Walk<'_> {
         })
     }
 
-    /// All clauses of a contract, of which the first begins at `at`. They go to the docs above `item`.
-    /// The place after them is that of the body, or of a `;`.
+    /// All clauses of a contract, of which the first begins at `at`. They go to the docs above
+    /// `item`. The place after them is that of the body, or of a `;`.
     pub(crate) fn shown_contract(&mut self, item: usize, at: usize, has_bounds: bool) -> Next {
         let end = self.after_clauses(at)?;
         let from = self.source.token(at - 1).to;

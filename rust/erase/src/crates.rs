@@ -14,7 +14,8 @@ pub const PACKAGE: &str = "crate";
 pub struct File {
     /// Its path from the top of the repository, as `crates/ent_alloc/src/slots.rt`.
     pub path: String,
-    /// Its path in the result of its crate, as `slots.rs`. That of `lib.rt` or `main.rt` is `mod.rs`.
+    /// Its path in the result of its crate, as `slots.rs`. That of `lib.rt` or `main.rt` is
+    /// `mod.rs`.
     pub result: PathBuf,
     /// Its text.
     pub text: String,
@@ -139,7 +140,8 @@ fn collect(folder: &Path, paths: &mut Vec<PathBuf>) -> io::Result<()> {
     Ok(())
 }
 
-/// Adds what the crates declare. They are modules below `path`. If that is the package, each has a name of its own.
+/// Adds what the crates declare. They are modules below `path`. If that is the package, each has a
+/// name of its own.
 ///
 /// # Errors
 ///

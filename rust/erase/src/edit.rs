@@ -56,7 +56,8 @@ pub fn edited(text: &str, mut edits: Vec<Edit>) -> String {
 }
 
 /// Of the blank lines above and below lines that went, one stays at most, and none at the beginning
-/// and at the end of a block. A block of which nothing is left is `{}`. Returns where the text goes on.
+/// and at the end of a block. A block of which nothing is left is `{}`. Returns where the text goes
+/// on.
 fn close_gap(out: &mut String, text: &str, at: usize) -> usize {
     let mut at = at;
     let is_first = out.is_empty() || out.ends_with("\n\n") || out.ends_with("{\n");

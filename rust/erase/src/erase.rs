@@ -49,8 +49,8 @@ fn imports(walk: &Walk<'_>) -> Option<Edit> {
     })
 }
 
-/// Links in doc comments lead where the paths of the code lead, and those to `forgeni` to what the package
-/// itself shows.
+/// Links in doc comments lead where the paths of the code lead, and those to `forgeni` to what the
+/// package itself shows.
 fn led_links(text: &str, krate: &str, names: &Names) -> String {
     let lead = |line: &str| {
         let begin = line.trim_start();

@@ -1,8 +1,8 @@
-//! The forms that are known: what is taken out, what is rewritten, and what stays. Whatever is in no
-//! list here is refused.
+//! The forms that are known: what is taken out, what is rewritten, and what stays. Whatever is in
+//! no list here is refused.
 
-/// Members of `impl` blocks of the kit's traits that are terms for proofs alone. Those that the traits
-/// of the sources declare are known too.
+/// Members of `impl` blocks of the kit's traits that are terms for proofs alone. Those that the
+/// traits of the sources declare are known too.
 pub const GHOST_MEMBERS: &[&str] = &[
     "Value",
     "both",
@@ -37,8 +37,8 @@ pub const GHOST_MEMBERS: &[&str] = &[
     "view",
 ];
 
-/// Files in which `pub(crate)` stays, since the package's own `several` lends several values of a map at once. No contract can say what
-/// the map is after that.
+/// Files in which `pub(crate)` stays, since the package's own `several` lends several values of a
+/// map at once. No contract can say what the map is after that.
 pub const OPENED: &[&str] = &[
     "ent_storage/src/handle_map.rt",
     "ent_storage/src/handle_map/generation.rt",
@@ -56,7 +56,8 @@ pub const GHOST_TRAITS: &[&str] = &["Model"];
 /// derives and from bounds.
 pub const DROP: &str = "Drop";
 
-/// The type of the right to allocate, which the kit's `std::alloc` has. A value of it goes, wherever it is handed on.
+/// The type of the right to allocate, which the kit's `std::alloc` has. A value of it goes,
+/// wherever it is handed on.
 pub const RIGHT: &str = "Global";
 
 /// Types of the kit whose last argument may be that type.
@@ -142,7 +143,8 @@ pub fn kept_trait(name: &str) -> Option<&'static KeptTrait> {
     KEPT_TRAITS.iter().find(|it| it.name == name)
 }
 
-/// The traits by which a value is written. A type may have both, though both have a `fmt`: a call names the trait.
+/// The traits by which a value is written. A type may have both, though both have a `fmt`: a call
+/// names the trait.
 const TEXTS: &[&str] = &["Debug", "Display"];
 
 /// Whether these two are those traits.
@@ -161,11 +163,13 @@ pub const DECLARING: &[&str] = &[
     "const", "enum", "fn", "mod", "static", "struct", "trait", "type",
 ];
 
-/// Types of Rust and of the kit that have no method and lead to none. So the sources may implement a trait for them.
+/// Types of Rust and of the kit that have no method and lead to none. So the sources may implement
+/// a trait for them.
 pub const OPEN_TYPES: &[&str] = &["()", "Either"];
 
-/// Methods that nearly every type has by a trait of Rust's prelude, or by a derive, or that a macro calls. A type
-/// must have no method of its own with such a name: the rules of look-up would decide which of the two is called.
+/// Methods that nearly every type has by a trait of Rust's prelude, or by a derive, or that a macro
+/// calls. A type must have no method of its own with such a name: the rules of look-up would decide
+/// which of the two is called.
 pub const COMMON_METHODS: &[&str] = &[
     "as_mut",
     "as_ref",
@@ -204,8 +208,8 @@ pub fn is_of_std(name: &str) -> bool {
     lines.flat_map(str::split_whitespace).any(|it| it == name)
 }
 
-/// Methods of the sources whose name std has too, and that aren't in the lists of methods: each with the word before
-/// the point that makes it the sources' own.
+/// Methods of the sources whose name std has too, and that aren't in the lists of methods: each
+/// with the word before the point that makes it the sources' own.
 pub const OWN_CALLS: &[(&str, &[&str])] = &[
     ("and", &["requests"]),
     ("end", &["progress", "self"]),
@@ -339,7 +343,8 @@ pub const PRIMITIVES: &[&str] = &[
     "u128", "u16", "u32", "u64", "u8", "usize",
 ];
 
-/// Names that may be used without a path: of the prelude, and types. They mean what they mean in the kit.
+/// Names that may be used without a path: of the prelude, and types. They mean what they mean in
+/// the kit.
 pub const BARE: &[&str] = &[
     "Clone",
     "Copy",
@@ -417,8 +422,8 @@ pub struct Import {
 pub struct Renamed {
     /// Its name in the sources.
     pub from: &'static str,
-    /// How its arguments may begin, each as tokens. A quote stands for any text, and `OF_RIGHT` for the right to
-    /// allocate.
+    /// How its arguments may begin, each as tokens. A quote stands for any text, and `OF_RIGHT` for
+    /// the right to allocate.
     pub arguments: &'static [&'static [&'static str]],
     /// Its name in the result.
     pub to: &'static str,
@@ -439,14 +444,15 @@ pub struct Layout {
 
 /// The types with a layout of their own.
 pub const LAYOUTS: &[Layout] = &[
-    // Rust promises that an `Option` of a word that is never 0 takes no more room than the word, and by this
-    // attribute it promises it of a handle.
+    // Rust promises that an `Option` of a word that is never 0 takes no more room than the word,
+    // and by this attribute it promises it of a handle.
     Layout {
         krate: "ent_handle",
         name: "Handle",
         attribute: "#[repr(transparent)]",
     },
-    // A reservation writes the reserver, so two of them in a list share no line of a processor's cache.
+    // A reservation writes the reserver, so two of them in a list share no line of a processor's
+    // cache.
     Layout {
         krate: "ent_blocks",
         name: "BlockReserver",
@@ -478,8 +484,8 @@ pub fn layout_of(krate: &str, name: &str) -> Option<&'static Layout> {
         .find(|layout| layout.krate == krate && layout.name == name)
 }
 
-/// Traits whose last parameter has a default in the package: the crate and the trait. In the sources a trait's
-/// parameter can have none.
+/// Traits whose last parameter has a default in the package: the crate and the trait. In the
+/// sources a trait's parameter can have none.
 const DEFAULTED: &[(&str, &str)] = &[("ent_runner", "System"), ("ent_runner", "LogSystem")];
 
 /// Whether the trait of this crate is one of them.
@@ -511,9 +517,10 @@ impl Compared {
     }
 }
 
-/// Those structs. Their two impls are printed as the derives that do the same: Rust takes a constant as a pattern
-/// only if its type derives both. The sources can't derive them, since a derive compares what a model's `inverse`
-/// makes of the two values, and a handle's makes another word of a number that is no handle's.
+/// Those structs. Their two impls are printed as the derives that do the same: Rust takes a
+/// constant as a pattern only if its type derives both. The sources can't derive them, since a
+/// derive compares what a model's `inverse` makes of the two values, and a handle's makes another
+/// word of a number that is no handle's.
 pub const COMPARED: &[Compared] = &[Compared {
     krate: "ent_handle",
     name: "Handle",
@@ -530,7 +537,8 @@ pub fn compared(krate: &str, name: &str) -> Option<&'static Compared> {
         .find(|it| it.krate == krate && it.name == name)
 }
 
-/// The traits that plain data has in the package, and that the kit can't derive for it: there a clone may fail.
+/// The traits that plain data has in the package, and that the kit can't derive for it: there a
+/// clone may fail.
 const OF_DATA: &[&str] = &["Clone", "PartialEq", "Eq", "Hash"];
 
 /// What a report has in the package: in the kit the clone of a list may fail.
@@ -560,8 +568,8 @@ pub fn derived_more(krate: &str, name: &str) -> &'static [&'static str] {
     DERIVES_MORE.iter().find(of).map_or(&[], |it| it.2)
 }
 
-/// Files of crates in which what `fmt` writes is padded in the package, as Rust's own numbers and texts are. In the
-/// kit nobody can ask for a width.
+/// Files of crates in which what `fmt` writes is padded in the package, as Rust's own numbers and
+/// texts are. In the kit nobody can ask for a width.
 pub const PADDED: &[(&str, &str)] = &[("ent_handle", "text.rt")];
 
 /// Whether `write!` is `padded!` in this file of this crate.
@@ -585,8 +593,9 @@ pub struct RenamedFunction {
     pub to: &'static str,
 }
 
-/// Those functions. The allocator's `new` has a parameter, the limits. In Rust `new()` has none, so the package adds
-/// it, and has the sources' own by another name. It isn't `with_limits`, which keeps a handle back.
+/// Those functions. The allocator's `new` has a parameter, the limits. In Rust `new()` has none, so
+/// the package adds it, and has the sources' own by another name. It isn't `with_limits`, which
+/// keeps a handle back.
 pub const RENAMED_FUNCTIONS: &[RenamedFunction] = &[RenamedFunction {
     krate: "ent_alloc",
     of: "Entities",
@@ -594,12 +603,12 @@ pub const RENAMED_FUNCTIONS: &[RenamedFunction] = &[RenamedFunction {
     to: "with_exact_limits",
 }];
 
-/// Types that derive `Clone` and aren't `Copy`, though each of their fields is: the crate and the type. So `clone` can't
-/// fail in the kit either. They are iterators.
+/// Types that derive `Clone` and aren't `Copy`, though each of their fields is: the crate and the
+/// type. So `clone` can't fail in the kit either. They are iterators.
 pub const OF_COPIES: &[(&str, &str)] = &[("ent_alloc", "Living")];
 
-/// Functions that are `const` in the package, so that a `const` or a `static` can have what they make: the crate,
-/// the file and the function. In the kit what they call isn't `const`.
+/// Functions that are `const` in the package, so that a `const` or a `static` can have what they
+/// make: the crate, the file and the function. In the kit what they call isn't `const`.
 pub const CONSTANTS: &[(&str, &str, &str)] = &[
     ("ent_alloc", "entities.rt", "new"),
     ("ent_alloc", "entities.rt", "with_limits"),
@@ -647,8 +656,8 @@ pub struct Forms {
     pub kept_macros: &'static [&'static str],
     /// Methods that are renamed.
     pub renamed: &'static [Renamed],
-    /// Methods of std and of the kit's crates that are in Rust, or in the package's kit, as in the kit
-    /// of the proofs. The methods of the sources themselves are known too.
+    /// Methods of std and of the kit's crates that are in Rust, or in the package's kit, as in the
+    /// kit of the proofs. The methods of the sources themselves are known too.
     pub methods: &'static [&'static str],
     /// What may be called by a path.
     pub associated: &'static [Associated],

@@ -36,8 +36,8 @@ const KIT_FMT: &[&str] = &[
     ")",
 ];
 
-/// `clone` in the kit, from its parameters to the end of its body. It may run out of memory, and this one
-/// isn't.
+/// `clone` in the kit, from its parameters to the end of its body. It may run out of memory, and
+/// this one isn't.
 const KIT_CLONE: &[&str] = &[
     "(",
     "&",
@@ -121,7 +121,8 @@ impl Walk<'_> {
         self.replace(at + 1, at + 2, renamed.to);
     }
 
-    /// Puts the package's name in the place of the name here, if it is the last one of the path of such a function.
+    /// Puts the package's name in the place of the name here, if it is the last one of the path of
+    /// such a function.
     pub(crate) fn rename_call(&mut self, at: usize) {
         let mut all = forms::RENAMED_FUNCTIONS.iter();
         let is_of = |it: &&RenamedFunction| match self.source.before(at - 1) {
@@ -176,8 +177,8 @@ impl Walk<'_> {
         (start..visible).any(|at| ["inline", "cold", "test"].contains(&self.source.at(at)))
     }
 
-    /// The `clone` of an `impl Clone`, from its parameters on: it calls `again` of the type, which takes no
-    /// memory.
+    /// The `clone` of an `impl Clone`, from its parameters on: it calls `again` of the type, which
+    /// takes no memory.
     fn clone_of_itself(&mut self, start: usize, visible: usize, at: usize) -> Next {
         if !self.source.has(at, KIT_CLONE) {
             return Err(self.source.fault(at, "another `clone` than by `again`"));
@@ -205,8 +206,8 @@ impl Walk<'_> {
             .fault(at, "another signature of `fmt` than the kit's"))
     }
 
-    /// What a function returns, its bounds, its contract, and its body or `;`. The docs above `item`
-    /// show the contract, if that is there.
+    /// What a function returns, its bounds, its contract, and its body or `;`. The docs above
+    /// `item` show the contract, if that is there.
     fn rest_of_function(&mut self, at: usize, item: Option<usize>) -> Next {
         let mut at = at;
         let mut has_bounds = false;

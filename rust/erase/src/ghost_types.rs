@@ -1,5 +1,6 @@
-//! Ghost types. A trait of the sources that has ghost members only says nothing to a program, so it goes, and with it
-//! each type parameter that it alone bounds: where it is declared, as an argument, and as what a `PhantomData` is of.
+//! Ghost types. A trait of the sources that has ghost members only says nothing to a program, so it
+//! goes, and with it each type parameter that it alone bounds: where it is declared, as an
+//! argument, and as what a `PhantomData` is of.
 
 use crate::forms::{BRAND, PHANTOM};
 use crate::memory::{elements, fields, function, owners};
@@ -55,7 +56,8 @@ pub(crate) fn file_of_module(source: &Source<'_>, name: &str) -> String {
     }
 }
 
-/// The fields of a source that are a `PhantomData` of a ghost type: the names of their structs, and theirs.
+/// The fields of a source that are a `PhantomData` of a ghost type: the names of their structs, and
+/// theirs.
 pub(crate) fn phantoms(source: &Source<'_>, names: &Names) -> Vec<(String, String)> {
     let types = GhostTypes::parameters_of(source, names);
     let is_phantom = |it: &(usize, usize)| types.is_phantom(source, it.1);
@@ -70,7 +72,8 @@ fn is_brand(source: &Source<'_>, at: usize) -> bool {
     source.at(at) == BRAND && ["<", ","].contains(&source.before(at)) && source.at(at + 1) == ">"
 }
 
-/// The place after `+ Send + Sync`, if it is here: a ghost parameter of what threads share has it too.
+/// The place after `+ Send + Sync`, if it is here: a ghost parameter of what threads share has it
+/// too.
 pub(crate) fn after_threads(source: &Source<'_>, at: usize) -> usize {
     let threads = ["+", "Send", "+", "Sync"];
     at + if source.has(at, &threads) {

@@ -1,5 +1,5 @@
-//! What the repository's own tests may use beside the forms of the package: the runtime that the kit
-//! hands a test, and the calls that take it. `rust/erased_tests` has them below `crate::host`.
+//! What the repository's own tests may use beside the forms of the package: the runtime that the
+//! kit hands a test, and the calls that take it. `rust/erased_tests` has them below `crate::host`.
 
 use crate::forms::{module, Associated, Forms, Import, Module, Renamed, OF_RIGHT};
 

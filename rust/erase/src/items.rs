@@ -143,7 +143,8 @@ impl Walk<'_> {
         Err(self.source.fault(at, what))
     }
 
-    /// Checks that a struct whose equality is derived has the one field, and the impls that become the derives.
+    /// Checks that a struct whose equality is derived has the one field, and the impls that become
+    /// the derives.
     fn check_compared(&self, at: usize, scope: Scope) -> Result<bool, Fault> {
         let name = self.source.at(at + 1);
         let Some(compared) = forms::compared(self.krate, name).filter(|_| scope == Scope::File)

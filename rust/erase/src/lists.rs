@@ -1,6 +1,7 @@
-//! Which values are lists. A list of the kit has calls that Rust's own list has otherwise, and they become calls of
-//! other names. There are no types here, so a declaration has to tell whether a value is a list: of the parameter, of
-//! the field, or of what is bound. What none tells is told by a table of names, or refused.
+//! Which values are lists. A list of the kit has calls that Rust's own list has otherwise, and they
+//! become calls of other names. There are no types here, so a declaration has to tell whether a
+//! value is a list: of the parameter, of the field, or of what is bound. What none tells is told by
+//! a table of names, or refused.
 
 use crate::forms;
 use crate::memory::elements;
@@ -9,7 +10,8 @@ use crate::types::{argument, head, is_function, is_list, path, type_at, Type};
 use crate::walk::Walk;
 
 impl Walk<'_> {
-    /// A method whose name, or whose trait, is another one for a list: the place after its name, if it is one.
+    /// A method whose name, or whose trait, is another one for a list: the place after its name, if
+    /// it is one.
     pub(crate) fn list_call(&mut self, at: usize, open: usize) -> Result<Option<usize>, Fault> {
         let name = self.source.at(at);
         let arguments = elements(self.source, open).len();
@@ -100,7 +102,8 @@ impl Walk<'_> {
         }
     }
 
-    /// The type of what has this name in the function around this place: that of the last declaration before it.
+    /// The type of what has this name in the function around this place: that of the last
+    /// declaration before it.
     fn local(&self, name: &str, at: usize) -> Option<Type> {
         let source = self.source;
         let begin = (0..at).rev().find(|at| is_function(source, *at))?;
@@ -113,7 +116,8 @@ impl Walk<'_> {
         declared.flatten()
     }
 
-    /// What the name here is declared as, if here is a declaration of it: its type, if that is known.
+    /// What the name here is declared as, if here is a declaration of it: its type, if that is
+    /// known.
     fn declared_at(&self, at: usize) -> Option<Option<Type>> {
         let source = self.source;
         let begin = at - usize::from(source.before(at) == "mut");
@@ -185,7 +189,8 @@ impl Walk<'_> {
         }
     }
 
-    /// The end of the value before its last call, if that takes it out of a `Result` or an `Option`.
+    /// The end of the value before its last call, if that takes it out of a `Result` or an
+    /// `Option`.
     fn before_unwrapping(&self, at: usize, end: usize) -> Option<usize> {
         let source = self.source;
         let open = source.partner(end - 1);

@@ -1,7 +1,7 @@
 //! Erases the proved crates into the package, at the top of the repository.
 //!
-//! `erase` writes the results. `erase --check` compares them with those that are there, and fails if
-//! one byte differs. `erase --tests` writes the tests of those crates for `rust/erased_tests`.
+//! `erase` writes the results. `erase --check` compares them with those that are there, and fails
+//! if one byte differs. `erase --tests` writes the tests of those crates for `rust/erased_tests`.
 
 use erase::plan::{package, tests, Files, Target, PROVED, TESTED};
 use std::error::Error;

@@ -1,9 +1,9 @@
-//! The right to allocate, which the sources hand on as a value of the type `Global`. All memory of a Rust program is
-//! its global allocator's, so the right goes: parameters, arguments, fields with their places in literals and in
-//! patterns, and what is bound to it.
+//! The right to allocate, which the sources hand on as a value of the type `Global`. All memory of
+//! a Rust program is its global allocator's, so the right goes: parameters, arguments, fields with
+//! their places in literals and in patterns, and what is bound to it.
 //!
-//! Whether a name has the right is told by a declaration: of the parameter, of the field, or of what is bound. A
-//! place of another form stays, and the walk refuses it.
+//! Whether a name has the right is told by a declaration: of the parameter, of the field, or of
+//! what is bound. A place of another form stays, and the walk refuses it.
 
 use crate::forms;
 use crate::names::{begins_item, block, header, Names};
@@ -58,7 +58,8 @@ impl Fields {
     }
 }
 
-/// The named fields of a source's structs and variants: the place of each owner's name, and of the field's.
+/// The named fields of a source's structs and variants: the place of each owner's name, and of the
+/// field's.
 pub(crate) fn fields(source: &Source<'_>) -> Vec<(usize, usize)> {
     let mut found = Vec::new();
     for at in 0..source.len() {
@@ -126,8 +127,8 @@ fn is_end(source: &Source<'_>, at: usize) -> bool {
 /// What goes from one source.
 #[derive(Default)]
 pub(crate) struct Rights<'a> {
-    /// The tokens that go, by the first of them: the place after the last one. A comma that parted them from others is
-    /// one of them.
+    /// The tokens that go, by the first of them: the place after the last one. A comma that parted
+    /// them from others is one of them.
     pub(crate) gone: BTreeMap<usize, usize>,
     /// The functions, each with the names in it that have the right.
     functions: Vec<(Range<usize>, BTreeSet<&'a str>)>,
@@ -296,7 +297,8 @@ impl<'a> Function<'a, '_> {
                 .has(at + 2, &["=", "rt", ".", "alloc", "(", ")", ";"])
     }
 
-    /// Whether a field that has the right begins at `at`, in the literal or the pattern whose brace is at `open`.
+    /// Whether a field that has the right begins at `at`, in the literal or the pattern whose brace
+    /// is at `open`.
     fn is_field(&self, open: usize, at: usize) -> bool {
         let owner = match self.source.before(open) {
             "Self" => self.own,
@@ -305,7 +307,8 @@ impl<'a> Function<'a, '_> {
         self.names.fields.has_of(owner, self.source.at(at))
     }
 
-    /// Whether the bracket here opens the arguments of a function. The name of a variant has a capital.
+    /// Whether the bracket here opens the arguments of a function. The name of a variant has a
+    /// capital.
     fn is_call(&self, open: usize) -> bool {
         let before = self.source.before(open);
         let is_name = before.starts_with(|c: char| c.is_lowercase() || c == '_');
@@ -342,7 +345,8 @@ impl<'a> Function<'a, '_> {
         }
     }
 
-    /// Whether these tokens are the right: a name that has it, a field that has it, or what hands it out.
+    /// Whether these tokens are the right: a name that has it, a field that has it, or what hands
+    /// it out.
     fn is_right(&self, begin: usize, end: usize) -> bool {
         let source = self.source;
         match end - begin {

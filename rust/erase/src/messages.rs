@@ -21,8 +21,8 @@ enum Fields<'a> {
 }
 
 impl Walk<'_> {
-    /// `Display` and `Error` of the type at `at`, whose attributes begin at `start` and whose fields or
-    /// variants at `body`.
+    /// `Display` and `Error` of the type at `at`, whose attributes begin at `start` and whose
+    /// fields or variants at `body`.
     pub(crate) fn error_impls(
         &self,
         start: usize,

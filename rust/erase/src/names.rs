@@ -1,8 +1,8 @@
 //! What the sources declare, and what they may not.
 //!
-//! The eraser acts on names: `Drop` is a bound, an `impl` of `Model` goes, `itoa` is a crate, `.len()` of a list is
-//! that of its slice. So no source may give one of these names another meaning, and a method must be the same one
-//! however it is looked up.
+//! The eraser acts on names: `Drop` is a bound, an `impl` of `Model` goes, `itoa` is a crate,
+//! `.len()` of a list is that of its slice. So no source may give one of these names another
+//! meaning, and a method must be the same one however it is looked up.
 
 use crate::conditions::has_condition;
 use crate::forms::{self, Forms};
@@ -26,7 +26,8 @@ pub struct Names {
     pub belonging: BTreeSet<String>,
     /// Their structs and enums, each with the files that declare one of this name.
     types: BTreeMap<String, BTreeSet<String>>,
-    /// Their other names for types, which may be types of std, each with the word that the type begins with.
+    /// Their other names for types, which may be types of std, each with the word that the type
+    /// begins with.
     aliases: BTreeMap<String, BTreeSet<String>>,
     /// Their traits.
     pub traits: BTreeSet<String>,
@@ -36,7 +37,8 @@ pub struct Names {
     pub(crate) phantoms: BTreeSet<(String, String)>,
     /// The paths of those of them in which all is ghost.
     pub(crate) ghost_files: BTreeSet<String>,
-    /// Their functions that take a `self`. For each name, whether all functions of that name only look at it.
+    /// Their functions that take a `self`. For each name, whether all functions of that name only
+    /// look at it.
     pub methods: BTreeMap<String, bool>,
     /// The ghost members that their traits declare.
     pub members: BTreeSet<String>,
@@ -62,14 +64,17 @@ struct Block {
     implemented: Option<String>,
     /// Whether the type has no parameters.
     is_plain: bool,
-    /// The type's arguments that aren't parameters of the block: for each the sources' own type with which it begins.
+    /// The type's arguments that aren't parameters of the block: for each the sources' own type
+    /// with which it begins.
     arguments: Vec<Option<String>>,
-    /// What it has: how a function takes its `self`, if it does, and the error if the function may not be there.
+    /// What it has: how a function takes its `self`, if it does, and the error if the function may
+    /// not be there.
     methods: BTreeMap<String, (Option<String>, Fault)>,
 }
 
 impl Block {
-    /// Whether no type is one of both blocks, which are of no trait: an argument of the one is another type than that of the other.
+    /// Whether no type is one of both blocks, which are of no trait: an argument of the one is
+    /// another type than that of the other.
     fn is_apart_from(&self, other: &Block) -> bool {
         let differ = |(one, other): (&Option<String>, &Option<String>)| {
             one.is_some() && other.is_some() && one != other
@@ -92,7 +97,8 @@ impl Names {
     ///
     /// # Errors
     ///
-    /// A name has another meaning for the eraser, or an `impl` is for a type that isn't the sources' own.
+    /// A name has another meaning for the eraser, or an `impl` is for a type that isn't the
+    /// sources' own.
     pub fn add(&mut self, source: &Source<'_>) -> Result<(), Fault> {
         let mut members = BTreeSet::new();
         self.fields.add(source);
@@ -336,8 +342,8 @@ impl Names {
         krate(source)
     }
 
-    /// An `impl` of a trait of std must have no method with a default: it may be one that Rust calls and the kit
-    /// doesn't.
+    /// An `impl` of a trait of std must have no method with a default: it may be one that Rust
+    /// calls and the kit doesn't.
     fn check_members(
         &self,
         source: &Source<'_>,
@@ -357,12 +363,13 @@ impl Names {
         Ok(())
     }
 
-    /// Checks that each method of a type is the only one of its name, so that the order of look-up doesn't matter. Methods
-    /// of types that differ in an argument are those of several types.
+    /// Checks that each method of a type is the only one of its name, so that the order of look-up
+    /// doesn't matter. Methods of types that differ in an argument are those of several types.
     ///
     /// # Errors
     ///
-    /// The first method that isn't: it is in two blocks, or a trait of std gives it to the type too.
+    /// The first method that isn't: it is in two blocks, or a trait of std gives it to the type
+    /// too.
     pub fn check(&self) -> Result<(), Fault> {
         self.fields.check()?;
         let mut found = BTreeMap::new();
@@ -423,15 +430,16 @@ impl Names {
         self.aliases.contains_key(name) && !self.types.contains_key(name)
     }
 
-    /// The word that the type begins with that this other name stands for, if it stands for no other.
+    /// The word that the type begins with that this other name stands for, if it stands for no
+    /// other.
     pub fn aliased(&self, name: &str) -> Option<&str> {
         let of = self.aliases.get(name).filter(|of| of.len() == 1)?;
         let is_own = self.types.contains_key(name);
         of.first().filter(|_| !is_own).map(String::as_str)
     }
 
-    /// Whether the free functions of this name have a condition, those of this file, or of all files of
-    /// this folder. There is no answer if some have one and others don't.
+    /// Whether the free functions of this name have a condition, those of this file, or of all
+    /// files of this folder. There is no answer if some have one and others don't.
     pub(crate) fn has_condition(&self, place: &str, name: &str) -> Option<bool> {
         let is_there = |path: &str| path == place || path.starts_with(&format!("{place}/"));
         let all = self.conditions.iter();
@@ -606,7 +614,8 @@ fn receiver<'a>(source: &'a Source<'_>, at: usize) -> Option<Vec<&'a str>> {
     (source.before(end) == "self").then(|| (open + 1..end - 1).map(|at| source.at(at)).collect())
 }
 
-/// Whether the `ghost` here begins `ghost NAME: { .. };`, or the same with a default, as in a trait.
+/// Whether the `ghost` here begins `ghost NAME: { .. };`, or the same with a default, as in a
+/// trait.
 fn is_declared_member(source: &Source<'_>, at: usize) -> bool {
     source.has(at + 2, &[":", "{"]) && [";", "="].contains(&source.at(source.partner(at + 3) + 1))
 }

@@ -1,7 +1,8 @@
 //! Names that the package has otherwise: those of crates, and of some items.
 //!
-//! A result is written with the sources' names. Here each that the table has becomes the package's: where it is declared, wherever a path or
-//! an import leads to it, and in docs. So what a user sees has one name.
+//! A result is written with the sources' names. Here each that the table has becomes the package's:
+//! where it is declared, wherever a path or an import leads to it, and in docs. So what a user sees
+//! has one name.
 
 use crate::edit::{edited, Change, Edit};
 use crate::lex::{is_word, Kind, Token};
@@ -69,7 +70,8 @@ fn all_of(name: &str) -> impl Iterator<Item = &'static str> {
     NAMES.get(name).into_iter().flatten().map(|it| it.1)
 }
 
-/// A result with the package's names. It must be of the package, or of what uses it by paths of the package.
+/// A result with the package's names. It must be of the package, or of what uses it by paths of the
+/// package.
 ///
 /// # Errors
 ///
@@ -229,7 +231,8 @@ impl<'a> Naming<'a, '_> {
         }
     }
 
-    /// The crate that the path leads to whose last name stands here, if it leads through modules alone.
+    /// The crate that the path leads to whose last name stands here, if it leads through modules
+    /// alone.
     fn crate_of_path(&self, at: usize) -> Option<String> {
         let mut head = at;
         while self.source.before(head) == "::" && self.source.is_word(head.checked_sub(2)?) {
@@ -269,7 +272,8 @@ impl<'a> Naming<'a, '_> {
         without_paths(&(out + rest))
     }
 
-    /// What a link shows that leads to this path: code with names of the path has them as the path has them then.
+    /// What a link shows that leads to this path: code with names of the path has them as the path
+    /// has them then.
     fn code_of_link(&self, shown: &str, path: &str) -> String {
         let Some(code) = shown.strip_prefix('`').and_then(|it| it.strip_suffix('`')) else {
             return shown.to_owned();
@@ -287,8 +291,8 @@ impl<'a> Naming<'a, '_> {
         format!("`{}`", words.join("::"))
     }
 
-    /// The package's name of a word of a comment, if no other crate declares what has this name: it has two capitals at
-    /// least, so it is no word of English.
+    /// The package's name of a word of a comment, if no other crate declares what has this name: it
+    /// has two capitals at least, so it is no word of English.
     fn plain(&self, word: &str) -> Option<&'static str> {
         let is_name = word.chars().filter(|c| c.is_uppercase()).count() > 1;
         let to = all_of(word).next().filter(|_| is_name)?;
@@ -310,7 +314,8 @@ impl<'a> Naming<'a, '_> {
     }
 }
 
-/// The places of all variants of the enums that a text declares, and of the types in its traits and `impl` blocks.
+/// The places of all variants of the enums that a text declares, and of the types in its traits and
+/// `impl` blocks.
 fn members(source: &Source<'_>) -> BTreeSet<usize> {
     let mut members = BTreeSet::new();
     let mut depth = 0;
@@ -339,7 +344,8 @@ fn members(source: &Source<'_>) -> BTreeSet<usize> {
     members
 }
 
-/// Docs in which a link that shows its path has no other path, and none leads to what a user can't see.
+/// Docs in which a link that shows its path has no other path, and none leads to what a user can't
+/// see.
 fn without_paths(text: &str) -> String {
     let mut parts = text.split("](");
     let mut out = parts.next().unwrap_or("").to_owned();

@@ -97,8 +97,8 @@ impl<'a> Walk<'a> {
         Ok(true)
     }
 
-    /// An import must give no name another meaning, and must name all that it imports. From the sources it imports
-    /// only their own names.
+    /// An import must give no name another meaning, and must name all that it imports. From the
+    /// sources it imports only their own names.
     fn check_import(&self, at: usize, end: usize) -> Result<(), Fault> {
         let is_of_std = self.module_at(at)?.is_some();
         for at in at + 1..end {
@@ -148,7 +148,8 @@ impl<'a> Walk<'a> {
         Ok(at + 1)
     }
 
-    /// Each name of a path after the one at `at` must be known: as one that its head has, or as one of the sources.
+    /// Each name of a path after the one at `at` must be known: as one that its head has, or as one
+    /// of the sources.
     fn rest_of_path(&self, at: usize) -> Result<(), Fault> {
         let (mut head, mut next) = (at, self.after_name(at)?);
         if self.source.at(next - 1) == ">" && !self.is_known(self.source.at(at)) {
@@ -182,7 +183,8 @@ impl<'a> Walk<'a> {
         Ok(())
     }
 
-    /// The place after a name of a path, after the `::` that follows it, and after parameters between the two.
+    /// The place after a name of a path, after the `::` that follows it, and after parameters
+    /// between the two.
     fn after_name(&self, at: usize) -> Next {
         let mut next = at + 1;
         if self.source.at(next) == "::" {
@@ -229,8 +231,8 @@ impl<'a> Walk<'a> {
             .map(|known| known.1)
     }
 
-    /// The module of std or of the kit that the path at this place begins with, the longest one. Any
-    /// other path of std is a fault.
+    /// The module of std or of the kit that the path at this place begins with, the longest one.
+    /// Any other path of std is a fault.
     pub(crate) fn module_at(&self, at: usize) -> Result<Option<&'static Module>, Fault> {
         let begins = |module: &&Module| {
             let names = module.path.split("::").enumerate();
@@ -248,8 +250,8 @@ impl<'a> Walk<'a> {
         Ok(longest)
     }
 
-    /// The names that are taken from the module at this place. If the path ends with the module, it is
-    /// known by its name from here on.
+    /// The names that are taken from the module at this place. If the path ends with the module, it
+    /// is known by its name from here on.
     pub(crate) fn taken(&mut self, at: usize, module: &'static Module) -> Result<Taken<'a>, Fault> {
         let end = at + length(module);
         let mut taken = Taken::default();

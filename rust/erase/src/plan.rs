@@ -65,17 +65,19 @@ pub static PROVED: Target = Target {
     path: crate::crates::PACKAGE,
     file: "modules.rs",
     head: "\
-// The proved crates of this repository as plain Rust, each a module of the package that includes this file.
+// The proved crates of this repository as plain Rust, each a module of the package that includes
+// this file.
 //
-// `rust/erase` makes all files here of the sources below `crates/`. What is ghost is taken out, and the
-// clauses of a contract go to the docs of a public call, and else stay as comments. None of these files is edited by
-// hand: the gate makes them anew and compares. The modules, and some items, have other names than in the sources, by
-// the table `rust/erase/names.txt`.
+// `rust/erase` makes all files here of the sources below `crates/`. What is ghost is taken out, and
+// the clauses of a contract go to the docs of a public call, and else stay as comments. None of
+// these files is edited by hand: the gate makes them anew and compares. The modules, and some
+// items, have other names than in the sources, by the table `rust/erase/names.txt`.
 //
 // The proofs are of the sources, before that.
 //
-// What a clause alone reads isn't used here, and the package doesn't call all that is proved. How the
-// sources are written is up to them: they have labels where a proof names a loop, and values for the case that a call fails.
+// What a clause alone reads isn't used here, and the package doesn't call all that is proved. How
+// the sources are written is up to them: they have labels where a proof names a loop, and values
+// for the case that a call fails.
 ",
 };
 
@@ -99,8 +101,8 @@ const LINTS: &str =
 /// The texts of the files that are to be, by their paths in the repository.
 pub type Files = BTreeMap<PathBuf, String>;
 
-/// Erases the crates of the package, and those of the programs if `crates.txt` lists them. The repository is the
-/// folder of `crates.txt`.
+/// Erases the crates of the package, and those of the programs if `crates.txt` lists them. The
+/// repository is the folder of `crates.txt`.
 ///
 /// # Errors
 ///
@@ -184,7 +186,8 @@ fn crates_below(repository: &Path, tops: &[&str]) -> Result<Vec<Crate>, Box<dyn 
     Ok(crates.collect::<Result<_, _>>()?)
 }
 
-/// The file that has these crates as modules in the order of the table, those of the programs behind a feature.
+/// The file that has these crates as modules in the order of the table, those of the programs
+/// behind a feature.
 fn list_of(target: &Target, crates: &[&str]) -> String {
     let there = modules().filter(|it| crates.contains(&it.0));
     let modules: String = there

@@ -32,7 +32,8 @@ pub struct Source<'a> {
     pub tokens: Vec<Token>,
     /// The places of the code's tokens among all.
     pub code: Vec<usize>,
-    /// For each bracket of the code the place in the code of its partner. For other tokens their own.
+    /// For each bracket of the code the place in the code of its partner. For other tokens their
+    /// own.
     partners: Vec<usize>,
 }
 
@@ -111,8 +112,8 @@ impl<'a> Source<'a> {
         self.partners[at]
     }
 
-    /// The end of the term in the braces that open here, if any do. No bracket in the term may be in a comment or a
-    /// literal, which the kit may read in another way.
+    /// The end of the term in the braces that open here, if any do. No bracket in the term may be
+    /// in a comment or a literal, which the kit may read in another way.
     ///
     /// # Errors
     ///
@@ -184,8 +185,8 @@ impl<'a> Source<'a> {
     }
 }
 
-/// The first byte of what a term or the kit may read as a comment where Rust doesn't, or the other way round, and
-/// what it is.
+/// The first byte of what a term or the kit may read as a comment where Rust doesn't, or the other
+/// way round, and what it is.
 fn otherwise_read(text: &str, tokens: &[Token]) -> Option<(usize, &'static str)> {
     let hides = |rest: &str| rest.contains(|c| "(){}[]\"'".contains(c)) || rest.contains("/*");
     // For one of the two, a line may end there, and a comment with it.

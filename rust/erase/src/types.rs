@@ -14,8 +14,8 @@ pub(crate) type Type = Vec<String>;
 pub(crate) struct Types {
     /// Of the fields of each name, each with its file.
     fields: BTreeMap<String, Vec<(String, Type)>>,
-    /// What the functions of each name return, each with its file. The name has the type before it that has the
-    /// function.
+    /// What the functions of each name return, each with its file. The name has the type before it
+    /// that has the function.
     returned: BTreeMap<String, Vec<(String, Type)>>,
 }
 
@@ -42,7 +42,8 @@ impl Types {
         nearest(self.fields.get(name)?, path, names)
     }
 
-    /// What the methods of this name return, of whatever type they are, without `Result` and `Option`.
+    /// What the methods of this name return, of whatever type they are, without `Result` and
+    /// `Option`.
     pub(crate) fn returned_by_any(&self, name: &str, names: &Names) -> Option<Type> {
         let last = path("", name);
         let all = self.returned.iter().filter(|it| it.0.ends_with(&last));
@@ -55,8 +56,8 @@ impl Types {
     }
 }
 
-/// The type among these that a source knows by their name: those of its own file come first, and then those of its
-/// crate.
+/// The type among these that a source knows by their name: those of its own file come first, and
+/// then those of its crate.
 fn nearest(all: &[(String, Type)], path: &str, names: &Names) -> Option<Type> {
     let krate = |path: &str| path.split('/').nth(1).map(str::to_owned);
     let nearest = [
@@ -158,7 +159,8 @@ fn inner(of: &[String]) -> Type {
     }
 }
 
-/// Whether a value of this type is a list, if that is known. A slice isn't known: it has calls of a list.
+/// Whether a value of this type is a list, if that is known. A slice isn't known: it has calls of a
+/// list.
 pub(crate) fn is_list(of: &[String], names: &Names) -> Option<bool> {
     let head = head(of);
     if head == forms::LIST {

@@ -129,7 +129,8 @@ impl<'a> Walk<'a> {
         });
     }
 
-    /// The place after what goes here with the right to allocate or with a ghost type, if something does.
+    /// The place after what goes here with the right to allocate or with a ghost type, if something
+    /// does.
     pub(crate) fn gone_end(&self, at: usize) -> Option<usize> {
         let (rights, types) = (&self.rights.gone, &self.types.gone);
         rights.get(&at).or_else(|| types.get(&at)).copied()
@@ -171,8 +172,8 @@ impl<'a> Walk<'a> {
         });
     }
 
-    /// Takes out the lines of these tokens of the code, with the comments above that belong to them.
-    /// No other code may stand in the lines.
+    /// Takes out the lines of these tokens of the code, with the comments above that belong to
+    /// them. No other code may stand in the lines.
     pub(crate) fn cut_item(&mut self, from: usize, end: usize) -> Result<(), Fault> {
         let from_byte = self.begin_of_item(from)?;
         self.cut(from, from_byte, end)
@@ -201,7 +202,8 @@ impl<'a> Walk<'a> {
         Ok(())
     }
 
-    /// The byte at which the line of this token of the code begins, of which it has to be the first.
+    /// The byte at which the line of this token of the code begins, of which it has to be the
+    /// first.
     pub(crate) fn begin_of_line(&self, at: usize) -> Result<usize, Fault> {
         let from = self.source.token(at).from;
         let line = self.source.text[..from].rfind('\n').map_or(0, |at| at + 1);
@@ -211,8 +213,8 @@ impl<'a> Walk<'a> {
         Err(self.source.fault(at, "this has to begin its line"))
     }
 
-    /// The byte at which the first line of the item begins whose first token stands at this place. The
-    /// comments above belong to it, up to a blank line.
+    /// The byte at which the first line of the item begins whose first token stands at this place.
+    /// The comments above belong to it, up to a blank line.
     pub(crate) fn begin_of_item(&self, at: usize) -> Result<usize, Fault> {
         let mut begin = self.begin_of_line(at)?;
         let mut token = self.source.code[at];

@@ -82,7 +82,8 @@ fn clauses_become_comments() {
         "fn a(b: u8) -> Option<u8>\n    requires b { b ≡ { 1 } }\n    // Why.\n    ensures { IfSome result\n        \
          (λ c. c) }\n\n    ensures* d { e ∗ f }\n{\n    None\n}\n",
         "#[inline]\nfn a(b: u8) -> Option<u8>\n    // requires b { b ≡ { 1 } }\n    // Why.\n    \
-         // ensures { IfSome result\n    //     (λ c. c) }\n\n    // ensures* d { e ∗ f }\n{\n    None\n}\n",
+         // ensures { IfSome result\n    //     (λ c. c) }\n\n    // ensures* d { e ∗ f }\n{\n
+         // None\n}\n",
     );
 }
 
@@ -152,7 +153,8 @@ fn names_of_definitions_are_links_in_the_docs() {
         "ghost use Rattle.ent_here.specs.First.Fault.{P as Q, r, p};\nghost use Rattle.std.specs.FinSet as set;\n\
          ghost use Rattle.std.specs.Prelude.{◌*◌, All};\n\
          ghost use Rattle.std.specs.declared.option.Option.TheVariants.{Some};\n\n\
-         /// Of a.\npub fn a(b: u8)\n    ensures p { Q (λ r. r * p) b.p }\n    ensures { set.len b < All (Some b) }\n{\n}\n",
+         /// Of a.\npub fn a(b: u8)\n    ensures p { Q (λ r. r * p) b.p }\n    ensures { set.len b <
+         /// All (Some b) }\n{\n}\n",
         &format!("/// Of a.\n{contract}#[inline]\npub fn a(b: u8) {{\n}}\n").replace(
             " p) b.p",
             " [p](crate::contracts::ent_here::first_fault#p)) b.p",
@@ -244,7 +246,8 @@ fn who_may_call_a_function_with_a_condition() {
         "pub use b::a;\npub use b::{C, d};\n\nmod b {\n    pub fn a()\n        requires { c }\n    {\n    }\n\n    \
          pub fn d() {}\n\n    pub struct C;\n}\n",
         "pub(crate) use b::a;\npub use b::{C, d};\n\nmod b {\n    #[inline]\n    pub(crate) fn a()\n        \
-         // requires { c }\n    {\n    }\n\n    #[inline]\n    pub fn d() {}\n\n    pub struct C;\n}\n",
+         // requires { c }\n    {\n    }\n\n    #[inline]\n    pub fn d() {}\n\n    pub struct
+         // C;\n}\n",
     );
 }
 
@@ -428,7 +431,8 @@ fn layouts() {
     stays("pub struct Handle {\n    bits: u32,\n}\n");
 }
 
-/// The source of a system's handles has a default, once. No other parameter has one, nor another trait.
+/// The source of a system's handles has a default, once. No other parameter has one, nor another
+/// trait.
 #[test]
 fn default_of_a_parameter() {
     let header = "pub trait System<S: Source>";
@@ -480,7 +484,8 @@ fn data() {
     assert_eq!(body(&result), Some(plain.as_str()));
 }
 
-/// The equality of a handle is printed as the derive, if it is that of the derive. That of another type stays.
+/// The equality of a handle is printed as the derive, if it is that of the derive. That of another
+/// type stays.
 #[test]
 fn equality_of_one_field() {
     let result = |source: &str| erased_of("ent_handle", PATH, source, "").map(|it| it.0);

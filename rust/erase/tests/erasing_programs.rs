@@ -3,7 +3,8 @@
 mod common;
 use common::{audited_program, erased, erased_program};
 
-/// The result of the source as one of a program has to be this one, and as one of another crate there is none.
+/// The result of the source as one of a program has to be this one, and as one of another crate
+/// there is none.
 #[track_caller]
 fn gives(source: &str, wanted: &str) {
     let result = erased_program(source).expect("known forms");

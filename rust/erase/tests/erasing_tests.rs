@@ -1,4 +1,5 @@
-//! Forms of the repository's own tests, which the kit hands a runtime. The package has none of them.
+//! Forms of the repository's own tests, which the kit hands a runtime. The package has none of
+//! them.
 
 mod common;
 use common::{erased, erased_test};

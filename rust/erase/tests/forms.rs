@@ -1,7 +1,7 @@
-//! Forms that could become another program. Each file of `forms` has one. Its first line says what the form is, and
-//! its second what becomes of it: `refused: LINE: WHY`; `stopped: WHY`, if the package's kit refuses it at compile
-//! time; or `shown: VALUE`, which its function `shown` must return in a debug build and in a release build of the
-//! package's edition.
+//! Forms that could become another program. Each file of `forms` has one. Its first line says what
+//! the form is, and its second what becomes of it: `refused: LINE: WHY`; `stopped: WHY`, if the
+//! package's kit refuses it at compile time; or `shown: VALUE`, which its function `shown` must
+//! return in a debug build and in a release build of the package's edition.
 
 mod common;
 use common::erased_as;

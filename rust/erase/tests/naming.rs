@@ -20,8 +20,8 @@ fn differ(before: &str, after: &str) -> Result<(), Fault> {
     )
 }
 
-/// What is declared, imported, or named by a path has the package's name. A variant of the same name stays, and so does what another crate
-/// declares.
+/// What is declared, imported, or named by a path has the package's name. A variant of the same
+/// name stays, and so does what another crate declares.
 #[test]
 fn names_of_the_package() {
     let text = "use crate::handles::{Handle, Memory};\n\npub enum AllocFault {\n    Memory,\n    Other(Memory),\n}\n\n\
@@ -89,7 +89,8 @@ fn what_is_no_name() {
     assert!(differ("fn a() -> Memory {}", "fn a() -> OutOfMemory {}").is_ok());
 }
 
-/// The functions of a type by topic, and then those that no topic has. Blocks of one header become one.
+/// The functions of a type by topic, and then those that no topic has. Blocks of one header become
+/// one.
 #[test]
 fn topics() {
     let text = "//! A.\n\nimpl Entities {\n    /// B.\n    pub fn len(&self) {}\n\n    fn own() {}\n\n    pub const fn with_limits() {}\n}\n\n\

@@ -1,5 +1,5 @@
-//! The calls of `crates/cases_and_examples/data`, each with what it has to return, made of the erased
-//! code; and the examples of that crate, with what they have to print.
+//! The calls of `crates/cases_and_examples/data`, each with what it has to return, made of the
+//! erased code; and the examples of that crate, with what they have to print.
 
 use crate::host::env::start_with;
 use crate::host::rt::{printed, HostRuntime};

@@ -1,7 +1,7 @@
 //! The repository's own tests of its proved crates, on their sources in plain Rust.
 //!
-//! The crates and their kit are those of the package, by path. `rust/erase --tests` makes the tests of
-//! `made`, of those in Rattle. Those of `values` are written here.
+//! The crates and their kit are those of the package, by path. `rust/erase --tests` makes the tests
+//! of `made`, of those in Rattle. Those of `values` are written here.
 #![cfg(test)]
 
 extern crate alloc;

@@ -48,8 +48,8 @@ struct Schedule {
 }
 
 impl Schedule {
-    /// The schedule of this seed. While it is made it is replayed, so that it frees handles that there
-    /// are, and steps of calls that are open.
+    /// The schedule of this seed. While it is made it is replayed, so that it frees handles that
+    /// there are, and steps of calls that are open.
     fn of(seed: u64) -> Self {
         let mut random = Random(seed);
         let limits = Limits::new(random.of(&SLOTS), random.of(&GENERATIONS)).expect("limits");

@@ -13,7 +13,8 @@ const MOST: usize = 40;
 
 /// Events that follow each other, and what held before them.
 ///
-/// Its *intervals* lie before, between and after its events. So there is one more than there are events.
+/// Its *intervals* lie before, between and after its events. So there is one more than there are
+/// events.
 #[derive(Clone, Copy)]
 pub(super) struct Band<'a> {
     pub(super) before: &'a State,
@@ -94,7 +95,8 @@ impl<'a> Band<'a> {
         rows.flat_map(|row| row.bars)
     }
 
-    /// How many intervals a text that begins with the bar may take, if no thick line is to cross it.
+    /// How many intervals a text that begins with the bar may take, if no thick line is to cross
+    /// it.
     pub(super) fn room<T>(self, bar: &Bar<T>) -> usize {
         let inner = &self.moments[bar.begin..bar.end - 1];
         let plain = inner.iter().take_while(|moment| moment.mark == Mark::Plain);

@@ -10,8 +10,8 @@ use std::vec::Vec;
 const HEADER: usize = 40;
 const SLOT: usize = 12;
 
-/// Entities, and the state that shows them. Each call is one of the entities. What they refuse changes nothing that is
-/// drawn but the cursor.
+/// Entities, and the state that shows them. Each call is one of the entities. What they refuse
+/// changes nothing that is drawn but the cursor.
 pub(super) struct Followed {
     pub(super) entities: Entities,
     pub(super) state: State,
@@ -22,7 +22,8 @@ impl Followed {
         Self::of(Entities::with_exact_limits(limits), BTreeMap::new())
     }
 
-    /// The entities of an image. No image says for which caller a slot is reserved, so that one shows as waiting.
+    /// The entities of an image. No image says for which caller a slot is reserved, so that one
+    /// shows as waiting.
     pub(super) fn of_image(image: &[u8]) -> Result<Self, ImageFault> {
         let entities = Entities::read_image(image)?;
         let (_, slots) = image.split_at(HEADER);

@@ -6,8 +6,8 @@ use std::string::String;
 use std::vec;
 use std::vec::Vec;
 
-/// How wide a text in the font of bars and events is, in pixels. Fonts of this kind have letters that are 0.6 times as
-/// wide as the font is high, or a bit more.
+/// How wide a text in the font of bars and events is, in pixels. Fonts of this kind have letters
+/// that are 0.6 times as wide as the font is high, or a bit more.
 pub(super) fn width_of(text: &str) -> usize {
     (text.chars().count() * 61).div_ceil(10)
 }
@@ -39,7 +39,8 @@ impl Label {
         Label { class, texts }
     }
 
-    /// The label of an open call: how many handles it requests, and after its step the cursor before and after that.
+    /// The label of an open call: how many handles it requests, and after its step the cursor
+    /// before and after that.
     pub(super) fn of_call(call: OpenCall) -> Self {
         let (class, texts) = match call.span {
             None => {
@@ -96,7 +97,8 @@ impl Label {
 mod tests {
     use super::*;
 
-    /// Each text is the widest that its own width has room for, and the last one is written in any room.
+    /// Each text is the widest that its own width has room for, and the last one is written in any
+    /// room.
     #[test]
     fn a_bar_has_the_longest_text_that_fits() {
         let reserved = Occupant::Reserved {

@@ -16,7 +16,8 @@ pub(super) const NAME_PADDING: usize = 8;
 /// How high a row is.
 pub(super) const ROW: usize = 18;
 
-/// What is left free on each side of a text in a bar, with the bar's own distance from the lines of events.
+/// What is left free on each side of a text in a bar, with the bar's own distance from the lines of
+/// events.
 pub(super) const PADDING: usize = 5;
 
 /// How far the two lines of a level text are apart.
@@ -25,7 +26,8 @@ pub(super) const LEVEL_LINE: usize = 12;
 /// The narrowest column: rising texts don't touch.
 const LEAST_COLUMN: usize = 16;
 
-/// The widest column that is made only so that the texts of events needn't rise, and the most events of such a picture.
+/// The widest column that is made only so that the texts of events needn't rise, and the most
+/// events of such a picture.
 const MOST_LEVEL: (usize, usize) = (120, 14);
 
 /// How a timeline is laid out. An interval is as wide as a column.

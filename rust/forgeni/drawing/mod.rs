@@ -1,7 +1,9 @@
-//! Pictures of schedules and traces, as SVG. They are in the programs that cargo builds, and in no others.
+//! Pictures of schedules and traces, as SVG. They are in the programs that cargo builds, and in no
+//! others.
 //!
-//! All of it is by hand, and not proved. It decides nothing of an allocator: what it draws of a schedule the proved
-//! `Machine` and `Entities` answered (`replayed`), and which line of a trace is red the proved `Comparer` says (`traced`).
+//! All of it is by hand, and not proved. It decides nothing of an allocator: what it draws of a
+//! schedule the proved `Machine` and `Entities` answered (`replayed`), and which line of a trace is
+//! red the proved `Comparer` says (`traced`).
 
 mod band;
 mod followed;

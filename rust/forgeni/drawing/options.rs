@@ -8,7 +8,8 @@ use crate::kit::programs::rt::HostRuntime;
 use crate::kit::programs::string::AsStr;
 use std::fs::File;
 
-/// A command with the options `--slots` and `--generations`, as `spawnrun replay` and `tracecheck` have them.
+/// A command with the options `--slots` and `--generations`, as `spawnrun replay` and `tracecheck`
+/// have them.
 pub(super) fn with_limits(command: Command<'_>) -> Result<Command<'_>, AllocError> {
     let slots = number(
         "slots",
@@ -37,8 +38,8 @@ pub(super) fn limits_of(options: &ArgMatches<'_>) -> Limits {
     limits.unwrap_or(Limits::GREATEST)
 }
 
-/// The file that the last word names, by the rule of the proved programs: the words before it are a command line, all
-/// words aren't, and it is no option. An `Err` says why that file isn't read.
+/// The file that the last word names, by the rule of the proved programs: the words before it are a
+/// command line, all words aren't, and it is no option. An `Err` says why that file isn't read.
 pub(super) fn named_file<W: AsStr>(
     rt: HostRuntime,
     words: &[W],

@@ -1,7 +1,8 @@
 //! The timeline of a schedule.
 //!
-//! The proved `Machine` says what each event gives. Beside it the proved `Entities` follows each event that was applied,
-//! since a machine shows its cursor only at a step, and lists the handles of a reservation only at the answer.
+//! The proved `Machine` says what each event gives. Beside it the proved `Entities` follows each
+//! event that was applied, since a machine shows its cursor only at a step, and lists the handles
+//! of a reservation only at the answer.
 
 use super::followed::Followed;
 use super::state::OpenCall;
@@ -11,7 +12,8 @@ use crate::traces::{write_outcome, Event, Machine, Outcome, ReplayFault};
 use std::string::{String, ToString};
 use std::vec::Vec;
 
-/// The timeline of the events that this text spells, line by line, from an empty allocator of these limits on.
+/// The timeline of the events that this text spells, line by line, from an empty allocator of these
+/// limits on.
 pub(super) fn replayed(limits: Limits, text: &str, events: &[Event]) -> Result<Timeline, Undrawn> {
     if events.len() > MOST_EVENTS {
         return Err(Undrawn::Events(events.len()));

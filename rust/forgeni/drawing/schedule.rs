@@ -1,4 +1,5 @@
-//! `spawnrun draw`: a picture of the schedule on standard input, or in the file that the last word names.
+//! `spawnrun draw`: a picture of the schedule on standard input, or in the file that the last word
+//! names.
 
 use super::options::{limits_in, named_file, with_limits};
 use super::picture::{Caption, Picture};
@@ -33,7 +34,8 @@ const ABOUT: &str = "Time runs from left to right, and goes on below. Each verti
 /// The exit status for words that are no command line, and for a request for help.
 const LINE_FAULT: u8 = 2;
 
-/// Draws a schedule, if the first word after the program's name is `draw`, and ends with the returned status.
+/// Draws a schedule, if the first word after the program's name is `draw`, and ends with the
+/// returned status.
 pub(crate) fn schedule_if_asked(rt: HostRuntime) -> Option<ExitCode> {
     let first = std::env::args_os().nth(1);
     let is_asked = first.is_some_and(|word| word == "draw");

@@ -29,8 +29,8 @@ pub(super) struct OpenCall {
     pub(super) span: Option<(i64, i64)>,
 }
 
-/// What holds between two events: the occupant of each slot that was made or reserved, the open call of each caller, and
-/// the cursor, if it is known.
+/// What holds between two events: the occupant of each slot that was made or reserved, the open
+/// call of each caller, and the cursor, if it is known.
 #[derive(Clone, Debug, Default, PartialEq, Eq)]
 pub(super) struct State {
     pub(super) slots: BTreeMap<u32, Occupant>,

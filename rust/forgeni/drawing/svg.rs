@@ -55,7 +55,8 @@ impl Svg {
         ));
     }
 
-    /// A text whose baseline begins, ends or has its middle there, as the class says. No text is no element.
+    /// A text whose baseline begins, ends or has its middle there, as the class says. No text is no
+    /// element.
     pub(super) fn text(&mut self, class: &str, at: Point, text: &str) {
         if text.is_empty() {
             return;

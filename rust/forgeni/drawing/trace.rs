@@ -1,8 +1,9 @@
 //! `tracecheck --draw FILE`: a picture of the run in which a trace differs.
 //!
-//! The check itself is that of the proved program, which is started once more with the other words. It reads what this
-//! process has read, writes to the same streams, and its exit status is the one of this process too. The picture comes
-//! after it. If the check is killed, the status is 4, the error stream says so, and there is no picture.
+//! The check itself is that of the proved program, which is started once more with the other words.
+//! It reads what this process has read, writes to the same streams, and its exit status is the one
+//! of this process too. The picture comes after it. If the check is killed, the status is 4, the
+//! error stream says so, and there is no picture.
 
 use super::followed::Followed;
 use super::options::{limits_of, named_file, with_limits};
@@ -50,7 +51,8 @@ const BEGIN: &[u8] = b"<svg ";
 /// How many letters a line of text in the picture has at most.
 const LINE: usize = 110;
 
-/// Checks and draws a trace, if a word is `--draw` or `--draw=FILE`, and ends with the returned status.
+/// Checks and draws a trace, if a word is `--draw` or `--draw=FILE`, and ends with the returned
+/// status.
 pub(crate) fn trace_if_asked(rt: HostRuntime) -> Option<ExitCode> {
     let mut words = std::env::args_os().skip(1);
     let is_asked = words.any(|word| word.to_str().is_some_and(is_option));
@@ -98,7 +100,8 @@ fn file_in<'a>(words: &[&'a str]) -> (Option<&'a str>, Vec<&'a str>) {
 /// An exit status, and the text that explains it.
 type Failure = (u8, String);
 
-/// Checks the trace on standard input, or in the file that the last word names, and draws it if it differs.
+/// Checks the trace on standard input, or in the file that the last word names, and draws it if it
+/// differs.
 fn check(rt: HostRuntime, file: &str, words: &[&str]) -> Result<u8, Failure> {
     if would_be_lost(file) {
         return Err((
@@ -117,7 +120,8 @@ fn check(rt: HostRuntime, file: &str, words: &[&str]) -> Result<u8, Failure> {
     }
 }
 
-/// Whether a file of this name has something else than a picture in it, as a trace that is named in the picture's place.
+/// Whether a file of this name has something else than a picture in it, as a trace that is named in
+/// the picture's place.
 fn would_be_lost(file: &str) -> bool {
     let is_file = std::fs::metadata(file).is_ok_and(|found| found.is_file() && found.len() > 0);
     is_file && !begins_with(file, BEGIN)
@@ -162,7 +166,8 @@ fn check_alone(words: &[&str], trace: &[u8]) -> Result<u8, Failure> {
     status_of(ended)
 }
 
-/// The exit status of the check. A check that was killed has none, so nothing is known of the trace then.
+/// The exit status of the check. A check that was killed has none, so nothing is known of the trace
+/// then.
 fn status_of(ended: ExitStatus) -> Result<u8, Failure> {
     let status = ended.code().and_then(|code| u8::try_from(code).ok());
     status.ok_or_else(|| (DEVICE, format!("the check was ended: {ended}\n")))
@@ -186,7 +191,8 @@ fn draw(file: &str, begin: Followed, trace: &[u8]) -> Result<(), Failure> {
     written.map_err(|error| (DEVICE, format!("{file} can't be written: {error}\n")))
 }
 
-/// Where a trace begins: with an allocator of these limits, or with the image in the file of this name.
+/// Where a trace begins: with an allocator of these limits, or with the image in the file of this
+/// name.
 enum Beginning<'a> {
     Limits(Limits),
     Image(&'a str),

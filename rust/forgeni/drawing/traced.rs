@@ -1,7 +1,7 @@
 //! The timeline of a trace that differs: the run that breaks.
 //!
-//! Up to that run the trace agrees, so what held there is read from the proved `Entities`. From there on it is what the
-//! lines say, in the order of their numbers.
+//! Up to that run the trace agrees, so what held there is read from the proved `Entities`. From
+//! there on it is what the lines say, in the order of their numbers.
 
 use super::followed::Followed;
 use super::state::{Occupant, State};
@@ -30,7 +30,8 @@ pub(super) struct BrokenRun {
 }
 
 impl BrokenRun {
-    /// The run of this trace, which begins so, in which the proved `Comparer` finds a difference. `None` if it finds none.
+    /// The run of this trace, which begins so, in which the proved `Comparer` finds a difference.
+    /// `None` if it finds none.
     pub(super) fn find(begin: Followed, trace: &[u8]) -> Option<Self> {
         let mut comparer = Comparer::from_entities(begin.entities.try_clone().ok()?);
         let mut followed = begin;
@@ -75,8 +76,8 @@ impl BrokenRun {
         Ok(String::from_utf8_lossy(&text).to_string())
     }
 
-    /// The timeline of the run. If that has too many lines or slots, it is of the lines alone that name a slot of the
-    /// difference.
+    /// The timeline of the run. If that has too many lines or slots, it is of the lines alone that
+    /// name a slot of the difference.
     pub(super) fn timeline(&self) -> Result<Timeline, Undrawn> {
         let all: Vec<&Line> = self.lines.iter().collect();
         if let Ok(timeline) = self.timeline_of(&all) {
@@ -136,13 +137,15 @@ fn follow(followed: &mut Followed, lines: &[Line]) -> Result<(), OutOfMemory> {
         Call::Reserve(reservation) => Some(reservation),
         _ => None,
     });
-    // In every order in which the run agrees, those that are refused come after those that are served.
+    // In every order in which the run agrees, those that are refused come after those that are
+    // served.
     let is_served = |one: &&Reservation| matches!(one.reply, ReserveReply::Handles(_));
     let (served, refused): (Vec<_>, Vec<_>) = run.partition(is_served);
     for one in served.iter().chain(&refused) {
         followed.reserve(one.caller, one.requested);
     }
-    // In the order of their numbers the requests may have given the handles of one caller to another.
+    // In the order of their numbers the requests may have given the handles of one caller to
+    // another.
     for line in lines {
         if let Call::Reserve(_) = line.call {
             claim(&mut followed.state, &line.call);
@@ -208,7 +211,8 @@ fn slots_of(call: &Call) -> impl Iterator<Item = u32> + '_ {
     one.into_iter().chain(many).map(|handle| handle.index())
 }
 
-/// The text of a call, and the answer beside it, if that gave nothing. Handles aren't in the text: bars show them.
+/// The text of a call, and the answer beside it, if that gave nothing. Handles aren't in the text:
+/// bars show them.
 fn texts_of(call: &Call) -> Result<(String, Option<String>), OutOfMemory> {
     let mut line = Vec::new();
     write_line(&mut line, call)?;

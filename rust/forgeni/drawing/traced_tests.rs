@@ -174,8 +174,8 @@ fn a_run_with_refused_requests() {
     assert_eq!(line.moments[0].note.as_deref(), Some("space"));
 }
 
-/// A trace that begins with an image: of four slots the first one is retired, the second one waits, the third one has an
-/// entity, and the last one is reserved, for nobody knows whom.
+/// A trace that begins with an image: of four slots the first one is retired, the second one waits,
+/// the third one has an entity, and the last one is reserved, for nobody knows whom.
 #[test]
 fn a_trace_from_an_image() {
     let limits = Limits::new(9, 2).expect("limits");

@@ -1,5 +1,5 @@
-//! An allocator of Bevy's form, used by threads, recorded and checked; and then with each of ten faults
-//! that people have made in theirs.
+//! An allocator of Bevy's form, used by threads, recorded and checked; and then with each of ten
+//! faults that people have made in theirs.
 //!
 //! It prints
 //!
@@ -87,8 +87,8 @@ impl Fault {
     }
 }
 
-/// The allocator. The slots in `pending` below the cursor wait, and those above it are reserved. Below 0
-/// the cursor counts new slots.
+/// The allocator. The slots in `pending` below the cursor wait, and those above it are reserved.
+/// Below 0 the cursor counts new slots.
 struct Allocator {
     generations: Vec<u32>,
     pending: Vec<u32>,
@@ -280,7 +280,8 @@ impl Crew {
         }
     }
 
-    /// What is done between two phases: the logs are joined, and then come calls that nothing overlaps.
+    /// What is done between two phases: the logs are joined, and then come calls that nothing
+    /// overlaps.
     fn lead(&self) -> Result<u64, CheckError> {
         let limits = Limits::new(u32::MAX, GENERATIONS).expect("limits");
         let mut checker = Checker::new(limits);

@@ -1,9 +1,11 @@
-//! A game to begin from, of 10,000 ships with drones. A frame has two stages of four systems, which run side
-//! by side on threads. Those of the first stage change components, each those of one map: if two changed the
-//! same map, it wouldn't compile. Those of the second stage look at all components, spawn, and issue commands
-//! of the game's own type, each into its log. A sync point runs the commands in the order of the systems.
+//! A game to begin from, of 10,000 ships with drones. A frame has two stages of four systems, which
+//! run side by side on threads. Those of the first stage change components, each those of one map:
+//! if two changed the same map, it wouldn't compile. Those of the second stage look at all
+//! components, spawn, and issue commands of the game's own type, each into its log. A sync point
+//! runs the commands in the order of the systems.
 //!
-//! The game runs on 1, 2, 4 and 8 threads. Which handles it gets depends on them, and nothing else does:
+//! The game runs on 1, 2, 4 and 8 threads. Which handles it gets depends on them, and nothing else
+//! does:
 //!
 //! ```text
 //! threads: 1, launched: 46519, lost: 15871, digest: 782db46486321508
@@ -163,8 +165,8 @@ impl Game {
         self.sync(logs)
     }
 
-    /// Brings to life what was spawned, and runs the commands. The first that fails ends the game, and
-    /// so does a spawn that was refused.
+    /// Brings to life what was spawned, and runs the commands. The first that fails ends the game,
+    /// and so does a spawn that was refused.
     fn sync(&mut self, mut logs: Vec<Log<Command>>) -> Result<(), Box<dyn Error>> {
         let mut sync = SyncPoint::begin(&mut self.entities, &mut logs, &mut Vec::new())?;
         sync.apply(&mut self.entities, |entities, entry| match entry {

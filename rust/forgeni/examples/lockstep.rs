@@ -1,11 +1,13 @@
-//! A simulation that is the same on every machine, handles included: 10,000 frames with the same inputs
-//! on one worker, on four and on eight. After each frame a digest of all handles and components is the
-//! same, though the workers take the systems in whatever order they come. Each 1,000 frames the game
-//! steps back eight frames and plays them again, and each digest is that of the first time.
+//! A simulation that is the same on every machine, handles included: 10,000 frames with the same
+//! inputs on one worker, on four and on eight. After each frame a digest of all handles and
+//! components is the same, though the workers take the systems in whatever order they come. Each
+//! 1,000 frames the game steps back eight frames and plays them again, and each digest is that of
+//! the first time.
 //!
-//! Systems spawn while they run, in blocks: each system has a block of handles of its own, so which handle
-//! a spawn gets doesn't depend on the other systems. A system's next block is twice what it used of this
-//! one, at least 64. The sizes are a part of the game, so a frame that is played again has the same ones.
+//! Systems spawn while they run, in blocks: each system has a block of handles of its own, so which
+//! handle a spawn gets doesn't depend on the other systems. A system's next block is twice what it
+//! used of this one, at least 64. The sizes are a part of the game, so a frame that is played again
+//! has the same ones.
 //!
 //! It prints
 //!
@@ -19,8 +21,8 @@
 //! on 8 workers: the same bytes after each frame
 //! ```
 //!
-//! The last lines are of a game whose entities and components are in a `World`. What is compared is its image,
-//! so it is the same births too, and the same handles that come next.
+//! The last lines are of a game whose entities and components are in a `World`. What is compared is
+//! its image, so it is the same births too, and the same handles that come next.
 
 use forgeni::{fill_in_blocks, CommandsInBlocks, ComponentId, View, World};
 use forgeni::{run_in_blocks, BlockCommands, BlockSize, Entities, Entry, Handle, HandleMap};
@@ -60,7 +62,8 @@ fn spawn(
 ) -> std::result::Result<(), OutOfMemory> {
     match commands.spawn() {
         Ok(new) => commands.push(Command::Change(new, energy)),
-        // A block that is used up refuses, and it does so on every machine. The sync point counts it.
+        // A block that is used up refuses, and it does so on every machine. The sync point counts
+        // it.
         Err(refused) => refused.or_memory(),
     }
 }
@@ -207,7 +210,8 @@ fn play(workers: usize) -> Result<(Vec<u64>, Game, u64)> {
 const WORLD_FRAMES: u64 = 1_000;
 const ENERGY: ComponentId = ComponentId(0);
 
-/// A system of that game: as `Game::run`, but it reads the world, and issues the world's own commands.
+/// A system of that game: as `Game::run`, but it reads the world, and issues the world's own
+/// commands.
 fn run_in_world(
     system: usize,
     view: &View<'_>,

@@ -1,10 +1,10 @@
 //! A small engine with components of its own types: 100,000 sparks that fly, burn out, and light
-//! others. Each frame, systems on threads look for those that burn out, and reserve handles for those
-//! that they light. At the sync point all of that takes effect.
+//! others. Each frame, systems on threads look for those that burn out, and reserve handles for
+//! those that they light. At the sync point all of that takes effect.
 //!
-//! `cargo run --release --example particles 500` runs 500 frames. It runs all of them on 1, 2, 4 and
-//! 8 threads, and says on the standard error how many frames a second that were. Which handle a spark
-//! has depends on the threads, and nothing else does:
+//! `cargo run --release --example particles 500` runs 500 frames. It runs all of them on 1, 2, 4
+//! and 8 threads, and says on the standard error how many frames a second that were. Which handle a
+//! spark has depends on the threads, and nothing else does:
 //!
 //! ```text
 //! 10 frames: 17948 burnt, 17995 lit, 100047 living
@@ -122,7 +122,8 @@ impl Game {
         self.sync(wanted)
     }
 
-    /// Runs a system for each part of the sparks. A thread takes the next part that nobody has taken.
+    /// Runs a system for each part of the sparks. A thread takes the next part that nobody has
+    /// taken.
     fn systems(&mut self, threads: usize) -> Result<Vec<Wanted>, Failed> {
         let living: Vec<Handle> = self.entities.iter().collect();
         let parts: Vec<&[Handle]> = living.chunks(PART).collect();

@@ -1,12 +1,13 @@
-//! A game that steps back, as one does when the inputs of a player come late: it keeps eight snapshots in
-//! a ring, and plays from the oldest one again.
+//! A game that steps back, as one does when the inputs of a player come late: it keeps eight
+//! snapshots in a ring, and plays from the oldest one again.
 //!
-//! Four workers reserve handles side by side, so which spark has which one is a matter of luck, also
-//! when a frame is played again. Nothing here depends on that: a spark goes by its seed, and a digest
-//! adds up the sparks in any order. A game that sends handles to other machines reserves on one worker:
-//! with one, the handles are compared too.
+//! Four workers reserve handles side by side, so which spark has which one is a matter of luck,
+//! also when a frame is played again. Nothing here depends on that: a spark goes by its seed, and a
+//! digest adds up the sparks in any order. A game that sends handles to other machines reserves on
+//! one worker: with one, the handles are compared too.
 //!
-//! How long a frame and a snapshot take goes to the standard error (see it with `--release`). It prints
+//! How long a frame and a snapshot take goes to the standard error (see it with `--release`). It
+//! prints
 //!
 //! ```text
 //! 24 frames: 50079 sparks, digest 42ca87774f266707
@@ -124,7 +125,8 @@ impl Game {
         Ok(())
     }
 
-    /// Runs `burn` on each worker, for its part of the sparks. What they reserve is alive at the end.
+    /// Runs `burn` on each worker, for its part of the sparks. What they reserve is alive at the
+    /// end.
     fn burn_all(&mut self) -> Result<Vec<Burnt>> {
         let living: Vec<Handle> = self.entities.iter().collect();
         let (lives, part) = (&self.sparks.lives, living.len() / self.workers + 1);

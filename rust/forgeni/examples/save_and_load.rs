@@ -1,11 +1,13 @@
 //! A game that one process saves, and that goes on in another one.
 //!
-//! The save has the image of the allocator and the sparks in the order of their rows. It is made in the
-//! middle of a frame, while handles are reserved for the sparks to come: the flush of the process that
-//! loads it brings them to life. Then both processes play on, and give the same handles.
+//! The save has the image of the allocator and the sparks in the order of their rows. It is made in
+//! the middle of a frame, while handles are reserved for the sparks to come: the flush of the
+//! process that loads it brings them to life. Then both processes play on, and give the same
+//! handles.
 //!
-//! `save_and_load save FILE` and `save_and_load load FILE` do one half each, also on different machines.
-//! How long a save and a load take goes to the standard error (see it with `--release`). It prints
+//! `save_and_load save FILE` and `save_and_load load FILE` do one half each, also on different
+//! machines. How long a save and a load take goes to the standard error (see it with `--release`).
+//! It prints
 //!
 //! ```text
 //! saved in a frame: 50000 sparks, living or reserved
@@ -55,7 +57,8 @@ impl Game {
         Ok(())
     }
 
-    /// The first half of a frame: one of sixteen sparks burns out, and for each a handle is reserved.
+    /// The first half of a frame: one of sixteen sparks burns out, and for each a handle is
+    /// reserved.
     fn burn(&mut self, frame: u64) -> Result<()> {
         let lit = self.sparks.len();
         for row in (0..lit).rev() {

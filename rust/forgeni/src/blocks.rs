@@ -1,5 +1,5 @@
-//! Blocks: the handles that come next are [dealt](crate::Entities::open_in_blocks) to callers beforehand, so which
-//! thread is first makes no difference to them.
+//! Blocks: the handles that come next are [dealt](crate::Entities::open_in_blocks) to callers
+//! beforehand, so which thread is first makes no difference to them.
 
 use crate::in_blocks::open_in_blocks;
 use crate::numbers::next_number;
@@ -12,16 +12,18 @@ pub use crate::in_blocks::{DealError, EndError};
 
 /// # Blocks
 impl Entities {
-    /// Deals the handles that would be given next to callers, in blocks of these sizes: each caller gets
-    /// a reserver of its own block. A block is smaller where the allocator has no more handles.
+    /// Deals the handles that would be given next to callers, in blocks of these sizes: each caller
+    /// gets a reserver of its own block. A block is smaller where the allocator has no more
+    /// handles.
     ///
-    /// [`share`](Self::share) gives each request the next handle, so which thread gets which depends on
-    /// who was first. In blocks it doesn't: the handles of a caller depend on the allocator, on the
-    /// sizes, and on what this caller reserved before. So a simulation is the same on every number of
-    /// threads, if its callers are its systems. A reservation makes no atomic step.
+    /// [`share`](Self::share) gives each request the next handle, so which thread gets which
+    /// depends on who was first. In blocks it doesn't: the handles of a caller depend on the
+    /// allocator, on the sizes, and on what this caller reserved before. So a simulation is the
+    /// same on every number of threads, if its callers are its systems. A reservation makes no
+    /// atomic step.
     ///
-    /// Opening takes time and memory for each block, however large they are. [`Blocks::close`] gives the
-    /// allocator back, and a [`flush`](Self::flush) brings to life what was used.
+    /// Opening takes time and memory for each block, however large they are. [`Blocks::close`]
+    /// gives the allocator back, and a [`flush`](Self::flush) brings to life what was used.
     ///
     /// ```
     /// use forgeni::Entities;

@@ -28,8 +28,8 @@ impl Entities {
 
 /// # A flush by a closure
 impl Entities {
-    /// Like [`flush`](Self::flush), but passes each handle to `each`, in the same order. All of them
-    /// are alive before the first call, and stay alive if `each` panics.
+    /// Like [`flush`](Self::flush), but passes each handle to `each`, in the same order. All of
+    /// them are alive before the first call, and stay alive if `each` panics.
     ///
     /// ```
     /// use forgeni::Entities;

@@ -150,10 +150,11 @@ tuples_follow!(A a B b C c D d E e F f G g H h);
 /// Each field is a [`HandleMap`] or a [`SparseMap`], and has the attributes and the visibility that
 /// it is given. Beside what it derives, the struct has:
 /// - `forget(handle)` and `despawn(&mut entities, handle)`, those of [`Follows`];
-/// - `sweep(&entities)`, which drops the values of all handles that are neither alive nor reserved. Call it
-///   after entities were freed elsewhere, or a save was read: see [`AnyMap::sweep`](crate::AnyMap::sweep);
-/// - `stale(&entities)`, which returns the name of a map and a handle of it that `sweep` would drop, if
-///   there is one, for who refuses such a save;
+/// - `sweep(&entities)`, which drops the values of all handles that are neither alive nor reserved.
+///   Call it after entities were freed elsewhere, or a save was read: see
+///   [`AnyMap::sweep`](crate::AnyMap::sweep);
+/// - `stale(&entities)`, which returns the name of a map and a handle of it that `sweep` would
+///   drop, if there is one, for who refuses such a save;
 /// - `clear()`, which drops all values, and `lens()`, which returns the name of each map and how
 ///   many values it has;
 /// - `try_clone()` and `try_clone_from(&source)`, if the values are `Clone`: a snapshot, and the
@@ -227,8 +228,8 @@ macro_rules! tables {
                 $($crate::AnyMap::sweep(&mut self.$map, entities);)+
             }
 
-            /// A map that has a value of a handle that is neither alive nor reserved, by its name, and
-            /// the handle.
+            /// A map that has a value of a handle that is neither alive nor reserved, by its name,
+            /// and the handle.
             $seen fn stale(
                 &self,
                 entities: &$crate::Entities,

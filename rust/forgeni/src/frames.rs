@@ -1,4 +1,5 @@
-//! Frames: systems run on workers over one world or one allocator, and a sync point takes what they issued.
+//! Frames: systems run on workers over one world or one allocator, and a sync point takes what they
+//! issued.
 
 use crate::guarding::{caught, guarded};
 use crate::running::NoGate;
@@ -23,17 +24,17 @@ pub use crate::system::*;
 ///
 /// # What depends on the workers
 ///
-/// Which handles a system gets depends on the workers. The births, the components and the faults don't, as
-/// long as
+/// Which handles a system gets depends on the workers. The births, the components and the faults
+/// don't, as long as
 ///
-/// - no spawn is refused: if slots or a quota run out, late requests are refused, and which requests are
-///   late depends on the workers;
+/// - no spawn is refused: if slots or a quota run out, late requests are refused, and which
+///   requests are late depends on the workers;
 /// - no allocation fails;
-/// - nothing depends on handles: no system compares them or keeps them as values, and no two entities have
-///   the same birth. [`View::by_birth`](crate::View::by_birth) and [`View::with`](crate::View::with)
-///   list entities of one birth by handle. [`World::spawn`] gives each entity a birth of its own.
-///   [`World::spawn_with_birth`] may not, and a [`World::flush`] after a lost frame begins with the births
-///   that `World::spawn` gave in that phase.
+/// - nothing depends on handles: no system compares them or keeps them as values, and no two
+///   entities have the same birth. [`View::by_birth`](crate::View::by_birth) and
+///   [`View::with`](crate::View::with) list entities of one birth by handle. [`World::spawn`] gives
+///   each entity a birth of its own. [`World::spawn_with_birth`] may not, and a [`World::flush`]
+///   after a lost frame begins with the births that `World::spawn` gave in that phase.
 ///
 /// ```
 /// use forgeni::{run_frame, ComponentId, OutOfMemory, SystemCommands, View, World};
@@ -70,21 +71,21 @@ pub use crate::system::*;
 /// - [`Lost`](FrameError::Lost): a system returned an error, or systems are left and no worker has
 ///   memory for another one. No command was applied. What the systems that ran had reserved stays
 ///   reserved, and nothing else is: [`World::flush`] brings it to life, without components.
-/// - [`Unapplied`](FrameError::Unapplied) and [`Stopped`](FrameError::Stopped): all systems ran, and
-///   the sync point ran out of memory. It may be made again, or go on.
+/// - [`Unapplied`](FrameError::Unapplied) and [`Stopped`](FrameError::Stopped): all systems ran,
+///   and the sync point ran out of memory. It may be made again, or go on.
 ///
 /// # Panics
 ///
 /// If a system panics, its panic is handed on when all workers have ended, and the world is as it
 /// is after [`Lost`](FrameError::Lost). If several systems panic, the panic of the first one in the
-/// order of the systems is handed on. Without the feature `std` a panic can't be caught: the world is
-/// dropped, and an empty one is in its place.
+/// order of the systems is handed on. Without the feature `std` a panic can't be caught: the world
+/// is dropped, and an empty one is in its place.
 ///
 /// # Aborts
 ///
 /// With more than one worker, threads are started as [`std::thread::scope`] starts them. If memory
-/// for that runs out, it ends the process. Without the feature `std`, and where no thread can be started,
-/// as on `wasm32-unknown-unknown`, the caller's thread does all the work.
+/// for that runs out, it ends the process. Without the feature `std`, and where no thread can be
+/// started, as on `wasm32-unknown-unknown`, the caller's thread does all the work.
 pub fn run_frame<S: System + Sync>(
     world: &mut World,
     systems: &[S],
@@ -93,10 +94,11 @@ pub fn run_frame<S: System + Sync>(
     run_frame_on(&StdThreads, world, systems, workers)
 }
 
-/// [`run_frame`] on the threads of a [`Join`], such as a task pool. It starts no thread by itself. With
-/// the feature `rayon`, `Rayon` and `rayon::ThreadPool` are `Join`s.
+/// [`run_frame`] on the threads of a [`Join`], such as a task pool. It starts no thread by itself.
+/// With the feature `rayon`, `Rayon` and `rayon::ThreadPool` are `Join`s.
 ///
-/// Each call of the `Join` gets one worker and all others, or two halves if there are more than eight.
+/// Each call of the `Join` gets one worker and all others, or two halves if there are more than
+/// eight.
 ///
 /// ```
 /// use forgeni::{run_frame_on, Join, OutOfMemory, SystemCommands, View, World};
@@ -127,8 +129,8 @@ pub fn run_frame<S: System + Sync>(
 ///
 /// # Panics
 ///
-/// The same as [`run_frame`]. If no system panics but the `Join` does, its panic is handed on when all
-/// workers have ended. The frame is complete then: only its report is lost.
+/// The same as [`run_frame`]. If no system panics but the `Join` does, its panic is handed on when
+/// all workers have ended. The frame is complete then: only its report is lost.
 pub fn run_frame_on<J: Join + Sync, S: System + Sync>(
     join: &J,
     world: &mut World,
@@ -140,14 +142,13 @@ pub fn run_frame_on<J: Join + Sync, S: System + Sync>(
     })
 }
 
-/// Runs each system once, on that many workers side by side, 1 to 64, each with a [`Log`] of its own.
-/// The logs are in the order of the systems, whichever ended first, for a
-/// [`SyncPoint`] of the allocator. There may be 65,536 systems. If there is none,
-/// nothing takes memory.
+/// Runs each system once, on that many workers side by side, 1 to 64, each with a [`Log`] of its
+/// own. The logs are in the order of the systems, whichever ended first, for a [`SyncPoint`] of the
+/// allocator. There may be 65,536 systems. If there is none, nothing takes memory.
 ///
-/// Each worker takes the next system that isn't taken yet, until none is left. A spawn reserves at once,
-/// so which handle it returns depends on the workers. If a thread can't be started, another one does its
-/// work. One worker starts no thread.
+/// Each worker takes the next system that isn't taken yet, until none is left. A spawn reserves at
+/// once, so which handle it returns depends on the workers. If a thread can't be started, another
+/// one does its work. One worker starts no thread.
 ///
 /// Closures are systems, and so are those in a `Mutex` that change what they borrow:
 ///
@@ -157,8 +158,9 @@ pub fn run_frame_on<J: Join + Sync, S: System + Sync>(
 /// use forgeni::Entry::{Command, Refused, Spawn};
 /// use std::sync::Mutex;
 ///
-/// type Systems<'a> = [Mutex<Box<dyn FnMut(&mut Names<'_>) -> Result<(), OutOfMemory> + Send + 'a>>; 2];
 /// type Names<'a> = LogCommands<'a, (Handle, &'static str)>;
+/// type Run<'a> = dyn FnMut(&mut Names<'_>) -> Result<(), OutOfMemory> + Send + 'a;
+/// type Systems<'a> = [Mutex<Box<Run<'a>>>; 2];
 ///
 /// let (mut entities, mut names, mut calls) = (Entities::new(), HandleMap::new(), 0);
 /// let systems: Systems<'_> = [
@@ -193,19 +195,19 @@ pub fn run_frame_on<J: Join + Sync, S: System + Sync>(
 /// - [`NeedsFlush`](LogError::NeedsFlush), [`Workers`](LogError::Workers),
 ///   [`Systems`](LogError::Systems) and [`Memory`](LogError::Memory): no system ran, and the
 ///   allocator is as it was.
-/// - [`Lost`](LogError::Lost): a system returned an error, or systems are left and no worker has memory
-///   for the log of another one. The logs are dropped. What the systems that ran had reserved stays
-///   reserved, and nothing else is: [`Entities::flush`] brings it to life.
+/// - [`Lost`](LogError::Lost): a system returned an error, or systems are left and no worker has
+///   memory for the log of another one. The logs are dropped. What the systems that ran had
+///   reserved stays reserved, and nothing else is: [`Entities::flush`] brings it to life.
 ///
 /// # Panics
 ///
-/// If a system panics, its panic is handed on when all workers have ended, and the allocator is as it is
-/// after [`Lost`](LogError::Lost). If several systems panic, the panic of the first one in the order of
-/// the systems is handed on. Without the feature `std` a panic can't be caught: the allocator is dropped,
-/// and an empty one is in its place.
+/// If a system panics, its panic is handed on when all workers have ended, and the allocator is as
+/// it is after [`Lost`](LogError::Lost). If several systems panic, the panic of the first one in
+/// the order of the systems is handed on. Without the feature `std` a panic can't be caught: the
+/// allocator is dropped, and an empty one is in its place.
 ///
-/// If a command panics when the logs are dropped, and no system did, that panic is handed on. The allocator is
-/// in its place before the first command is dropped.
+/// If a command panics when the logs are dropped, and no system did, that panic is handed on. The
+/// allocator is in its place before the first command is dropped.
 ///
 /// # Aborts
 ///
@@ -245,9 +247,9 @@ pub fn run_logs<C: Send, S: LogSystem<C> + Sync>(
 ///
 /// # Panics
 ///
-/// The same as [`run_logs`]. If no system panics but the `Join` does, its panic is handed on when all
-/// workers have ended. What they reserved stays reserved, and the logs are dropped. If a command panics then,
-/// that panic is lost.
+/// The same as [`run_logs`]. If no system panics but the `Join` does, its panic is handed on when
+/// all workers have ended. What they reserved stays reserved, and the logs are dropped. If a
+/// command panics then, that panic is lost.
 pub fn run_logs_on<J: Join + Sync, C: Send, S: LogSystem<C> + Sync>(
     join: &J,
     entities: &mut Entities,
@@ -259,12 +261,12 @@ pub fn run_logs_on<J: Join + Sync, C: Send, S: LogSystem<C> + Sync>(
     })
 }
 
-/// [`run_logs_on`], and then the beginning of the sync point of these logs. It brings to life what the
-/// systems reserved, and appends it to `born`, as [`Entities::flush`] does. The sync point has the entries of
-/// all logs, in the order of the systems.
+/// [`run_logs_on`], and then the beginning of the sync point of these logs. It brings to life what
+/// the systems reserved, and appends it to `born`, as [`Entities::flush`] does. The sync point has
+/// the entries of all logs, in the order of the systems.
 ///
-/// [`SyncPoint::begin`] has to look at each spawn of a log, since the log may be of another phase. These
-/// logs are of this one, so this looks at none.
+/// [`SyncPoint::begin`] has to look at each spawn of a log, since the log may be of another phase.
+/// These logs are of this one, so this looks at none.
 ///
 /// ```
 /// use forgeni::{run_to_sync_point, Entities, Entry, LogCommands, OutOfMemory, StdThreads};
@@ -291,17 +293,18 @@ pub fn run_logs_on<J: Join + Sync, C: Send, S: LogSystem<C> + Sync>(
 ///
 /// # Errors
 ///
-/// [`HandedBack`] has the logs that the sync point did not take, and the error. `born` is as it was.
+/// [`HandedBack`] has the logs that the sync point did not take, and the error. `born` is as it
+/// was.
 ///
 /// - Those of [`run_logs`]. There are no logs.
-/// - [`Unborn`](LogError::Unborn): all systems ran, and there is no memory for what is born. What they
-///   reserved stays reserved, and the logs are those of all systems, for [`SyncPoint::begin`].
+/// - [`Unborn`](LogError::Unborn): all systems ran, and there is no memory for what is born. What
+///   they reserved stays reserved, and the logs are those of all systems, for [`SyncPoint::begin`].
 ///
 /// # Panics
 ///
-/// If a system panics, or a command that is dropped, as of [`run_logs`]. If no system panics but the `Join`
-/// does, its panic is handed on when all workers have ended. What they reserved is alive, and their logs are
-/// dropped.
+/// If a system panics, or a command that is dropped, as of [`run_logs`]. If no system panics but
+/// the `Join` does, its panic is handed on when all workers have ended. What they reserved is
+/// alive, and their logs are dropped.
 pub fn run_to_sync_point<J: Join + Sync, C: Send, S: LogSystem<C> + Sync>(
     join: &J,
     entities: &mut Entities,

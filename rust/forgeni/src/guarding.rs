@@ -9,9 +9,10 @@ use core::mem;
 use std::panic::{catch_unwind, resume_unwind, AssertUnwindSafe};
 use std::sync::{Mutex, PoisonError};
 
-/// Calls `run` with a `Join` and systems whose panics don't leave them, and hands the first panic on. If
-/// there is no memory to guard the systems, it returns that error. What `run` returns may be a panic itself:
-/// that of a command which was dropped. A world or an allocator is in its place by then.
+/// Calls `run` with a `Join` and systems whose panics don't leave them, and hands the first panic
+/// on. If there is no memory to guard the systems, it returns that error. What `run` returns may be
+/// a panic itself: that of a command which was dropped. A world or an allocator is in its place by
+/// then.
 pub(crate) fn guarded<J, S, T, E>(
     join: &J,
     systems: &[S],
@@ -36,8 +37,8 @@ pub(crate) fn guarded<J, S, T, E>(
 /// What a panic was raised with.
 pub(crate) type Panic = Box<dyn Any + Send>;
 
-/// The panics of a frame, each with the number of its system. A panic may panic when it is dropped, so all
-/// are kept until the world is back.
+/// The panics of a frame, each with the number of its system. A panic may panic when it is dropped,
+/// so all are kept until the world is back.
 type Panics = Mutex<Vec<(usize, Panic)>>;
 
 /// The panic of the first system that had one, if one had.
@@ -59,8 +60,9 @@ fn drop_quietly<T>(value: T) {
     caught(|| drop(value)).unwrap_or_else(mem::forget);
 }
 
-/// A system or a `Join` whose panics don't leave it: the proved code that calls it knows none. With it is the
-/// number of the system, where a `Join` comes after all of them, and where the panics are kept.
+/// A system or a `Join` whose panics don't leave it: the proved code that calls it knows none. With
+/// it is the number of the system, where a `Join` comes after all of them, and where the panics are
+/// kept.
 pub(crate) struct Guarded<'a, T>(&'a T, usize, &'a Panics);
 
 impl<T> Guarded<'_, T> {
@@ -75,8 +77,8 @@ impl<T> Guarded<'_, T> {
 }
 
 impl<S: Source, T: System<S>> System<S> for Guarded<'_, T> {
-    /// A system that panics has stopped, like one that ran out of memory: the frame is lost, and the
-    /// world is closed with what was reserved.
+    /// A system that panics has stopped, like one that ran out of memory: the frame is lost, and
+    /// the world is closed with what was reserved.
     fn run(&self, view: &View<'_>, commands: &mut WorldCommands<'_, S>) -> Result<(), OutOfMemory> {
         self.run(|| self.0.run(view, commands), Err(OutOfMemory))
     }

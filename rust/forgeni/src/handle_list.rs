@@ -1,5 +1,5 @@
-//! Lists of handles in traces: impls of Rust's traits that calls and replies need for what they derive.
-//! The erased tests take this file too.
+//! Lists of handles in traces: impls of Rust's traits that calls and replies need for what they
+//! derive. The erased tests take this file too.
 
 use crate::traces::HandleList;
 use core::hash::{Hash, Hasher};

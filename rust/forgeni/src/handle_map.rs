@@ -137,8 +137,8 @@ pub trait AnyMap:
     /// Drops all values. The room stays.
     fn clear(&mut self);
 
-    /// A handle that has a value and is neither alive nor reserved, if there is one: the first in the
-    /// order of [`iter`](Self::iter).
+    /// A handle that has a value and is neither alive nor reserved, if there is one: the first in
+    /// the order of [`iter`](Self::iter).
     ///
     /// It is for who refuses a save whose maps name others than its allocator.
     fn stale(&self, entities: &Entities) -> Option<Handle> {

@@ -25,8 +25,8 @@ pub enum Change {
     Died(Handle),
 }
 
-/// Births and deaths in their order, each with its tick, for what mirrors the living: a renderer, or
-/// a physics engine.
+/// Births and deaths in their order, each with its tick, for what mirrors the living: a renderer,
+/// or a physics engine.
 ///
 /// The program says what is born, by the list that a flush filled. Deaths come as a map forgets its
 /// values: a `History` [`Follows`] the entities. Ticks are the program's own, as those of
@@ -198,9 +198,9 @@ impl History {
         self.lost = self.lost.max(tick.checked_sub(1));
     }
 
-    /// Begins anew at this tick, after other entities came to life than were listed: the program went
-    /// back to a snapshot, or loaded a save. Ticks go on nevertheless: for this tick and those before
-    /// it, [`since`](Self::since) returns `None`.
+    /// Begins anew at this tick, after other entities came to life than were listed: the program
+    /// went back to a snapshot, or loaded a save. Ticks go on nevertheless: for this tick and those
+    /// before it, [`since`](Self::since) returns `None`.
     ///
     /// ```
     /// use forgeni::{Entities, History};

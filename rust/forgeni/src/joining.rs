@@ -51,8 +51,8 @@ pub trait JoinMaps {
     fn join(self) -> impl Iterator<Item = Self::Item>;
 }
 
-/// A map that a walk over several begins with: either map, borrowed, and mutably if its values are to change.
-/// [`JoinMaps::join`] calls what it has.
+/// A map that a walk over several begins with: either map, borrowed, and mutably if its values are
+/// to change. [`JoinMaps::join`] calls what it has.
 ///
 /// ```
 /// use forgeni::map::Leads;

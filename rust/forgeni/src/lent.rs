@@ -34,7 +34,10 @@ pub struct Lent<'a> {
 
 /// What is lent has these calls, as what it borrows has them, and all that can be read of that.
 macro_rules! lends {
-    ($Lent:ident.$field:ident: $Of:ident; $($call:ident($($name:ident: $type:ty),*) -> $returns:ty;)*) => {
+    (
+        $Lent:ident.$field:ident: $Of:ident;
+        $($call:ident($($name:ident: $type:ty),*) -> $returns:ty;)*
+    ) => {
         impl<'a> $Lent<'a> {
             pub(crate) fn of($field: &'a mut $Of) -> Self {
                 Self { $field }

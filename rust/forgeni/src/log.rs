@@ -1,5 +1,5 @@
-//! Logs: spawns and commands of the caller's own type, which systems note, and a sync point hands to a closure in the
-//! order of the systems.
+//! Logs: spawns and commands of the caller's own type, which systems note, and a sync point hands
+//! to a closure in the order of the systems.
 
 use crate::lent::Lent;
 use crate::{Handle, Refused};

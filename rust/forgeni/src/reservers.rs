@@ -10,8 +10,8 @@ use core::sync::atomic::{AtomicUsize, Ordering};
 use std::sync::{Mutex, MutexGuard, PoisonError, TryLockError};
 use std::thread_local;
 
-/// A pool of reservers, which lends one for as long as a closure takes. It is for task systems, where
-/// who runs a task isn't known before.
+/// A pool of reservers, which lends one for as long as a closure takes. It is for task systems,
+/// where who runs a task isn't known before.
 ///
 /// It may be shared by any number of threads. It has no order, and no thread has a reserver of its
 /// own. A pool of owned reservers can be kept in an `Arc` or a `static`, and
@@ -54,17 +54,19 @@ use std::thread_local;
 ///
 /// # What it costs
 ///
-/// Each reserver has a flag, one atomic word in a cache line of its own. Lending looks up the number of the
-/// thread, and takes the flag of the reserver with that number, or of the next one that is free. That is one
-/// atomic step for each flag that it looks at. Giving the reserver back is one step, a fence, and a look at
-/// whether a thread waits. The pool has no lock. So a reservation makes three atomic steps instead of one,
-/// and two of them are on a word that only few threads touch. With as many reservers as running threads, a
-/// thread mostly finds the first one free.
+/// Each reserver has a flag, one atomic word in a cache line of its own. Lending looks up the
+/// number of the thread, and takes the flag of the reserver with that number, or of the next one
+/// that is free. That is one atomic step for each flag that it looks at. Giving the reserver back
+/// is one step, a fence, and a look at whether a thread waits. The pool has no lock. So a
+/// reservation makes three atomic steps instead of one, and two of them are on a word that only few
+/// threads touch. With as many reservers as running threads, a thread mostly finds the first one
+/// free.
 ///
-/// If no reserver is free, [`with`](Self::with) sleeps until one is. Threads that sleep get one in the order in
-/// which they came. A thread that comes when a reserver is just given back may take it at once, before the
-/// first of them is awake: but only until that one was woken once and found none. From then on all others
-/// wait for it. [`try_with`](Self::try_with) never waits, and returns `None` meanwhile.
+/// If no reserver is free, [`with`](Self::with) sleeps until one is. Threads that sleep get one in
+/// the order in which they came. A thread that comes when a reserver is just given back may take it
+/// at once, before the first of them is awake: but only until that one was woken once and found
+/// none. From then on all others wait for it. [`try_with`](Self::try_with) never waits, and returns
+/// `None` meanwhile.
 pub struct Reservers<R = Reserver> {
     places: Vec<Place<R>>,
     waiting: Waiting,
@@ -156,11 +158,12 @@ impl<R: Lends> Reservers<R> {
         Ok(Self { places, waiting })
     }
 
-    /// Lends a reserver to `run`, and returns what `run` returns. If no reserver is free, it waits for one, behind
-    /// the threads that wait already.
+    /// Lends a reserver to `run`, and returns what `run` returns. If no reserver is free, it waits
+    /// for one, behind the threads that wait already.
     ///
-    /// A `with` within a `with` takes another reserver. If threads have all reservers and each waits for
-    /// another one, they wait for good. So use [`try_with`](Self::try_with) within a `with`.
+    /// A `with` within a `with` takes another reserver. If threads have all reservers and each
+    /// waits for another one, they wait for good. So use [`try_with`](Self::try_with) within a
+    /// `with`.
     ///
     /// ```
     /// use forgeni::{Entities, Reservers};
@@ -186,8 +189,8 @@ impl<R: Lends> Reservers<R> {
         run(&mut loan.reserver.lend())
     }
 
-    /// Lends a reserver to `run`, and returns what `run` returns, or `None` at once if none was free, or if the
-    /// next one is for a thread that waits.
+    /// Lends a reserver to `run`, and returns what `run` returns, or `None` at once if none was
+    /// free, or if the next one is for a thread that waits.
     ///
     /// ```
     /// use forgeni::{Entities, Reservers};
@@ -232,8 +235,8 @@ impl<R: Lends> Reservers<R> {
     }
 }
 
-/// A reserver that is lent until this is dropped. The order of the fields makes the drop give the flag back
-/// first, and then wake a waiting thread.
+/// A reserver that is lent until this is dropped. The order of the fields makes the drop give the
+/// flag back first, and then wake a waiting thread.
 struct Loan<'a, R> {
     reserver: MutexGuard<'a, R>,
     _wakes: Wakes<'a>,

@@ -32,8 +32,8 @@ fn a_storage_with_room_for_2_to_the_24() {
     assert!(storage.spare() >= 1 << 24);
 }
 
-/// Room for 2^31 entities takes more than 100 GB, so it may be refused. Then there is as much room as
-/// before, or more, and fewer entities get theirs.
+/// Room for 2^31 entities takes more than 100 GB, so it may be refused. Then there is as much room
+/// as before, or more, and fewer entities get theirs.
 #[test]
 fn a_storage_with_room_for_2_to_the_31() {
     let mut storage = Storage::new();

@@ -1,8 +1,8 @@
-//! What `Debug` shows of types whose fields nobody should see, and of types that have another name in
-//! the package than where they are proved. The erased tests take this file too.
+//! What `Debug` shows of types whose fields nobody should see, and of types that have another name
+//! in the package than where they are proved. The erased tests take this file too.
 
-/// `Debug` of types that show what these calls return, and say that there is more. A type parameter is in
-/// brackets.
+/// `Debug` of types that show what these calls return, and say that there is more. A type parameter
+/// is in brackets.
 macro_rules! shows {
     ($($name:ident $(<$life:lifetime>)? $([$of:ident])?: $($call:ident)*;)*) => {$(
         impl $(<$of>)? core::fmt::Debug for $name<$($life,)? $($of)?> {

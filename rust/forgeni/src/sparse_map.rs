@@ -14,7 +14,8 @@ impl<T> SparseMap<T> {
     /// ```
     /// use forgeni::{Handle, SparseMap};
     ///
-    /// let bosses = SparseMap::from([("900v1".parse::<Handle>()?, "elf"), ("7v1".parse()?, "orc")]);
+    /// let [far, near]: [Handle; 2] = ["900v1".parse()?, "7v1".parse()?];
+    /// let bosses = SparseMap::from([(far, "elf"), (near, "orc")]);
     /// assert_eq!(bosses.keys().map(|one| one.index()).max(), Some(900));
     /// # Ok::<(), Box<dyn std::error::Error>>(())
     /// ```

@@ -8,8 +8,8 @@ use alloc::sync::Arc;
 #[cfg(feature = "std")]
 use std::sync::{Mutex, PoisonError};
 
-/// Where the handles of a system come from: [`SharedSource`] or [`Blocks`]. As a bound it makes a function or a
-/// system one for both, as at [`LogCommands`].
+/// Where the handles of a system come from: [`SharedSource`] or [`Blocks`]. As a bound it makes a
+/// function or a system one for both, as at [`LogCommands`].
 pub use crate::allocator::Source;
 pub use crate::commands::{IssuedCommands, SystemCommands};
 /// The source of the systems of [`run_frame`](crate::run_frame) and [`run_logs`](crate::run_logs).
@@ -36,7 +36,8 @@ pub use crate::reserving::SharedReserver;
 /// ```
 pub type WorldCommands<'a, S = SharedSource> = SystemCommands<'a, IssuedCommands, S>;
 
-/// Fills the log of one system, with handles from the source `S`. `C` is the caller's type of commands.
+/// Fills the log of one system, with handles from the source `S`. `C` is the caller's type of
+/// commands.
 ///
 /// What several systems do may be one function, for every source:
 ///
@@ -127,8 +128,8 @@ pub fn system<F: Fn(&View<'_>, &mut SystemCommands<'_>) -> Ran>(run: F) -> F {
     run
 }
 
-/// Systems of a kind: closures, those in a `Mutex`, which change what they borrow, and systems behind pointers,
-/// so that several types go into one list.
+/// Systems of a kind: closures, those in a `Mutex`, which change what they borrow, and systems
+/// behind pointers, so that several types go into one list.
 macro_rules! systems {
     ([$($of:tt)*] $kind:path, $($with:ident: $type:ty),*) => {
         impl<$($of)*, F: Fn($($type),*) -> Ran> $kind for F {

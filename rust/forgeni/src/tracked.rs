@@ -24,8 +24,8 @@ use core::ops::Deref;
 /// ```
 ///
 /// A tick has 64 bits and doesn't wrap around: one each nanosecond is enough for 584 years. If the
-/// program goes back to a snapshot, the values have their ticks of that time. The program's ticks go
-/// on, and whatever was kept by `changed_since` has to be made of all values once, as after
+/// program goes back to a snapshot, the values have their ticks of that time. The program's ticks
+/// go on, and whatever was kept by `changed_since` has to be made of all values once, as after
 /// [`History::restart`](crate::History::restart).
 #[derive(Clone, Copy, Default, PartialEq, Eq, Hash)]
 pub struct Tracked<T> {

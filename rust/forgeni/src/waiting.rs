@@ -5,8 +5,8 @@ use std::sync::{Condvar, Mutex, MutexGuard, PoisonError};
 
 /// Threads that wait for one of several things to be given back, in the order in which they came.
 ///
-/// If no thread waits, giving something back costs a fence and a look at the count. The count has a cache
-/// line to itself, so as long as no thread waits each processor has a copy of it.
+/// If no thread waits, giving something back costs a fence and a look at the count. The count has a
+/// cache line to itself, so as long as no thread waits each processor has a copy of it.
 #[repr(align(128))]
 pub(crate) struct Waiting {
     count: AtomicUsize,
@@ -18,8 +18,8 @@ pub(crate) struct Waiting {
 
 const ROOMS: usize = 16;
 
-/// The numbers of the thread that is served next, and of the one that comes next. They never begin again: no
-/// machine counts to 2^64.
+/// The numbers of the thread that is served next, and of the one that comes next. They never begin
+/// again: no machine counts to 2^64.
 struct Queue {
     first: u64,
     next: u64,
@@ -36,15 +36,15 @@ impl Waiting {
         }
     }
 
-    /// Whether the first thread that waits was woken and found nothing, since a thread that didn't wait was
-    /// faster. Then whoever comes has to wait too.
+    /// Whether the first thread that waits was woken and found nothing, since a thread that didn't
+    /// wait was faster. Then whoever comes has to wait too.
     #[inline]
     pub(crate) fn is_overtaken(&self) -> bool {
         self.overtaken.load(Ordering::Relaxed)
     }
 
-    /// Returns what `look` finds, when all threads that came before have found something. Sleeps as long as
-    /// `look` finds nothing, and looks again whenever it is woken.
+    /// Returns what `look` finds, when all threads that came before have found something. Sleeps as
+    /// long as `look` finds nothing, and looks again whenever it is woken.
     pub(crate) fn until<T>(&self, look: impl Fn() -> Option<T>) -> T {
         let mut queue = self.queue();
         let own = queue.next;
@@ -65,7 +65,8 @@ impl Waiting {
         };
         queue.first += 1;
         self.overtaken.store(false, Ordering::Relaxed);
-        // If two were given back, this thread may have been woken twice. Giving the second one back wakes the next.
+        // If two were given back, this thread may have been woken twice. Giving the second one back
+        // wakes the next.
         let another = (queue.first < queue.next).then(look);
         self.count.fetch_sub(1, Ordering::Relaxed);
         drop(queue);
@@ -76,8 +77,8 @@ impl Waiting {
     /// Something was given back: wakes the first thread that waits, which looks again.
     #[inline]
     pub(crate) fn wake_one(&self) {
-        // One of the two fences comes first. So this thread sees the count, or the waiting thread sees what
-        // was given back.
+        // One of the two fences comes first. So this thread sees the count, or the waiting thread
+        // sees what was given back.
         fence(Ordering::SeqCst);
         if self.count.load(Ordering::Relaxed) > 0 {
             self.wake();

@@ -1,7 +1,9 @@
-//! Worlds: entities with numbered components of 64 bits, the birth of each, and the commands that systems issue.
+//! Worlds: entities with numbered components of 64 bits, the birth of each, and the commands that
+//! systems issue.
 //!
-//! A [`World`] has it all. Its systems run in [`frames`](crate::frames), or on threads of the caller's own, by
-//! [`World::phase`] or [`World::open`]. A [`Storage`] keeps such components beside an allocator of the caller's.
+//! A [`World`] has it all. Its systems run in [`frames`](crate::frames), or on threads of the
+//! caller's own, by [`World::phase`] or [`World::open`]. A [`Storage`] keeps such components beside
+//! an allocator of the caller's.
 
 use crate::numbers::next_number;
 use crate::phases::{clone_world, clone_world_from, new_world};
@@ -54,8 +56,8 @@ impl World {
 /// # Snapshots
 impl World {
     /// Another world in the same state: the same entities are alive, with the same births and
-    /// components, the same handles are reserved, and the same calls return the same. From then on the
-    /// two are independent.
+    /// components, the same handles are reserved, and the same calls return the same. From then on
+    /// the two are independent.
     ///
     /// Neither takes the queues of the other's phases: [`SyncError::OtherWorld`].
     ///
@@ -79,12 +81,12 @@ impl World {
         clone_world(self, next_number())
     }
 
-    /// Takes over the state of another world, as [`try_clone`](Self::try_clone) copies it. What this one
-    /// had before is gone, and the queues of its earlier phases are refused.
+    /// Takes over the state of another world, as [`try_clone`](Self::try_clone) copies it. What
+    /// this one had before is gone, and the queues of its earlier phases are refused.
     ///
-    /// It uses the room that this one has, and never gives it back. So a world that another one is cloned
-    /// into again and again takes memory only as that one grows. With it, a game that predicts goes back
-    /// to a frame that the server has confirmed:
+    /// It uses the room that this one has, and never gives it back. So a world that another one is
+    /// cloned into again and again takes memory only as that one grows. With it, a game that
+    /// predicts goes back to a frame that the server has confirmed:
     ///
     /// ```
     /// use forgeni::World;
@@ -103,8 +105,8 @@ impl World {
     ///
     /// # Errors
     ///
-    /// [`OutOfMemory`], and then nothing has changed. It never happens if no entity of the source was
-    /// ever alive.
+    /// [`OutOfMemory`], and then nothing has changed. It never happens if no entity of the source
+    /// was ever alive.
     pub fn try_clone_from(&mut self, source: &Self) -> Result<(), OutOfMemory> {
         clone_world_from(self, source, next_number())
     }
@@ -114,14 +116,15 @@ impl World {
 impl World {
     /// The world whose image these bytes are, all of them.
     ///
-    /// The bytes may come from anywhere. Each image that [`write_image`](Self::write_image) writes is
-    /// read as the same world, which gives no handle that was given before. It refuses the queues of
-    /// phases that were opened before: [`SyncError::OtherWorld`]. Bytes that are the image of no world
-    /// are refused. The call takes at most eight bytes of memory for each byte, and 16 KiB. It takes none
-    /// before it has compared the number of slots with the length of the allocator's part.
+    /// The bytes may come from anywhere. Each image that [`write_image`](Self::write_image) writes
+    /// is read as the same world, which gives no handle that was given before. It refuses the
+    /// queues of phases that were opened before: [`SyncError::OtherWorld`]. Bytes that are the
+    /// image of no world are refused. The call takes at most eight bytes of memory for each byte,
+    /// and 16 KiB. It takes none before it has compared the number of slots with the length of the
+    /// allocator's part.
     ///
-    /// A forged image can make the next [`flush`](Self::flush) take all memory, since it may say that each
-    /// of 2^32 - 1 slots is reserved. For bytes from a stranger there is
+    /// A forged image can make the next [`flush`](Self::flush) take all memory, since it may say
+    /// that each of 2^32 - 1 slots is reserved. For bytes from a stranger there is
     /// [`read_image_within`](Self::read_image_within).
     ///
     /// ```
@@ -137,8 +140,8 @@ impl World {
     ///
     /// # Errors
     ///
-    /// Each but [`Memory`](WorldImageFault::Memory) says that no world has this image, by the first fault
-    /// that the bytes have.
+    /// Each but [`Memory`](WorldImageFault::Memory) says that no world has this image, by the first
+    /// fault that the bytes have.
     ///
     /// [`SyncError::OtherWorld`]: crate::SyncError::OtherWorld
     pub fn read_image(bytes: &[u8]) -> Result<Self, WorldImageFault> {
@@ -148,9 +151,10 @@ impl World {
     /// The world whose image these bytes are, if it has at most `most` slots after its next
     /// [`flush`](Self::flush).
     ///
-    /// The image of a world may say that 4,294,967,295 handles are reserved. `read_image` reads it, and
-    /// the next flush brings them to life. So this is the call for bytes from a stranger: it takes no more
-    /// memory than `read_image`, and the next flush no more than `most` slots and `most` entities do.
+    /// The image of a world may say that 4,294,967,295 handles are reserved. `read_image` reads it,
+    /// and the next flush brings them to life. So this is the call for bytes from a stranger: it
+    /// takes no more memory than `read_image`, and the next flush no more than `most` slots and
+    /// `most` entities do.
     ///
     /// ```
     /// use forgeni::{World, WorldImageFault};
@@ -168,8 +172,8 @@ impl World {
     ///
     /// # Errors
     ///
-    /// Those of [`read_image`](Self::read_image), and then [`Bound`](WorldImageFault::Bound) if there would
-    /// be more slots.
+    /// Those of [`read_image`](Self::read_image), and then [`Bound`](WorldImageFault::Bound) if
+    /// there would be more slots.
     pub fn read_image_within(bytes: &[u8], most: u32) -> Result<Self, WorldImageFault> {
         read_world_within(bytes, next_number(), most)
     }
@@ -208,8 +212,8 @@ impl World {
     ///
     /// # Aborts
     ///
-    /// Rust's `Arc` ends the process if memory runs out. So as much memory is allocated and freed first,
-    /// and the process ends only if another thread takes it in between.
+    /// Rust's `Arc` ends the process if memory runs out. So as much memory is allocated and freed
+    /// first, and the process ends only if another thread takes it in between.
     pub fn open(
         self,
         count: usize,
@@ -220,9 +224,9 @@ impl World {
             .map_err(|phase| HandedBack::new(closed(phase).0, ShareError::Memory))
     }
 
-    /// Opens the world in blocks of these sizes: each caller gets a reserver of its own block, so its
-    /// handles depend on no other caller, and on no thread. A block is smaller where the world has no more
-    /// handles. [`WorldInBlocks::close`] gives the world back.
+    /// Opens the world in blocks of these sizes: each caller gets a reserver of its own block, so
+    /// its handles depend on no other caller, and on no thread. A block is smaller where the world
+    /// has no more handles. [`WorldInBlocks::close`] gives the world back.
     ///
     /// Callers may be systems: with the feature `std`, `run_frame_in_blocks` runs them, and
     /// `fill_in_blocks` runs them and says how much of its block each used.
@@ -243,7 +247,8 @@ impl World {
     ///
     /// # Errors
     ///
-    /// [`HandedBack`] has the world as it was, and [`DealError::NeedsFlush`] or [`DealError::Memory`].
+    /// [`HandedBack`] has the world as it was, and [`DealError::NeedsFlush`] or
+    /// [`DealError::Memory`].
     pub fn open_in_blocks(
         self,
         sizes: &[u32],

@@ -8,9 +8,9 @@ use alloc::vec::Vec;
 
 /// # Phases
 impl World {
-    /// Opens the world for `count` systems, 1 to 1,024, for as long as `run` takes. Then the world is
-    /// back, with all that was reserved, and [`apply`](Self::apply) takes the queues. `run` can't lose
-    /// a system, since each is only [lent](LentCommands) to it.
+    /// Opens the world for `count` systems, 1 to 1,024, for as long as `run` takes. Then the world
+    /// is back, with all that was reserved, and [`apply`](Self::apply) takes the queues. `run`
+    /// can't lose a system, since each is only [lent](LentCommands) to it.
     ///
     /// ```
     /// use forgeni::{ComponentId, World};
@@ -37,8 +37,8 @@ impl World {
     ///
     /// # Panics
     ///
-    /// A panic of `run` is handed on. The world is back then too, with all that was reserved, and no
-    /// command takes effect.
+    /// A panic of `run` is handed on. The world is back then too, with all that was reserved, and
+    /// no command takes effect.
     ///
     /// # Aborts
     ///
@@ -69,8 +69,8 @@ pub(crate) fn closed((open, systems): (OpenWorld, Vec<Commands>)) -> (World, Que
     closed.expect("all systems of the phase are here, and nobody else has one")
 }
 
-/// The [`Commands`] of a system, lent by a [`phase`](World::phase). They issue the same commands, at no
-/// extra cost.
+/// The [`Commands`] of a system, lent by a [`phase`](World::phase). They issue the same commands,
+/// at no extra cost.
 ///
 /// The borrower can neither keep nor replace them. So the phase has all of them at its end, even if
 /// they are dropped or forgotten.

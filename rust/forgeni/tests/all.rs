@@ -1,6 +1,7 @@
-//! The tests that can share a program, which is built and linked once. Those that stand in a program of their own need one: `counted`
-//! is run under callgrind by its name, `memory` and `out_of_memory` have little memory or an allocator that refuses, and `sizes` is
-//! also run as optimised code.
+//! The tests that can share a program, which is built and linked once. Those that stand in a
+//! program of their own need one: `counted` is run under callgrind by its name, `memory` and
+//! `out_of_memory` have little memory or an allocator that refuses, and `sizes` is also run as
+//! optimised code.
 
 mod common;
 mod worlds;

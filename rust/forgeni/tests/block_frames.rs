@@ -1,5 +1,5 @@
-//! Systems that fill logs and queues from blocks: whatever the number of workers, the spawns of each are the next
-//! handles of its own block.
+//! Systems that fill logs and queues from blocks: whatever the number of workers, the spawns of
+//! each are the next handles of its own block.
 
 use crate::blocks::{close, dealt};
 use crate::common::{flushed, seeds, small, Model, Numbers};
@@ -127,7 +127,8 @@ fn spawns_return_the_front_of_each_block_on_any_number_of_workers() {
     }
 }
 
-/// Blocks of few handles, and more spawns than fit: each refusal comes to the sync point at its turn.
+/// Blocks of few handles, and more spawns than fit: each refusal comes to the sync point at its
+/// turn.
 #[test]
 fn each_refused_spawn_comes_to_the_sync_point_at_its_turn() {
     let systems = [Does::Spawn(5), Does::Spawn(2), Does::Spawn(4)];
@@ -492,8 +493,8 @@ impl ModelWorld {
         (used, commands)
     }
 
-    /// A frame of these systems with blocks of these sizes. Returns how much each system used, what was born, and
-    /// how many faults there were.
+    /// A frame of these systems with blocks of these sizes. Returns how much each system used, what
+    /// was born, and how many faults there were.
     fn frame(&mut self, sizes: &[u32], scripts: &[Script]) -> (Vec<usize>, Vec<Handle>, usize) {
         let (blocks, living) = (dealt(&self.allocator, sizes), self.by_birth());
         let issue = |(script, block): (&Script, &Vec<Handle>)| self.issue(script, &living, block);
@@ -704,7 +705,8 @@ fn a_bulk_that_was_refused_is_served_in_the_next_frame() {
     }
 }
 
-/// A world with six slots that wait and two that live, and the handles that three blocks of ten have.
+/// A world with six slots that wait and two that live, and the handles that three blocks of ten
+/// have.
 fn used_world() -> (World, Vec<Handle>) {
     let (mut world, mut model) = (small_world(1000, 9), Model::new(1000, 9));
     for _ in 0..8 {
@@ -721,7 +723,8 @@ fn used_world() -> (World, Vec<Handle>) {
     (world, pool)
 }
 
-/// Flushes a world that was closed without its reservers: all handles of the blocks are born, without components.
+/// Flushes a world that was closed without its reservers: all handles of the blocks are born,
+/// without components.
 fn expect_all_born(mut world: World, blocks: &[Handle]) {
     assert!(world.needs_flush());
     world.flush().expect("memory");
@@ -836,7 +839,8 @@ fn the_first_fault_of_a_frame_in_blocks_is_returned_and_all_comes_back() {
     assert_eq!((error, reservers.len()), (RunError::OtherPhase, 2));
 }
 
-/// All systems ran, and a block has no system: the world isn't closed. Then it is, with the reserver that was missing.
+/// All systems ran, and a block has no system: the world isn't closed. Then it is, with the
+/// reserver that was missing.
 #[test]
 fn a_frame_without_a_reserver_of_each_block_ends_later() {
     let systems = vec![Script(vec![Step::Spawn(5), Step::Spawn(6)]); 2];

@@ -1,5 +1,5 @@
-//! Phases in blocks: which handles a caller gets follows from the sizes and from its own requests, however
-//! the threads go. A model that keeps lists of handles says the same of each.
+//! Phases in blocks: which handles a caller gets follows from the sizes and from its own requests,
+//! however the threads go. A model that keeps lists of handles says the same of each.
 //! `FORGENI_PHASES` sets how many phases are run.
 
 use crate::common::{flushed, handle, small, Model, Numbers};
@@ -44,8 +44,8 @@ fn replies(made: u32, block: &[Handle], requests: &[u32]) -> (usize, Vec<Reply>)
     (used, all)
 }
 
-/// The model after the phase and its flush: so many handles of each block are alive, and the others come
-/// first in the pool.
+/// The model after the phase and its flush: so many handles of each block are alive, and the others
+/// come first in the pool.
 pub fn close(model: &mut Model, blocks: &[Vec<Handle>], used: &[usize]) -> Vec<Handle> {
     let mut born: Vec<Handle> = vec![];
     let mut pool = vec![];

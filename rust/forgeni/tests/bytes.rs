@@ -1,6 +1,7 @@
-//! How many bytes each call asks for if it makes something grow. No contract says this: a call that takes more room
-//! than it needs meets every contract. The numbers here are computed from what must be kept. A list that grows item
-//! by item asks for at most twice its room in all: each doubling asks for the whole list again.
+//! How many bytes each call asks for if it makes something grow. No contract says this: a call that
+//! takes more room than it needs meets every contract. The numbers here are computed from what must
+//! be kept. A list that grows item by item asks for at most twice its room in all: each doubling
+//! asks for the whole list again.
 
 mod common;
 #[path = "common/refusing_allocator.rs"]
@@ -44,7 +45,8 @@ fn exactly<T>(bytes: usize, work: impl FnOnce() -> T) -> T {
     done
 }
 
-/// Does this, which must ask for some bytes, and at most so many. At the end it must hold no more than these.
+/// Does this, which must ask for some bytes, and at most so many. At the end it must hold no more
+/// than these.
 #[track_caller]
 fn at_most<T>(most: usize, work: impl FnOnce() -> T) -> T {
     let ((done, taken), kept) = held(|| asked(work));
@@ -53,8 +55,8 @@ fn at_most<T>(most: usize, work: impl FnOnce() -> T) -> T {
     done
 }
 
-/// What a list that grows one by one to `N` items asks for in all: the last room is at most twice what it needs, and
-/// the rooms before it together are as much.
+/// What a list that grows one by one to `N` items asks for in all: the last room is at most twice
+/// what it needs, and the rooms before it together are as much.
 const fn grown(item: usize) -> usize {
     4 * item * BYTES
 }
@@ -205,8 +207,8 @@ fn worlds() {
     let spawn = || systems[0].spawn_many(N, &[(HP, 1)]).expect("handles");
     at_most(2 * HANDLE * BYTES + 64, spawn);
     let (mut world, queues) = open.close(finished(systems)).expect("closed");
-    // Of each entity: a place in the report, its slot, its handle with its birth, a pair of the index, whose
-    // room is twice what it needs, and a component with its place.
+    // Of each entity: a place in the report, its slot, its handle with its birth, a pair of the
+    // index, whose room is twice what it needs, and a component with its place.
     let entity = HANDLE + SLOT + 24 + 2 * 12 + 16 + 4;
     at_most(2 * entity * BYTES, || world.apply(queues).expect("memory"));
     // The list, and what is sorted: a birth with its place, and the order.

@@ -1,12 +1,12 @@
-//! Clones of an allocator, and what is read from its image: each goes on by the rules, whatever happens to
-//! the other.
+//! Clones of an allocator, and what is read from its image: each goes on by the rules, whatever
+//! happens to the other.
 
 use crate::common::{flushed, handle, seeds, small, Model, Numbers};
 use forgeni::{AllocError, Birth, Commands, ComponentId, Entities, Handle, Limits, Queues, State};
 use forgeni::{SyncError, World};
 
-/// Two allocators with other limits, each with its model. A call goes to one of them, and now and then
-/// one takes over the state of the other, is its clone, or is read from its own image.
+/// Two allocators with other limits, each with its model. A call goes to one of them, and now and
+/// then one takes over the state of the other, is its clone, or is read from its own image.
 fn run(seed: u64, steps: u32) {
     let mut numbers = Numbers::of(seed);
     let mut both = [(); 2].map(|()| {
@@ -138,8 +138,8 @@ fn expect_mixed(entities: &Entities, slots: u32) {
     assert_eq!(entities.state(handle(slots + 2, 1)), State::Gone);
 }
 
-/// The flush of what `mixed` requested: the new slots, and then those that wait, from the first that
-/// was freed on.
+/// The flush of what `mixed` requested: the new slots, and then those that wait, from the first
+/// that was freed on.
 fn expect_flush(entities: &mut Entities, slots: u32) {
     let fresh = (slots..slots + 2).map(|index| handle(index, 1));
     let old = (0..slots).step_by(3).map(|index| handle(index, 2));
@@ -172,8 +172,8 @@ fn clones_with_requests_go_on_by_themselves() {
     }
 }
 
-/// Std's `clone_from` takes over limits, rows and requests, whatever the target had: all that is in the
-/// image.
+/// Std's `clone_from` takes over limits, rows and requests, whatever the target had: all that is in
+/// the image.
 #[test]
 fn an_allocator_is_cloned_into_another() {
     let rich = |limit| {
@@ -339,7 +339,8 @@ fn queues_of_what_was_left_are_refused() {
     assert!(told(&world) == before);
 }
 
-/// Worlds that have one state, each made in another way: each has a number of its own, so none takes the queues of another one.
+/// Worlds that have one state, each made in another way: each has a number of its own, so none
+/// takes the queues of another one.
 #[test]
 fn worlds_of_one_state_have_numbers_of_their_own() {
     let (source, all) = world_of(9);

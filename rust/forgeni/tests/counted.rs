@@ -1,6 +1,6 @@
 //! Births in a storage and lists of handles, for counts of instructions and of calls.
-//! `examples/counted_runs.sh` runs each of these tests at several sizes under callgrind, and compares. The
-//! variable `FORGENI_ENTITIES` says how many entities there are.
+//! `examples/counted_runs.sh` runs each of these tests at several sizes under callgrind, and
+//! compares. The variable `FORGENI_ENTITIES` says how many entities there are.
 
 use forgeni::{Birth, Commands, Entities, Handle, Storage, World};
 

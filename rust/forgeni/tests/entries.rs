@@ -1,5 +1,5 @@
-//! Entries of maps by handle, and several of their values lent at once, beside a `BTreeMap`: of both kinds of
-//! maps. `FORGENI_SEEDS` sets how many seeds are run, `FORGENI_SEED` runs one alone.
+//! Entries of maps by handle, and several of their values lent at once, beside a `BTreeMap`: of
+//! both kinds of maps. `FORGENI_SEEDS` sets how many seeds are run, `FORGENI_SEED` runs one alone.
 
 use crate::common::{handle, seeds, Numbers};
 use forgeni::{Handle, HandleMap, InsertError, SparseMap};
@@ -30,8 +30,9 @@ macro_rules! of_a_map {
                 all.into_iter().collect()
             }
 
-            /// An entry of the map does what one of a `BTreeMap` does, as long as no other occupant of its slot has
-            /// a value. If a later one has, it is refused. If an earlier one has, that one goes.
+            /// An entry of the map does what one of a `BTreeMap` does, as long as no other occupant
+            /// of its slot has a value. If a later one has, it is refused. If an earlier one has,
+            /// that one goes.
             #[test]
             fn entries_beside_std() {
                 seeds(2_000, |seed| {
@@ -167,8 +168,8 @@ macro_rules! of_a_map {
                 }
             }
 
-            /// What a drain doesn't come to is dropped with it, and the room stays. One that is forgotten leaves a
-            /// map without values.
+            /// What a drain doesn't come to is dropped with it, and the room stays. One that is
+            /// forgotten leaves a map without values.
             #[test]
             fn drains() {
                 for (count, taken) in [(0, 1), (1, 1), (6, 0), (6, 2), (6, 9), (70_001, 40_000)] {
@@ -208,7 +209,8 @@ macro_rules! of_a_map {
                 assert_eq!(sorted(&map), [(handle(1, 1), 5)]);
             }
 
-            /// Each handle once, and each with its value. With one that has none, or twice, there is nothing.
+            /// Each handle once, and each with its value. With one that has none, or twice, there
+            /// is nothing.
             #[test]
             fn disjoint_values() {
                 let mut map = tens(70_001);
@@ -233,7 +235,8 @@ macro_rules! of_a_map {
 of_a_map!(handle_map, HandleMap);
 of_a_map!(sparse_map, SparseMap);
 
-/// The parts have each slot once, wherever the cuts are, and a part has no value of another part's slot.
+/// The parts have each slot once, wherever the cuts are, and a part has no value of another part's
+/// slot.
 #[test]
 fn parts_have_each_slot_once() {
     for count in [0, 1, 10] {

@@ -1,6 +1,6 @@
-//! Frames. If nothing is refused and no handle decides anything, what one makes doesn't depend on the
-//! number of its workers, and is what the same systems make one after the other by `World::open` and
-//! `World::apply`.
+//! Frames. If nothing is refused and no handle decides anything, what one makes doesn't depend on
+//! the number of its workers, and is what the same systems make one after the other by
+//! `World::open` and `World::apply`.
 
 use crate::common::{handle, seeds, Numbers};
 use forgeni::{
@@ -287,8 +287,9 @@ fn refusals_depend_on_the_workers() {
     }
 }
 
-/// Two entities that take the slots of two others, whose handles depend on the workers. If the world chooses their
-/// births, each has its own. If both have the same birth, the handles decide which is first.
+/// Two entities that take the slots of two others, whose handles depend on the workers. If the
+/// world chooses their births, each has its own. If both have the same birth, the handles decide
+/// which is first.
 #[test]
 fn births_between_frames() {
     fn replace(world: &mut World, spawn: impl Fn(&mut World, i64) -> Handle) -> Vec<Option<i64>> {
@@ -370,8 +371,8 @@ fn systems_that_lack_memory() {
     assert_eq!((world.frame(), world.len()), (0, 0));
 }
 
-/// Each command is in its queue, even one that sets nothing or takes out what isn't there: the fault of such a
-/// command on an entity that is gone has its number.
+/// Each command is in its queue, even one that sets nothing or takes out what isn't there: the
+/// fault of such a command on an entity that is gone has its number.
 #[test]
 fn no_command_is_lost() {
     let mut world = World::new();
@@ -396,7 +397,8 @@ fn no_command_is_lost() {
     assert_eq!(world.items(lives).map(Vec::from_iter), Some(vec![(HP, 8)]));
 }
 
-/// A view lists those with a component, or all, by birth; it tells what each had as the frame began.
+/// A view lists those with a component, or all, by birth; it tells what each had as the frame
+/// began.
 #[test]
 fn what_a_view_tells() {
     let mut world = World::new();

@@ -1,5 +1,6 @@
 //! Maps from handles beside `HashMap`: random calls, at three types of values, each of which is
-//! dropped exactly once. `FORGENI_SEEDS` sets how many seeds are run, `FORGENI_SEED` runs one alone.
+//! dropped exactly once. `FORGENI_SEEDS` sets how many seeds are run, `FORGENI_SEED` runs one
+//! alone.
 
 use crate::common::{handle, seeds, Numbers};
 use forgeni::{HandedBack, Handle, HandleMap, InsertError};
@@ -431,8 +432,8 @@ fn a_value_that_is_made_only_if_there_is_none() {
     assert_eq!(refused(handle(4, 1)).into_parts(), (3, InsertError::Later));
 }
 
-/// No map takes the placeholder, and a map with a limit takes no handle of a slot at or above it. Neither refusal
-/// asks for memory.
+/// No map takes the placeholder, and a map with a limit takes no handle of a slot at or above it.
+/// Neither refusal asks for memory.
 #[test]
 fn limits() {
     let refused = |map: &mut HandleMap<u8>, one| {

@@ -3,9 +3,9 @@
 use crate::common::handle;
 use forgeni::{Entities, Handle, ImageFault, Limits, State};
 
-/// Nine slots of two generations, of which five were made. 0v1 lives with the row 7, and 4v1 without
-/// one. Slot 1 is retired. Slot 2 waits, and so does slot 3, which was freed after it. Three handles
-/// were requested.
+/// Nine slots of two generations, of which five were made. 0v1 lives with the row 7, and 4v1
+/// without one. Slot 1 is retired. Slot 2 waits, and so does slot 3, which was freed after it.
+/// Three handles were requested.
 fn small() -> Entities {
     let mut entities = Entities::with_limits(Limits::new(9, 2).expect("limits"));
     entities.alloc_many(5).expect("handles");

@@ -1,6 +1,7 @@
-//! Whatever of the caller's panics while an allocator or a world is away, it comes back: systems, joiners, closures, and the drops
-//! of commands, of values that closures have, and of panics. A drop that panics while a panic unwinds ends the process, in Rust as
-//! such. So a `Loud` is silent then.
+//! Whatever of the caller's panics while an allocator or a world is away, it comes back: systems,
+//! joiners, closures, and the drops of commands, of values that closures have, and of panics. A
+//! drop that panics while a panic unwinds ends the process, in Rust as such. So a `Loud` is silent
+//! then.
 
 use crate::common::{flushed, seeds, Numbers};
 use forgeni::{run_frame_on, run_logs_on, run_to_sync_point, Entities, Handle, Join, Log};
@@ -43,7 +44,8 @@ enum End {
     LoudPanic,
 }
 
-/// A system: it spawns that many, pushes a command that is silent or loud after each of them, and ends so.
+/// A system: it spawns that many, pushes a command that is silent or loud after each of them, and
+/// ends so.
 #[derive(Clone, Copy, Debug)]
 struct System {
     spawns: usize,
@@ -84,8 +86,9 @@ impl forgeni::System for System {
     }
 }
 
-/// Does with the first and with the second half what the letter says: `1` and `2` call them, `s` calls both on threads of std,
-/// `!` panics, and `?` panics with a value that panics when it is dropped.
+/// Does with the first and with the second half what the letter says: `1` and `2` call them, `s`
+/// calls both on threads of std, `!` panics, and `?` panics with a value that panics when it is
+/// dropped.
 struct Joiner(&'static str);
 
 impl Join for Joiner {
@@ -110,7 +113,8 @@ fn two() -> (Entities, [Handle; 2]) {
     (entities, [handles[0], handles[2]])
 }
 
-/// The allocator has its two entities, and that many handles of these numbers are reserved. They come to life, and none was alive.
+/// The allocator has its two entities, and that many handles of these numbers are reserved. They
+/// come to life, and none was alive.
 fn is_in_place(
     entities: &mut Entities,
     living: [Handle; 2],
@@ -185,7 +189,8 @@ fn a_command_panics_when_it_is_dropped() {
     }
 }
 
-/// A system panics, and a command of it or of another one panics when it is dropped. The system's panic is handed on.
+/// A system panics, and a command of it or of another one panics when it is dropped. The system's
+/// panic is handed on.
 #[test]
 fn a_system_and_a_command_panic() {
     for workers in WORKERS {
@@ -211,8 +216,8 @@ fn a_joiner_and_a_command_panic() {
     }
 }
 
-/// Several systems and joiners panic, each with a value that panics when it is dropped. The first system's is handed on, and the
-/// others are dropped when the world is in its place.
+/// Several systems and joiners panic, each with a value that panics when it is dropped. The first
+/// system's is handed on, and the others are dropped when the world is in its place.
 #[test]
 fn all_panics_panic() {
     let loud = System {
@@ -234,7 +239,8 @@ fn all_panics_panic() {
     }
 }
 
-/// A closure that a phase is given has a value that panics when it is dropped, or panics, or returns such a value.
+/// A closure that a phase is given has a value that panics when it is dropped, or panics, or
+/// returns such a value.
 #[test]
 fn a_closure_of_a_phase_panics() {
     for panics in [false, true] {
@@ -469,8 +475,8 @@ fn any_call(lives: &mut Lives, numbers: &mut Numbers) -> Result<(), &'static str
     }
 }
 
-/// 2,000 random calls, or as many hundreds as `FORGENI_SEEDS` says. In most of them something panics, and no allocator and no world
-/// is lost.
+/// 2,000 random calls, or as many hundreds as `FORGENI_SEEDS` says. In most of them something
+/// panics, and no allocator and no world is lost.
 #[test]
 fn in_any_order_whatever_panics() {
     seeds(20, |seed| {

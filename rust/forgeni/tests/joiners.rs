@@ -9,8 +9,8 @@ use std::sync::atomic::{AtomicUsize, Ordering};
 
 const NUMBER: ComponentId = ComponentId(0);
 
-/// Does with the first and with the second half what the word says: `1` and `2` call them, `!` panics.
-/// It also counts how often it was asked.
+/// Does with the first and with the second half what the word says: `1` and `2` call them, `!`
+/// panics. It also counts how often it was asked.
 struct Joiner(&'static str, AtomicUsize);
 
 impl Joiner {
@@ -69,7 +69,8 @@ fn each_system_runs_once_on_any_joiner() {
                 (5, ALL.to_vec()),
                 "{word}"
             );
-            // Workers are halved until each is alone, and no more than there are systems run side by side.
+            // Workers are halved until each is alone, and no more than there are systems run side
+            // by side.
             assert_eq!(join.1.into_inner(), workers.min(5) - 1, "{word}");
         }
     }
@@ -93,8 +94,8 @@ fn a_joiner_panics() {
     }
 }
 
-/// The panic of a system comes before that of a joiner. No command was applied, and what was reserved is
-/// born at the next flush.
+/// The panic of a system comes before that of a joiner. No command was applied, and what was
+/// reserved is born at the next flush.
 #[test]
 fn a_system_and_a_joiner_panic() {
     for (number, word) in [(0, "12!"), (3, "!"), (4, "12")] {

@@ -1,6 +1,6 @@
 //! What the tests of Bevy 0.15 ask of its own allocator (its module `entity`, and the tests of its
-//! worlds that reserve), asked of this one. Above each test stands which behaviour of Bevy it shows,
-//! and where this allocator is meant to differ.
+//! worlds that reserve), asked of this one. Above each test stands which behaviour of Bevy it
+//! shows, and where this allocator is meant to differ.
 
 use crate::common::{flushed, handle, small};
 use forgeni::{ComponentId, Entities, Freed, Handle, Limits, State, World};
@@ -124,8 +124,8 @@ fn reserved_and_flushed() {
     assert_eq!(entities.len(), 1);
 }
 
-/// Bevy: a reserved entity is contained, and has no place until it is flushed and given one. A freed
-/// one is not contained.
+/// Bevy: a reserved entity is contained, and has no place until it is flushed and given one. A
+/// freed one is not contained.
 #[test]
 fn reserved_is_contained() {
     let mut entities = Entities::new();
@@ -160,8 +160,8 @@ fn many_reserved_at_once() {
     assert_eq!(entities.len(), 15);
 }
 
-/// Bevy: `free` of an entity makes its slot wait, and `alloc` gives it again at the next generation.
-/// `free` of one that is gone returns nothing.
+/// Bevy: `free` of an entity makes its slot wait, and `alloc` gives it again at the next
+/// generation. `free` of one that is gone returns nothing.
 #[test]
 fn freed_and_given_again() {
     let mut entities = Entities::new();
@@ -187,8 +187,8 @@ fn the_next_generation_is_known() {
     assert_eq!((one.index(), one.generation()), (0, 11));
 }
 
-/// Bevy: after the last generation of a slot the first one comes again, with a warning. Here the slot
-/// is retired, so no handle is given twice.
+/// Bevy: after the last generation of a slot the first one comes again, with a warning. Here the
+/// slot is retired, so no handle is given twice.
 #[test]
 fn the_last_generation() {
     let mut entities = small(2, 2);
@@ -242,8 +242,8 @@ fn handles_across_worlds() {
     );
 }
 
-/// Bevy: an entity that despawns in a flush of commands is gone for all that follow, and its slot is
-/// used again.
+/// Bevy: an entity that despawns in a flush of commands is gone for all that follow, and its slot
+/// is used again.
 #[test]
 fn despawned_and_respawned() {
     let mut world = World::new();

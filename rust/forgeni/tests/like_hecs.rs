@@ -48,8 +48,8 @@ fn alloc_and_free() {
     }
 }
 
-/// hecs: nobody is contained in the beginning, a living one is, a freed one isn't, and neither is the
-/// next one of its slot until it is given.
+/// hecs: nobody is contained in the beginning, a living one is, a freed one isn't, and neither is
+/// the next one of its slot until it is given.
 #[test]
 fn contains() {
     let mut entities = Entities::new();
@@ -132,7 +132,8 @@ fn handles_of_nobody() {
     assert!(entities.is_alive(one));
 }
 
-/// hecs: the location of a living entity is kept in its slot, and that of a new occupant is its own.
+/// hecs: the location of a living entity is kept in its slot, and that of a new occupant is its
+/// own.
 #[test]
 fn places() {
     let mut entities = Entities::new();

@@ -81,8 +81,8 @@ fn removed_and_used_again() {
     );
 }
 
-/// slotmap: of 1,000 values each is dropped once, however it goes: removed, replaced, cleared, moved
-/// out by an iterator that isn't asked for all, or with the map.
+/// slotmap: of 1,000 values each is dropped once, however it goes: removed, replaced, cleared,
+/// moved out by an iterator that isn't asked for all, or with the map.
 #[test]
 fn drops_are_counted() {
     let alive = Rc::new(());

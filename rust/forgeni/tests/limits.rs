@@ -32,8 +32,8 @@ fn each_way_to_make_an_allocator() {
     }
 }
 
-/// A phase of this world that requests so many entities, and then so many more. What is left for the
-/// second.
+/// A phase of this world that requests so many entities, and then so many more. What is left for
+/// the second.
 fn left_of(world: World, first: u32, second: u32) -> Result<usize, ReserveError> {
     let (_open, mut systems) = world.open(1).expect("opened");
     systems[0].spawn_many(first, &[]).expect("handles");

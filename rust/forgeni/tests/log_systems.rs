@@ -83,7 +83,8 @@ fn logs_are_in_the_order_of_the_systems() {
     }
 }
 
-/// More spawns than there are handles: each refusal is an entry of its system's log, whichever systems they are.
+/// More spawns than there are handles: each refusal is an entry of its system's log, whichever
+/// systems they are.
 #[test]
 fn each_refused_spawn_has_an_entry() {
     for workers in WORKERS {
@@ -113,7 +114,8 @@ fn each_refused_spawn_has_an_entry() {
     }
 }
 
-/// A sync point that begins at once hands on what `begin` would have, and lists what is born behind the rest.
+/// A sync point that begins at once hands on what `begin` would have, and lists what is born behind
+/// the rest.
 #[test]
 fn the_sync_point_begins_at_once() {
     for workers in WORKERS {

@@ -1,4 +1,5 @@
-//! Logs of commands, from several systems and threads to one sync point: what their contracts can't say.
+//! Logs of commands, from several systems and threads to one sync point: what their contracts can't
+//! say.
 
 use crate::common::{flushed, handle, small};
 use forgeni::{

@@ -194,8 +194,8 @@ fn compare() {
 }
 
 /// `share` for as many callers as there may be, with no memory at first, and with 4 KiB more after
-/// each refusal. So it fails at each place where it takes memory: when the phase begins, and when the
-/// reservers are given out, which is last.
+/// each refusal. So it fails at each place where it takes memory: when the phase begins, and when
+/// the reservers are given out, which is last.
 fn share_again_and_again() {
     let mut entities = Entities::new();
     let one = entities.alloc().expect("a handle");

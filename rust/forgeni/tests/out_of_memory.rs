@@ -1,6 +1,6 @@
-//! Each allocation is refused in turn: the first one alone, the second one, and so on, and then all from
-//! the first one on, from the second one on. Each call must return an error, leave the state as its docs
-//! say, and do the same as with ample memory when it is made again.
+//! Each allocation is refused in turn: the first one alone, the second one, and so on, and then all
+//! from the first one on, from the second one on. Each call must return an error, leave the state
+//! as its docs say, and do the same as with ample memory when it is made again.
 
 mod common;
 #[path = "out_of_memory/hidden.rs"]
@@ -58,8 +58,8 @@ fn each_in_turn(mut attempt: impl FnMut(Refusal) -> usize) {
     in_turn(|after| Refusal::All { after }, &mut attempt);
 }
 
-/// With room for no more block, for one, and so on. Rust's `Arc` can't be refused its memory, so the
-/// package asks for as much before: that succeeds if there is room for the `Arc`.
+/// With room for no more block, for one, and so on. Rust's `Arc` can't be refused its memory, so
+/// the package asks for as much before: that succeeds if there is room for the `Arc`.
 fn each_block_in_turn(attempt: impl FnMut(Refusal) -> usize) {
     let above = |after: usize| Refusal::Above {
         blocks: after as isize,
@@ -67,8 +67,8 @@ fn each_block_in_turn(attempt: impl FnMut(Refusal) -> usize) {
     in_turn(above, attempt);
 }
 
-/// Makes a call while allocations are refused. If it returns that error, makes it again without a refusal.
-/// Returns what the call did in the end, and how many allocations were refused.
+/// Makes a call while allocations are refused. If it returns that error, makes it again without a
+/// refusal. Returns what the call did in the end, and how many allocations were refused.
 ///
 /// A call may do without memory that it didn't get, as a storage's index does.
 fn insist<T, E: PartialEq + std::fmt::Debug>(
@@ -209,7 +209,8 @@ fn no_image_of_an_allocator_takes_more_than_its_bytes() {
     assert_eq!((header.len(), asked_for(&header)), (40, 0));
 }
 
-/// In the forty bytes of an allocator with no slots: how many handles are reserved, and were requested.
+/// In the forty bytes of an allocator with no slots: how many handles are reserved, and were
+/// requested.
 const RESERVED: usize = 28;
 const REQUESTED: usize = 32;
 
@@ -237,7 +238,8 @@ const FORGED: [(u32, bool); 8] = [
     (u32::MAX, false),
 ];
 
-/// A forged image makes neither its reading nor the next flush take more memory than the reader allows.
+/// A forged image makes neither its reading nor the next flush take more memory than the reader
+/// allows.
 #[test]
 fn a_forged_image_of_an_allocator_takes_what_its_reader_allows() {
     let mut image = vec![];
@@ -311,9 +313,9 @@ fn a_forged_image_of_a_world_takes_what_its_reader_allows() {
     }
 }
 
-/// A world's lists have room for each slot that may get an entity, and those of a component for each
-/// place up to the last that has a value. So the most costly images have many components, which the
-/// last entities alone have.
+/// A world's lists have room for each slot that may get an entity, and those of a component for
+/// each place up to the last that has a value. So the most costly images have many components,
+/// which the last entities alone have.
 #[test]
 fn no_image_of_a_world_takes_more_than_eight_times_its_bytes() {
     // What the lists of 256 components take beyond that, however short they are.
@@ -357,7 +359,8 @@ fn image_of(count: usize, waiting: usize, given: usize, items: &[(ComponentId, i
     image
 }
 
-/// No room is asked for where fewer handles are left than are requested: memory can't run out there.
+/// No room is asked for where fewer handles are left than are requested: memory can't run out
+/// there.
 #[test]
 fn a_request_for_more_than_is_left() {
     let limits = Limits::new(5, 1).expect("limits");
@@ -397,8 +400,8 @@ fn a_flush_of_requests() {
     });
 }
 
-/// A flush into a list that has room, and no new slots: nothing is asked for. Else the list is as it
-/// was.
+/// A flush into a list that has room, and no new slots: nothing is asked for. Else the list is as
+/// it was.
 #[test]
 fn a_flush_into_a_list() {
     each_in_turn(|refusal| {
@@ -702,7 +705,8 @@ fn reserving_too_many() {
     let entities = Entities::with_limits(Limits::new(left, 1).expect("limits"));
     let (shared, mut reservers) = entities.share(2).expect("shared");
     let only = &mut reservers[0];
-    // For no more than the pool had, the list comes first. If its allocation fails, nothing has changed.
+    // For no more than the pool had, the list comes first. If its allocation fails, nothing has
+    // changed.
     let (given, refused) = refusing(none, || only.reserve_many(left));
     assert_eq!((given, refused), (Err(ReserveError::Memory), 1));
     assert_eq!(only.quota_left(), 1 << 40);
@@ -715,7 +719,8 @@ fn reserving_too_many() {
         quota -= u64::from(wanted);
         assert_eq!(only.quota_left(), quota);
     }
-    // The other reserver knows what was in the pool too, and so does one that comes back from a refused close.
+    // The other reserver knows what was in the pool too, and so does one that comes back from a
+    // refused close.
     let missing = shared.close(vec![]).expect_err("two are missing");
     let other = &mut reservers[1];
     let (given, refused) = refusing(none, || other.reserve_many(left + 1));
@@ -801,8 +806,8 @@ fn calls_of_a_map() {
     });
 }
 
-/// A vacant entry that runs out of memory hands its value back, and the map is as it was. What lends values or moves
-/// them out takes no memory.
+/// A vacant entry that runs out of memory hands its value back, and the map is as it was. What
+/// lends values or moves them out takes no memory.
 #[test]
 fn entries_and_drains_of_maps() {
     let none = Refusal::All { after: 0 };
@@ -867,7 +872,8 @@ fn has_numbers(map: &HandleMap<u64>, count: u32, limit: u32) -> bool {
         && map.iter().map(|(one, value)| (one, *value)).eq(numbers)
 }
 
-/// A clone that is refused changes neither map, and what is done with one of two later leaves the other.
+/// A clone that is refused changes neither map, and what is done with one of two later leaves the
+/// other.
 #[test]
 fn clones_of_a_map() {
     let none = Refusal::All { after: 0 };
@@ -970,8 +976,8 @@ fn clones_of_structs_of_maps() {
     }
 }
 
-/// A walk by a sparse map lists its handles. Without memory it goes over its first map, and comes to the
-/// same. Other walks take none.
+/// A walk by a sparse map lists its handles. Without memory it goes over its first map, and comes
+/// to the same. Other walks take none.
 #[test]
 fn walks_over_maps() {
     each_in_turn(|refusal| {
@@ -1078,7 +1084,8 @@ fn is_stored(storage: &Storage, count: u32) -> bool {
     storage.len() == count as usize && (0..count).all(is_there)
 }
 
-/// A clone that is refused leaves the storage, and what is done with one of two later leaves the other.
+/// A clone that is refused leaves the storage, and what is done with one of two later leaves the
+/// other.
 #[test]
 fn clones_of_a_storage() {
     for count in [1, 3_000, 70_001] {
@@ -1269,8 +1276,8 @@ fn calls_of_a_log() {
     });
 }
 
-/// A spawn without memory has reserved nothing and left no entry. Made again, it returns the handle that
-/// it would have returned.
+/// A spawn without memory has reserved nothing and left no entry. Made again, it returns the handle
+/// that it would have returned.
 #[test]
 fn a_spawn_in_a_log_of_commands() {
     let slots = (3..11).map(|index| handle(index, 1));
@@ -1364,9 +1371,9 @@ fn logs_of(entities: &mut Entities) -> Vec<forgeni::Log<u64>> {
     logs
 }
 
-/// A sync point of logs that is refused leaves the allocator, the logs and the list of what is born as
-/// they were. One that has begun hands on its entries without memory. Without new slots, and with a list
-/// that has room, it begins without memory too.
+/// A sync point of logs that is refused leaves the allocator, the logs and the list of what is born
+/// as they were. One that has begun hands on its entries without memory. Without new slots, and
+/// with a list that has room, it begins without memory too.
 #[test]
 fn a_sync_point_of_logs() {
     let entries = |logs: &[forgeni::Log<u64>]| -> Vec<Entry<u64>> {
@@ -1415,8 +1422,9 @@ fn a_sync_point_of_logs() {
     });
 }
 
-/// Systems and the beginning of their sync point, on one worker. Before they run the allocator is as it was. A
-/// system that stopped leaves what was reserved. If only what is born has no memory, the logs come back.
+/// Systems and the beginning of their sync point, on one worker. Before they run the allocator is
+/// as it was. A system that stopped leaves what was reserved. If only what is born has no memory,
+/// the logs come back.
 #[cfg(feature = "std")]
 #[test]
 fn a_sync_point_of_systems() {
@@ -1663,8 +1671,8 @@ fn with_queues() -> (World, Queues) {
     open.close(queues).expect("closed")
 }
 
-/// Ends a sync point that may have stopped, with ample memory. All faults. No other world takes what
-/// is left of it.
+/// Ends a sync point that may have stopped, with ample memory. All faults. No other world takes
+/// what is left of it.
 fn ended(world: &mut World, done: Result<Report, SyncError>) -> Vec<Fault> {
     match done {
         Ok(report) => report.faults.to_vec(),
@@ -1713,8 +1721,8 @@ fn a_sync_point_goes_on_wherever_it_stopped() {
     assert!(stops.iter().any(|stop| stop.system == 1), "{stops:?}");
 }
 
-/// The components that the first commands of three systems give to the world's second entity. Each number is
-/// new in the world, so each command may take memory.
+/// The components that the first commands of three systems give to the world's second entity. Each
+/// number is new in the world, so each command may take memory.
 const GIVEN: [&[u8]; 3] = [&[20, 21, 22], &[], &[23, 24]];
 
 /// How many the fourth system spawns at once, after a command without effect.
@@ -1740,8 +1748,8 @@ fn with_places() -> (World, Queues, Vec<Handle>) {
     (world, queues, spawned)
 }
 
-/// If a sync point stops, only the commands before the place of the stop have taken effect, and of a spawn of many
-/// only the first handles. It stops at each place that may take memory.
+/// If a sync point stops, only the commands before the place of the stop have taken effect, and of
+/// a spawn of many only the first handles. It stops at each place that may take memory.
 #[test]
 fn the_place_of_a_stop() {
     let mut places = Vec::new();
@@ -2061,7 +2069,8 @@ mod frames {
         assert!(seen.iter().all(|times| *times > 0), "{seen:?}");
     }
 
-    /// What is left of a block is lost with its reserver. To end such a phase may take memory, and it may be done again.
+    /// What is left of a block is lost with its reserver. To end such a phase may take memory, and
+    /// it may be done again.
     #[test]
     fn a_world_in_blocks_closed_without_its_reservers() {
         each_in_turn(|refusal| {
@@ -2079,8 +2088,8 @@ mod frames {
         });
     }
 
-    /// Allocations fail only on the worker that runs the system: starting a thread needs memory, and Rust has no form
-    /// of it that returns an error.
+    /// Allocations fail only on the worker that runs the system: starting a thread needs memory,
+    /// and Rust has no form of it that returns an error.
     #[test]
     fn refused_on_a_worker() {
         for workers in [1, 2, 3] {
@@ -2158,7 +2167,8 @@ fn one_request_ends_the_process() {
     }
 }
 
-/// A value for which a sparse map ran out of memory comes back, and a clone that is refused changes neither map.
+/// A value for which a sparse map ran out of memory comes back, and a clone that is refused changes
+/// neither map.
 #[test]
 fn calls_of_a_sparse_map() {
     let none = Refusal::All { after: 0 };

@@ -315,8 +315,8 @@ mod pools {
         assert_eq!(entities.reserved(), 2);
     }
 
-    /// A waiting thread takes the first reserver that becomes free, whatever the numbers of the threads: one reserver
-    /// is lent to a thread that waits for the other threads.
+    /// A waiting thread takes the first reserver that becomes free, whatever the numbers of the
+    /// threads: one reserver is lent to a thread that waits for the other threads.
     #[test]
     fn the_first_that_comes_free() {
         let (shared, reservers) = Entities::new().share(2).expect("shared");
@@ -332,7 +332,8 @@ mod pools {
                 });
             });
             is_lent.wait();
-            // They all find both lent. Threads that are started one after the other have consecutive numbers.
+            // They all find both lent. Threads that are started one after the other have
+            // consecutive numbers.
             for _ in 0..4 {
                 let (pool, tell) = (Arc::clone(&pool), tell.clone());
                 std::thread::spawn(move || {
@@ -370,8 +371,8 @@ mod pools {
         assert_eq!(entities.reserved(), 16 * 50);
     }
 
-    /// A thread gives the only reserver back, and comes again at once. While another one waits, it has a turn or two: that it has
-    /// had one more when the other one wakes makes it wait too.
+    /// A thread gives the only reserver back, and comes again at once. While another one waits, it
+    /// has a turn or two: that it has had one more when the other one wakes makes it wait too.
     #[test]
     fn who_waits_is_not_overtaken_for_good() {
         let (shared, reservers) = Entities::new().share(1).expect("shared");

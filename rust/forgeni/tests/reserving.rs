@@ -1,4 +1,5 @@
-//! What a reserver lists, what it asks of a list, and what is read of an allocator while it is shared.
+//! What a reserver lists, what it asks of a list, and what is read of an allocator while it is
+//! shared.
 
 use crate::common::{flushed, handle, small};
 use forgeni::{Entities, Handle, ReserveError, Reserver, Shared};

@@ -211,8 +211,8 @@ fn generations_and_retired_slots() {
     assert_eq!(entities.alloc(), Ok(handle(MANY, 1)));
 }
 
-/// Of a flush, the handles of new slots come first, and then those of the slots that were freed, the
-/// one first that was freed first.
+/// Of a flush, the handles of new slots come first, and then those of the slots that were freed,
+/// the one first that was freed first.
 #[test]
 #[cfg_attr(debug_assertions, ignore = "for optimised code")]
 fn reserved_at_one_flush() {
@@ -360,8 +360,8 @@ fn entities_of_one_command() {
     }
 }
 
-/// A world that is filled and emptied without a phase. The births number all of them, and of the slots the one
-/// that was freed last is first.
+/// A world that is filled and emptied without a phase. The births number all of them, and of the
+/// slots the one that was freed last is first.
 #[test]
 #[cfg_attr(debug_assertions, ignore = "for optimised code")]
 fn entities_of_a_world() {

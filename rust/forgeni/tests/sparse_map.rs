@@ -1,5 +1,5 @@
-//! Sparse maps from handles beside `HandleMap`: random calls, at three types of values. `FORGENI_SEEDS` sets
-//! how many seeds are run, `FORGENI_SEED` runs one alone.
+//! Sparse maps from handles beside `HandleMap`: random calls, at three types of values.
+//! `FORGENI_SEEDS` sets how many seeds are run, `FORGENI_SEED` runs one alone.
 
 use crate::common::{handle, seeds, Numbers};
 use forgeni::{AnyMap, Follows, Handle, HandleMap, InsertError, SparseMap};

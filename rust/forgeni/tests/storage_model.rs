@@ -239,7 +239,8 @@ fn bundles() {
     assert!(Bundle::new().items().is_empty());
 }
 
-/// Of equal bundles one alone is in a set, also if one of them has had more components and lies on the heap.
+/// Of equal bundles one alone is in a set, also if one of them has had more components and lies on
+/// the heap.
 #[test]
 fn equal_bundles_have_one_hash() {
     let many: Vec<_> = (0..9).map(|id| (ComponentId(id), 1)).collect();

@@ -96,7 +96,8 @@ fn of_logs_in_blocks() {
     assert!(ran.expect("memory").0.iter().map(Log::len).eq([18, 2]));
 }
 
-/// A system that fills a log sees what was alive when the phase was opened, and the rows that were kept.
+/// A system that fills a log sees what was alive when the phase was opened, and the rows that were
+/// kept.
 struct Sees([Handle; 3]);
 
 impl<S: Source> LogSystem<Handle, S> for Sees {

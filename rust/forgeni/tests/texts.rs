@@ -428,7 +428,8 @@ mod frames {
     }
 }
 
-/// Texts of handles and of traces keep width, fill, alignment and precision, as strings do. They are cut where they are too long.
+/// Texts of handles and of traces keep width, fill, alignment and precision, as strings do. They
+/// are cut where they are too long.
 #[test]
 fn texts_that_are_padded_and_cut() {
     let difference = Difference {
@@ -459,7 +460,8 @@ fn texts_that_are_padded_and_cut() {
     }
 }
 
-/// The texts of errors are sentences, and a birth is three numbers: they are written as they are, whatever is asked for.
+/// The texts of errors are sentences, and a birth is three numbers: they are written as they are,
+/// whatever is asked for.
 #[test]
 fn texts_that_are_never_cut() {
     let birth = Birth {

@@ -1,5 +1,6 @@
-//! Traces by hand: what the checker says of the faults that people have made, of each form of a reply, and
-//! of its own bounds. The replies that are expected are worked out by the rules of the allocator.
+//! Traces by hand: what the checker says of the faults that people have made, of each form of a
+//! reply, and of its own bounds. The replies that are expected are worked out by the rules of the
+//! allocator.
 
 use crate::common::{flushed, handle};
 use forgeni::trace::{AllocReply, Call, CheckError, Checker, FlushReply, FreeReply};
@@ -15,7 +16,8 @@ fn handles(text: &str) -> Vec<Handle> {
     text.split_whitespace().map(handle).collect()
 }
 
-/// Three entities lived, and two of them were freed: what there is to give is 1v2, 0v2, 3v1, 4v1 and so on.
+/// Three entities lived, and two of them were freed: what there is to give is 1v2, 0v2, 3v1, 4v1
+/// and so on.
 fn begun() -> Checker {
     let mut checker = Checker::new(limits(100, 4));
     for one in handles("0v1 1v1 2v1") {
@@ -370,7 +372,8 @@ fn logs_are_joined_at_the_next_other_call() {
     );
 }
 
-/// Each call of a recorder first adds what the logs have: its answer is the one after these reservations.
+/// Each call of a recorder first adds what the logs have: its answer is the one after these
+/// reservations.
 #[test]
 fn each_call_joins_the_logs() {
     let one = handle(0, 1);

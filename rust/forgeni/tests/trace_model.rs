@@ -1,6 +1,6 @@
-//! Random traces, which a plain model has written, and the same with one reply changed. What the checker
-//! says of each is what a search over all orders finds, which knows nothing of positions and keys.
-//! `FORGENI_SEEDS` sets how many seeds are run, `FORGENI_SEED` runs one alone.
+//! Random traces, which a plain model has written, and the same with one reply changed. What the
+//! checker says of each is what a search over all orders finds, which knows nothing of positions
+//! and keys. `FORGENI_SEEDS` sets how many seeds are run, `FORGENI_SEED` runs one alone.
 
 use crate::common::{handle, seeds, Model, Numbers};
 use forgeni::trace::{AllocReply, Call, CheckError, Checker, FlushReply, FreeReply};
@@ -77,8 +77,8 @@ fn caller(call: &Call) -> Option<u32> {
     }
 }
 
-/// Puts the calls of a run into each order that keeps every caller's own, and adds the states after those
-/// in which the model answers so.
+/// Puts the calls of a run into each order that keeps every caller's own, and adds the states after
+/// those in which the model answers so.
 fn after_each_order(model: &Model, run: &[&Call], after: &mut Vec<Model>) {
     if run.is_empty() && !after.contains(model) {
         after.push(model.clone());

@@ -1,5 +1,5 @@
-//! Worked examples as traces. Each agrees; and with one answer changed, in each of many ways, it differs at
-//! the line of that answer, where the answer of the example is what was expected.
+//! Worked examples as traces. Each agrees; and with one answer changed, in each of many ways, it
+//! differs at the line of that answer, where the answer of the example is what was expected.
 
 use crate::common::handle;
 use forgeni::trace::{AllocReply, Call, CheckError, Checker, FlushReply, FreeReply};
@@ -20,7 +20,8 @@ const ROWS: [Row; 10] = [
         "alloc => 0v1 / alloc => 1v1 / free 0v1 => freed next 0v2 / reserve 1 2 => 0v2 2v1 / \
          flush => born 2v1 0v2",
     ),
-    // The slot that was freed last is given first, but a bulk begins with the one that waits longest.
+    // The slot that was freed last is given first, but a bulk begins with the one that waits
+    // longest.
     Row(
         u32::MAX,
         GENERATIONS,

@@ -44,8 +44,8 @@ fn entities_come_and_go() {
 }
 
 /// The commands of the first queue take effect first, whichever system reserved first.
-/// The entities spawned between two flushes have consecutive numbers. Neither a refusal nor a phase without a flush
-/// starts the numbers anew.
+/// The entities spawned between two flushes have consecutive numbers. Neither a refusal nor a phase
+/// without a flush starts the numbers anew.
 #[test]
 fn spawned_between_two_flushes() {
     fn spawned(world: &mut World) -> String {

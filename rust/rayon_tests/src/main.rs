@@ -1,5 +1,6 @@
-//! What a frame of eight empty systems costs on rayon, beside the same eight closures by `rayon::scope` and
-//! by a loop: medians in microseconds. And how long a walk over a map takes on one thread and on four.
+//! What a frame of eight empty systems costs on rayon, beside the same eight closures by
+//! `rayon::scope` and by a loop: medians in microseconds. And how long a walk over a map takes on
+//! one thread and on four.
 
 use forgeni::{run_frame, run_frame_on, Handle, HandleMap, Rayon, SystemCommands, View, World};
 use rayon::iter::{IntoParallelRefMutIterator, ParallelIterator};

@@ -116,7 +116,8 @@ impl Worlding {
         }
     }
 
-    /// What is left of the queues there. `None` if there is no such place, or the world can't go on.
+    /// What is left of the queues there. `None` if there is no such place, or the world can't go
+    /// on.
     fn applied_from(
         &mut self,
         system: usize,
@@ -257,7 +258,8 @@ impl Worlding {
         }
     }
 
-    /// A sync point or a frame: `done` even if it ran out of memory. Then a line must say how it ended.
+    /// A sync point or a frame: `done` even if it ran out of memory. Then a line must say how it
+    /// ended.
     fn keep_tried(&mut self, ended: Ended, out: &mut Out) {
         match ended {
             Ended::Refused(why) => out.word(why),

@@ -1,5 +1,5 @@
-//! Commands of a game's own type. Two systems fill a log each, and at the sync point a closure obeys
-//! the orders, in the order of the systems.
+//! Commands of a game's own type. Two systems fill a log each, and at the sync point a closure
+//! obeys the orders, in the order of the systems.
 use anyhow::Result;
 use ent_alloc::{Entities, FreeFault, Limits};
 use ent_handle::Handle;

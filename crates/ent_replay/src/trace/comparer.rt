@@ -66,7 +66,8 @@ impl Comparer {
         Comparer::from_entities(alloc, Entities::new(alloc, limits))
     }
 
-    /// One whose trace begins in the state of this allocator, with its requests. It takes no memory.
+    /// One whose trace begins in the state of this allocator, with its requests. It takes no
+    /// memory.
     pub fn from_entities(alloc: Global, entities: Entities) -> Self
         ensures { result ≡ record { allocator = entities.allocator; run = [] } }
     {

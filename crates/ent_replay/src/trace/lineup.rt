@@ -1,5 +1,5 @@
-//! The reservations of a run, lined up: those that agree, in an order in which they may have come, and
-//! the others.
+//! The reservations of a run, lined up: those that agree, in an order in which they may have come,
+//! and the others.
 ghost use Rattle.std.specs.Prelude.{◌≡◌, ◌≢◌, ◌↔◌, ◌<◌, ◌≤◌, ◌+◌, ◌++◌, [], length, IfOk, IsTrue};
 ghost use Rattle.std.specs.Prelude.{◌^◌, pos, ◌+ℤ◌, ◌≤ℤ◌};
 ghost use Rattle.ent_alloc.specs.Sequential.{cursor, pool_at, reply_from, top};
@@ -69,8 +69,8 @@ impl Lineup {
         Ok(lineup)
     }
 
-    /// Goes over those that are not placed, in their order, and places each one that fits and is the next
-    /// one of its caller.
+    /// Goes over those that are not placed, in their order, and places each one that fits and is
+    /// the next one of its caller.
     fn pass(self, alloc: Global, entities: &Entities) -> Result<Self, Memory>
         requires { IsLineup entities.now.allocator self }
         ensures lined { IfOk result (λ next. IsLineup entities.now.allocator next) }

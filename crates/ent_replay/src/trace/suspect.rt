@@ -24,9 +24,9 @@ struct Turn {
     index: usize,
 }
 
-/// If none of these fits at this position, the index of the one that is named: the first one that is its
-/// caller's next one, and without whose answer all others fit. If none of the first 64 callers has such
-/// a reservation, it is the first of the list.
+/// If none of these fits at this position, the index of the one that is named: the first one that
+/// is its caller's next one, and without whose answer all others fit. If none of the first 64
+/// callers has such a reservation, it is the first of the list.
 pub(super) fn suspect(
     alloc: Global,
     entities: &Entities,
@@ -69,8 +69,8 @@ fn turns(alloc: Global, entities: &Entities, rest: &[Placed]) -> Result<Vec<Turn
     Ok(order)
 }
 
-/// Whether all reservations but one fit in this order, one after the other, if the order is also that of
-/// each caller. A reservation of nothing fits anywhere.
+/// Whether all reservations but one fit in this order, one after the other, if the order is also
+/// that of each caller. A reservation of nothing fits anywhere.
 fn others_fit(
     alloc: Global,
     entities: &Entities,

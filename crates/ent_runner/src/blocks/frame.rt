@@ -56,20 +56,21 @@ pub enum Unframed<J: BlockNumbering> {
     },
 }
 
-/// Runs each system once, on that many workers side by side, each with the reserver at its position, and
-/// then the sync point. The queues are applied in the order of the systems.
+/// Runs each system once, on that many workers side by side, each with the reserver at its
+/// position, and then the sync point. The queues are applied in the order of the systems.
 ///
-/// The handles of a system's spawns are the next ones of its block, in the pool's order, whatever the
-/// others do, whichever worker runs it, and however many workers there are. So if what a system does
-/// follows from what it sees, the world after the frame is the same each time, handles included.
+/// The handles of a system's spawns are the next ones of its block, in the pool's order, whatever
+/// the others do, whichever worker runs it, and however many workers there are. So if what a system
+/// does follows from what it sees, the world after the frame is the same each time, handles
+/// included.
 ///
 /// # Errors
 ///
 /// - [`Unframed::Unrun`] as of [`fill_in_blocks`]: no command was applied.
 /// - [`Unframed::Unended`] if all systems ran, and the world was not closed, as of
 ///   [`WorldInBlocks::close`].
-/// - [`Unframed::Sync`] if all systems ran and memory ran out in the sync point. [`World::apply`] or
-///   [`World::apply_from`] goes on, as after a frame that isn't in blocks.
+/// - [`Unframed::Sync`] if all systems ran and memory ran out in the sync point. [`World::apply`]
+///   or [`World::apply_from`] goes on, as after a frame that isn't in blocks.
 pub fn run_frame_in_blocks<R, J: BlockNumbering + Send + Sync, S>(
     rt: &R,
     alloc: Global,
@@ -121,7 +122,8 @@ where
     ensures unended_of { IfErr result (IfUnended (λ _ left _ _.
         All (λ r. r.number ≡ opened.blocks.number) left)) }
 
-    // Why not. If the reservers are those of all blocks, in their order, it is because memory ran out.
+    // Why not. If the reservers are those of all blocks, in their order, it is because memory ran
+    // out.
     ensures unended_why { IfErr result (IfUnended (λ _ _ error _.
         IsWhyUnended opened.blocks.phase.blocks (blocks_of reservers.items) error)) }
     ensures whole { map unused (blocks_of reservers.items) ≡ opened.blocks.phase.blocks

@@ -1,4 +1,5 @@
-//! What systems in blocks need before they run: a reserver each, a crew, and room for what they hand back.
+//! What systems in blocks need before they run: a reserver each, a crew, and room for what they
+//! hand back.
 ghost use Rattle.std.specs.Prelude.{◌≡◌, ◌≢◌, ◌<◌, ◌≤◌, ◌^◌, ◌↔◌, ◌⊎◌, [], length, All, IfOk, OnOk};
 ghost use Rattle.std.specs.Prelude.{IsErrOf};
 ghost use Rattle.std.specs.Prelude.{IsTrue, vec_capacity};
@@ -30,7 +31,8 @@ pub(super) struct Room<J: BlockNumbering, O> {
 ///
 /// # Errors
 ///
-/// Any [`RunError`] but [`RunError::Memory`] and [`RunError::Lost`]. Of those, the first that holds.
+/// Any [`RunError`] but [`RunError::Memory`] and [`RunError::Lost`]. Of those, the first that
+/// holds.
 pub(super) fn check<J: BlockNumbering>(
     blocks: &Blocks<J>,
     reservers: &[BlockReserver<J>],

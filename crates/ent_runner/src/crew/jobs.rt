@@ -2,8 +2,8 @@ ghost use Rattle.std.specs.Prelude.{◌<◌, ℕ, OnOk, OnErr};
 
 use ent_handle::Memory;
 
-/// Jobs with numbers from 0, which the workers of a [`Crew`](crate::Crew) do. A worker lends each of
-/// its jobs what it has itself, an `L`, such as a reserver. A job has one output.
+/// Jobs with numbers from 0, which the workers of a [`Crew`](crate::Crew) do. A worker lends each
+/// of its jobs what it has itself, an `L`, such as a reserver. A job has one output.
 ///
 /// One value has all jobs, and each of them may run on any worker.
 pub trait Jobs<O, L> {

@@ -34,8 +34,8 @@ pub enum FrameFault {
     #[error("out of memory before any system ran")]
     Memory,
     /// A system returned `Memory`, or systems are left and no worker has memory for the queue of
-    /// another one. No command was applied. The handles that the systems reserved stay reserved, and
-    /// no others: the next flush brings them to life, without components.
+    /// another one. No command was applied. The handles that the systems reserved stay reserved,
+    /// and no others: the next flush brings them to life, without components.
     #[error("out of memory while the systems ran")]
     Lost,
     /// All systems ran, and the sync point stopped.

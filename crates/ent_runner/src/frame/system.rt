@@ -13,9 +13,9 @@ use std::alloc::Global;
 /// A system: it reads the world as the frame began, and issues commands that take effect at the
 /// frame's sync point. `S` is the source of its handles: a shared allocator, or blocks.
 ///
-/// One value of it may run on any worker, so what it knows of the world is what the view says. In plain
-/// Rust a function is a system, and so is a closure: `system` tells Rust the types of its parameters.
-/// Systems of several types go into one list in boxes, or behind `&dyn System<S>`.
+/// One value of it may run on any worker, so what it knows of the world is what the view says. In
+/// plain Rust a function is a system, and so is a closure: `system` tells Rust the types of its
+/// parameters. Systems of several types go into one list in boxes, or behind `&dyn System<S>`.
 ///
 /// ```
 /// use forgeni::{run_frame, Handle, OutOfMemory, System, SystemCommands, View, World};
@@ -67,8 +67,8 @@ pub trait System<S: Source> {
     ///
     /// # Errors
     ///
-    /// `Memory`, if the system ran out of memory. The whole frame is then lost. Of a shared allocator,
-    /// what the system had reserved stays reserved; in blocks all reservers are dropped.
+    /// `Memory`, if the system ran out of memory. The whole frame is then lost. Of a shared
+    /// allocator, what the system had reserved stays reserved; in blocks all reservers are dropped.
     fn run(
         &self,
         alloc: Global,

@@ -37,8 +37,8 @@ pub enum LogError {
     /// no others: the next flush brings them to life.
     #[error("out of memory while the systems ran")]
     Lost,
-    /// All systems ran, and there is no memory for what is born. The handles that they reserved stay
-    /// reserved, and no others. `run_logs` never returns it.
+    /// All systems ran, and there is no memory for what is born. The handles that they reserved
+    /// stay reserved, and no others. `run_logs` never returns it.
     #[error("out of memory for what is born")]
     Unborn,
 }

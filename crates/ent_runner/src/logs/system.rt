@@ -9,8 +9,8 @@ use ent_log::Log;
 use ent_queue::Commands;
 use std::alloc::Global;
 
-/// A system that fills a log. `C` is the caller's type of commands, and `S` the source of the handles: a
-/// shared allocator, or blocks.
+/// A system that fills a log. `C` is the caller's type of commands, and `S` the source of the
+/// handles: a shared allocator, or blocks.
 ///
 /// One value of it may run on any worker.
 ///
@@ -56,8 +56,8 @@ pub trait LogSystem<C, S: Source> {
     ///
     /// # Errors
     ///
-    /// `Memory`, if the system ran out of memory. All logs are then dropped. Of a shared allocator, what
-    /// the systems had reserved stays reserved; in blocks all reservers are dropped.
+    /// `Memory`, if the system ran out of memory. All logs are then dropped. Of a shared allocator,
+    /// what the systems had reserved stays reserved; in blocks all reservers are dropped.
     fn run(&self, alloc: Global, commands: &mut Commands<'_, Log<C>, S>) -> Result<(), Memory>
         requires { IsReady S.serves commands.old }
         ensures extends { Extends Logs S.serves S.may_reply commands.old commands.new }

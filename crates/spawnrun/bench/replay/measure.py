@@ -1,4 +1,5 @@
-"""Runs `spawnrun replay` on a schedule by both builds, and prints the row of the table, or stops at a wrong outcome.
+"""Runs `spawnrun replay` on a schedule by both builds, and prints the row of the table, or stops at
+a wrong outcome.
 
 usage: measure.py PROGRAM BY_CARGO SHAPE SCHEDULE OUTCOMES
 """
@@ -18,7 +19,9 @@ def check(output, outcomes):
     """Stops where the program wrote anything else than what must come of the schedule."""
     if output != outcomes:
         pairs = zip_longest(output.splitlines(keepends=True), outcomes.splitlines(keepends=True))
-        line = next(number for number, (written, wanted) in enumerate(pairs, 1) if written != wanted)
+        line = next(
+            number for number, (written, wanted) in enumerate(pairs, 1) if written != wanted
+        )
         sys.exit(f"the program's output is wrong at line {line}")
 
 
@@ -36,9 +39,9 @@ def nanoseconds(command, schedule, outcomes):
 def peak_memory(command, schedule):
     """The most memory that a run holds, in bytes.
 
-    The program makes all of its output before it writes any, so it is at its peak when the first of it comes, and
-    waits there, as a pipe does not hold the rest. What getrusage tells is of no use for a small run: it counts the
-    Python process that the program was forked from.
+    The program makes all of its output before it writes any, so it is at its peak when the first of
+    it comes, and waits there, as a pipe does not hold the rest. What getrusage tells is of no use
+    for a small run: it counts the Python process that the program was forked from.
     """
     with schedule.open("rb") as given:
         run = subprocess.Popen(command, stdin=given, stdout=subprocess.PIPE)

@@ -1,7 +1,8 @@
 """Prints a schedule for `spawnrun replay`, and writes what must come of it.
 
-A schedule is the beginning of an endless one, so the mix of its events does not depend on its length.
-What must come of it is told by the sequential allocator of docs/MODEL.md, written a second time.
+A schedule is the beginning of an endless one, so the mix of its events does not depend on its
+length. What must come of it is told by the sequential allocator of docs/MODEL.md, written a second
+time.
 """
 
 import argparse
@@ -16,7 +17,8 @@ MANY = 300_000  # slots, where very many wait
 
 
 class Allocator:
-    """The sequential allocator, as far as no count is refused and no slot comes to its last generation.
+    """The sequential allocator, as far as no count is refused and no slot comes to its last
+    generation.
 
     A handle is a pair of an index and a generation.
     """
@@ -60,7 +62,8 @@ class Allocator:
         return old + fresh
 
     def cursor(self):
-        """All old handles less all that was asked for. Old ones that are taken count in both and cancel out."""
+        """All old handles less all that was asked for. Old ones that are taken count in both and
+        cancel out."""
         return len(self.waiting) - (self.unused - self.made)
 
     def flush(self):
@@ -108,13 +111,16 @@ class Schedule:
         return self.choice.sample(range(CALLERS), count)
 
     def mixed(self):
-        """Frames: entities come and go at once, then callers reserve one or a few each. More come than go."""
+        """Frames: entities come and go at once, then callers reserve one or a few each. More come
+        than go."""
         while True:
             for _ in range(24):
                 is_alloc = not self.allocator.living or self.choice.random() < 1 / 3
                 yield self.alloc() if is_alloc else self.free()
             callers = self.some_callers(self.choice.randint(1, 15))
-            calls = [(caller, self.choice.choice((1, self.choice.randint(2, 8)))) for caller in callers]
+            calls = [
+                (caller, self.choice.choice((1, self.choice.randint(2, 8)))) for caller in callers
+            ]
             turns = 3 * calls
             self.choice.shuffle(turns)
             for caller, count in turns:
@@ -122,7 +128,8 @@ class Schedule:
             yield self.flush()
 
     def callers(self, count):
-        """So many calls are open at once: all callers begin, all step and all answer, each time in another order."""
+        """So many calls are open at once: all callers begin, all step and all answer, each time in
+        another order."""
         while True:
             callers = self.some_callers(count)
             for _ in range(3):
@@ -132,7 +139,8 @@ class Schedule:
             yield self.flush()
 
     def waiting(self):
-        """Very many slots wait: one call takes them all, and later frames take a few of them each."""
+        """Very many slots wait: one call takes them all, and later frames take a few of them
+        each."""
         for _ in range(MANY):
             yield self.alloc()
         yield from self.free_all()

@@ -1,5 +1,6 @@
-"""Runs `spawnrun run` on texts of about the greatest length, two of which are no scripts, and prints the table of what it says of
-them, how much memory each build of it holds at most, and how long it takes.
+"""Runs `spawnrun run` on texts of about the greatest length, two of which are no scripts, and
+prints the table of what it says of them, how much memory each build of it holds at most, and how
+long it takes.
 
 usage: long.py PROGRAM BY_CARGO
 """
@@ -37,10 +38,13 @@ def spawns():
 
 
 def texts():
-    """What each text is, and its pieces: with the whole of it this process would take more memory than the program does."""
+    """What each text is, and its pieces: with the whole of it this process would take more memory
+    than the program does."""
     yield 'a list of `{"":0}`', repeated("[", '{"":0}', "]")
     nested = '{"":' * 100 + "0" + "}" * 100
-    yield "`frames` of objects, 100 in one another", repeated('{"components":[],"frames":[', nested, "]}")
+    yield "`frames` of objects, 100 in one another", repeated(
+        '{"components":[],"frames":[', nested, "]}"
+    )
     yield f"{2 * SYSTEMS * SPAWNS:,} spawns of one component", spawns()
 
 
@@ -48,7 +52,9 @@ def run(program, script, output):
     """The seconds of one run, and the most memory that it held, in bytes."""
     with open(script, "rb") as given, open(output, "wb") as written:
         start = time.perf_counter()
-        child = subprocess.Popen([program, "run"], stdin=given, stdout=written, stderr=subprocess.DEVNULL)
+        child = subprocess.Popen(
+            [program, "run"], stdin=given, stdout=written, stderr=subprocess.DEVNULL
+        )
         usage = os.wait4(child.pid, 0)[2]
         child.returncode = 0
     return time.perf_counter() - start, 1024 * usage.ru_maxrss
@@ -60,7 +66,9 @@ def first_line(output):
 
 
 def main(*programs):
-    print("| Text | First line of output | Peak, bytes for each byte of text | s | Peak by cargo | s by cargo |")
+    print(
+        "| Text | First line of output | Peak, bytes for each byte of text | s | Peak by cargo | s by cargo |"
+    )
     print("|---|---|---|---|---|---|")
     with tempfile.TemporaryDirectory() as folder:
         script, output = os.path.join(folder, "script"), os.path.join(folder, "output")

@@ -1,5 +1,5 @@
-"""Runs `spawnrun run` on a script by both builds, with each of these numbers of workers in turns, and prints their rows of the
-table. It stops at a wrong report.
+"""Runs `spawnrun run` on a script by both builds, with each of these numbers of workers in turns,
+and prints their rows of the table. It stops at a wrong report.
 
 usage: measure.py PROGRAM BY_CARGO SHAPE COMMANDS SCRIPT REPORT WORKERS..
 """
@@ -21,7 +21,9 @@ def check(output, report):
     """Stops where the program wrote anything else than what must come of the script."""
     if output != report:
         pairs = zip_longest(output.splitlines(keepends=True), report.splitlines(keepends=True))
-        line = next(number for number, (written, wanted) in enumerate(pairs, 1) if written != wanted)
+        line = next(
+            number for number, (written, wanted) in enumerate(pairs, 1) if written != wanted
+        )
         sys.exit(f"the program's output is wrong at line {line}")
 
 
@@ -39,9 +41,9 @@ def nanoseconds(command, script, report):
 def peak_memory(command, script):
     """The most memory that a run holds, in bytes.
 
-    The program makes all of its output before it writes any, so it is at its peak when the first of it comes, and
-    waits there, as a pipe of one page does not hold the rest. What getrusage tells is of no use for a small run: it
-    counts the Python process that the program was forked from.
+    The program makes all of its output before it writes any, so it is at its peak when the first of
+    it comes, and waits there, as a pipe of one page does not hold the rest. What getrusage tells is
+    of no use for a small run: it counts the Python process that the program was forked from.
     """
     read, write = os.pipe()
     fcntl.fcntl(write, fcntl.F_SETPIPE_SZ, PAGE)
@@ -60,7 +62,11 @@ def main(program, by_cargo, shape, commands, script, report, *workers):
     wanted, length = Path(report).read_bytes(), script.stat().st_size
     if len(wanted) <= PAGE + 1:
         sys.exit("the report is too short to tell the memory")
-    sides = {(build, count): [build, "run", "--workers", count] for count in workers for build in (program, by_cargo)}
+    sides = {
+        (build, count): [build, "run", "--workers", count]
+        for count in workers
+        for build in (program, by_cargo)
+    }
     times = {side: [] for side in sides}
     for _ in range(RUNS):
         for side, command in sides.items():

@@ -1,7 +1,8 @@
 """Prints a script for `spawnrun run`, and writes what must come of it, with births shown.
 
-A script has as many frames as its number of commands needs. What must come of it is told by births alone, as no
-command of it depends on a handle: a map from births to components, on which each sync point applies the commands.
+A script has as many frames as its number of commands needs. What must come of it is told by births
+alone, as no command of it depends on a handle: a map from births to components, on which each sync
+point applies the commands.
 """
 
 import argparse
@@ -28,7 +29,8 @@ class World:
         return [birth for birth, values in self.entities.items() if component in values]
 
     def sync(self, systems):
-        """Brings to life what the systems have spawned, and applies their commands. Returns the lines of the frame."""
+        """Brings to life what the systems have spawned, and applies their commands. Returns the
+        lines of the frame."""
         for system in systems:
             self.entities.update((birth, {}) for birth in system.spawned)
         faults = []
@@ -90,7 +92,7 @@ class System:
 
     def on_each(self, operation, target, change):
         self.operations.append(operation)
-        (kind, text), = target.items()
+        ((kind, text),) = target.items()
         for birth in self.names[text] if kind == "name" else self.world.having(text):
             self.issue_one(change, [birth])
 
@@ -111,7 +113,8 @@ class System:
 
 
 def mixed(system, choice):
-    """Entities come and go, by names and by `each`. A few hundred are alive. One command in a hundred is a fault."""
+    """Entities come and go, by names and by `each`. A few hundred are alive. One command in a
+    hundred is a fault."""
     number = system.number
     if number < 2:
         for k in range(100):
@@ -132,7 +135,8 @@ def mixed(system, choice):
 
 
 def names(system, choice):
-    """Each operation issues one command, and nine of ten entities go in the frame in which they came."""
+    """Each operation issues one command, and nine of ten entities go in the frame in which they
+    came."""
     for k in range(60):
         system.spawn({"hp": choice.randint(1, 99)}, f"a{k}")
         system.insert({"mp": choice.randint(1, 99)}, {"name": f"a{k}"})
@@ -172,7 +176,8 @@ def flocks(system, choice):
 
 
 def births(system, choice):
-    """So many entities come at once, and then a system names ten thousand births, a fifth of them nobody's."""
+    """So many entities come at once, and then a system names ten thousand births, a fifth of them
+    nobody's."""
     least = system.world.least
     if system.frame == 0:
         for first in range(0, least, MOST):
@@ -182,7 +187,8 @@ def births(system, choice):
             system.insert_at({"mp": value}, (0, 0, choice.randrange(least * 5 // 4)))
 
 
-# Of each shape what a system does, how many systems a frame has, and how many frames there are at least.
+# Of each shape what a system does, how many systems a frame has, and how many frames there are at
+# least.
 SHAPES = {
     "mixed": (mixed, 4, 1),
     "names": (names, 4, 1),
@@ -195,9 +201,11 @@ SHAPES = {
 
 
 def frames(shape, least):
-    """The frames until there are so many commands, of which a spawn of many is one for each of its handles.
+    """The frames until there are so many commands, of which a spawn of many is one for each of its
+    handles.
 
-    Each as the operations of its systems, the lines that it must print, and the number of its commands.
+    Each as the operations of its systems, the lines that it must print, and the number of its
+    commands.
     """
     write, count, fewest = SHAPES[shape]
     world, choice = World(least), random.Random(SEED)
@@ -214,7 +222,9 @@ def frames(shape, least):
 
 def main():
     parser = argparse.ArgumentParser(description=__doc__)
-    parser.add_argument("commands", type=int, help="at least so many; of the shape births, so many entities")
+    parser.add_argument(
+        "commands", type=int, help="at least so many; of the shape births, so many entities"
+    )
     parser.add_argument("shape", nargs="?", choices=SHAPES, default="mixed")
     parser.add_argument("--report", default=os.devnull, help="the file for what must come of it")
     wanted = parser.parse_args()

@@ -44,7 +44,8 @@ impl Audit<'_> {
         }
     }
 
-    /// The end of an item of a ghost trait: its import, the trait, an `impl` of it, or the module of nothing else.
+    /// The end of an item of a ghost trait: its import, the trait, an `impl` of it, or the module
+    /// of nothing else.
     fn ghost_trait_end(&self, at: usize) -> Option<usize> {
         let source = self.source;
         let is_trait = |at: usize| self.names.ghost_traits.contains(source.at(at));
@@ -103,7 +104,8 @@ impl Audit<'_> {
         })
     }
 
-    /// The end of a field that is a `PhantomData` of a ghost type, or of its place in a literal or a pattern.
+    /// The end of a field that is a `PhantomData` of a ghost type, or of its place in a literal or
+    /// a pattern.
     fn phantom_end(&self, at: usize) -> Option<usize> {
         let source = self.source;
         let is_field = |it: &(String, String)| it.1 == source.at(at);

@@ -4,7 +4,8 @@ use super::{has, pieces, Audit};
 use crate::source::Fault;
 
 impl Audit<'_> {
-    /// The end of the `Display` and the `Error` that stand in the result for the messages of a type.
+    /// The end of the `Display` and the `Error` that stand in the result for the messages of a
+    /// type.
     pub(super) fn added_messages(&self) -> Result<usize, Fault> {
         let name = self.result.at(self.out + 7);
         let head = format!(
@@ -45,7 +46,8 @@ impl Audit<'_> {
         Err(self.source.fault(self.at, what))
     }
 
-    /// The place after the fields of a pattern: names of the message, and `..` at the end, or `(..)`.
+    /// The place after the fields of a pattern: names of the message, and `..` at the end, or
+    /// `(..)`.
     fn after_pattern(&self, at: usize, text: &str) -> usize {
         let (result, close) = (self.result, self.result.partner(at));
         if result.has(at, &["(", "..", ")"]) {

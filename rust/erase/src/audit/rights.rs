@@ -5,7 +5,8 @@ use crate::forms;
 use crate::lex::Kind;
 
 impl Audit<'_> {
-    /// The end of a part of a list that has the right, with the comma that parts it from others, and of what binds it.
+    /// The end of a part of a list that has the right, with the comma that parts it from others,
+    /// and of what binds it.
     pub(super) fn right_end(&self) -> Option<usize> {
         let (source, at) = (self.source, self.at);
         if source.has(at, &[",", forms::RIGHT, ">"]) {
@@ -87,8 +88,8 @@ impl Audit<'_> {
         (may_make && is_made).then_some(at + 5)
     }
 
-    /// Whether the name at this place is declared to have the right, in its function or as a field of the type before
-    /// its braces.
+    /// Whether the name at this place is declared to have the right, in its function or as a field
+    /// of the type before its braces.
     fn is_declared_right(&self, at: usize) -> bool {
         let (source, name) = (self.source, self.source.at(at));
         let is_function = |at: &usize| source.at(*at) == "fn" && source.is_word(*at + 1);

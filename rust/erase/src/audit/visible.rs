@@ -5,8 +5,8 @@ use crate::conditions::{imported, is_inside, is_met};
 use crate::source::Fault;
 
 impl Audit<'_> {
-    /// Whether a `pub` stands here in the source that may not do so in the result: that of a function
-    /// with a condition, or of its import.
+    /// Whether a `pub` stands here in the source that may not do so in the result: that of a
+    /// function with a condition, or of its import.
     pub(super) fn has_to_be_narrow(&self) -> bool {
         let (source, at) = (self.source, self.at);
         if source.at(at) != "pub" {

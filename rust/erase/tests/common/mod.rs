@@ -13,7 +13,8 @@ use std::path::PathBuf;
 /// The path of the source.
 pub const PATH: &str = "crates/ent_here/src/here.rt";
 
-/// The source's crate, `ent_here`, and `ent_other`. The sources may use these forms, and what a letter names.
+/// The source's crate, `ent_here`, and `ent_other`. The sources may use these forms, and what a
+/// letter names.
 fn names(forms: &[&'static Forms], name: &str, path: &str, text: &str) -> Result<Names, Fault> {
     let mut names = Names::new(forms);
     let letters = |kind: &str, first: char, last: char| -> String {

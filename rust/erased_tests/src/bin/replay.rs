@@ -1,5 +1,6 @@
-//! `spawnrun replay` of the erased code, with the greatest limits: a schedule on standard input, what comes of it on
-//! standard output. The benchmark of the program times it beside the machine code that the kit has made.
+//! `spawnrun replay` of the erased code, with the greatest limits: a schedule on standard input,
+//! what comes of it on standard output. The benchmark of the program times it beside the machine
+//! code that the kit has made.
 
 extern crate alloc;
 

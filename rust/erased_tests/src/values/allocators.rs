@@ -17,8 +17,8 @@ fn the_greatest_limits() {
     assert_eq!(entities.asked(), 5);
 }
 
-// For how many slots there is room stands in no contract, so only a test sees that a flush which finds
-// room for all of them isn't refused.
+// For how many slots there is room stands in no contract, so only a test sees that a flush which
+// finds room for all of them isn't refused.
 #[test]
 fn a_flush_with_room_for_its_slots_is_not_refused() {
     for room in [0, 64] {

@@ -1,5 +1,5 @@
-//! Worked use of maps by handle: one map of texts, which own memory, one of nothing, which has no size,
-//! and one of numbers, which are `Copy`.
+//! Worked use of maps by handle: one map of texts, which own memory, one of nothing, which has no
+//! size, and one of numbers, which are `Copy`.
 
 use crate::components::handle_map::{HandleMap, InsertError};
 use crate::handles::Handle;

@@ -1,5 +1,5 @@
-//! Single calls of the erased code, and the values that they have to return: those that no line of a
-//! case can write.
+//! Single calls of the erased code, and the values that they have to return: those that no line of
+//! a case can write.
 
 mod allocators;
 mod claims;

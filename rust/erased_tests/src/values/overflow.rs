@@ -1,5 +1,6 @@
-//! Phases in blocks whose callers go past their blocks. If there is memory, opening and ending succeed, which no clause can
-//! say: a body that never asks for memory and says that it ran out meets them all.
+//! Phases in blocks whose callers go past their blocks. If there is memory, opening and ending
+//! succeed, which no clause can say: a body that never asks for memory and says that it ran out
+//! meets them all.
 
 use crate::allocator::{AllocError, Entities, Limits, Refused, Source};
 use crate::handles::Handle;
@@ -9,7 +10,8 @@ fn handle(index: u32, generation: u32) -> Handle {
     Handle::new(index, generation).expect("within the ranges")
 }
 
-/// Seven slots at most. Of three slots the third is alive, so the pool is 1v2, 0v2, 3v1, 4v1, 5v1, 6v1.
+/// Seven slots at most. Of three slots the third is alive, so the pool is 1v2, 0v2, 3v1, 4v1, 5v1,
+/// 6v1.
 fn allocator() -> Entities {
     let mut entities = Entities::with_limits(Limits::new(7, 9).expect("limits"));
     for index in 0..3 {
@@ -44,7 +46,8 @@ fn two_callers_go_past_their_blocks() {
     assert_eq!(phase.reserve(&mut callers[0]), Ok(handle(0, 2)));
     // The block is used up, and the first handle behind both comes from the shared cursor.
     assert_eq!(phase.reserve(&mut callers[0]), Ok(handle(5, 1)));
-    // One is left of the block, and one behind the blocks, so two are refused. Then the pool is shut.
+    // One is left of the block, and one behind the blocks, so two are refused. Then the pool is
+    // shut.
     let many = phase.reserve_many(&mut callers[1], 2).map(Vec::from_iter);
     assert_eq!(many, Err(Refused::Space { wanted: 2, left: 1 }));
     let one = phase.reserve(&mut callers[0]);
@@ -96,8 +99,8 @@ fn lost_callers_count_as_used_up() {
     let Ok(mut entities) = ended.into_entities() else {
         panic!("memory for three blocks");
     };
-    // Nobody got 6v1, but the refused request may have been served. 0v2 is left before the others, so
-    // their slots are made.
+    // Nobody got 6v1, but the refused request may have been served. 0v2 is left before the others,
+    // so their slots are made.
     let born = [(6, 1), (5, 1), (4, 1), (3, 1), (1, 2)]
         .map(|(index, generation)| handle(index, generation));
     assert_flushes(&mut entities, &born);

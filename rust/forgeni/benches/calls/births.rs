@@ -63,7 +63,8 @@ fn again(run: impl Fn() -> Run) -> Run {
     })
 }
 
-/// The next occupant of each slot is born. Who went last is followed first, as an allocator gives slots again.
+/// The next occupant of each slot is born. Who went last is followed first, as an allocator gives
+/// slots again.
 fn births<const STEP: u32, const PLACE: usize>() -> Run {
     shift::<PLACE>();
     again(|| {

@@ -1,5 +1,5 @@
-//! Phases in blocks beside phases of the shared cursor: reservations on threads, opening, and the end of a
-//! phase with its flush.
+//! Phases in blocks beside phases of the shared cursor: reservations on threads, opening, and the
+//! end of a phase with its flush.
 
 use crate::{median, COUNT};
 use forgeni::{BlockReserver, Blocks, Entities, Handle, Reserver, Shared};

@@ -1,5 +1,5 @@
-//! The state of an allocator, taken over by another that has room, as at each step back of a rollback.
-//! Beside it a copy of as many bytes as its lists have, and the slot map's `clone_from`.
+//! The state of an allocator, taken over by another that has room, as at each step back of a
+//! rollback. Beside it a copy of as many bytes as its lists have, and the slot map's `clone_from`.
 
 use crate::{median, peers, rounds, timed, Run};
 use forgeni::{Entities, HandleMap};
@@ -28,7 +28,8 @@ pub fn table() {
     }
 }
 
-/// A map of plain values, taken over by another that has room, beside a list of options. Every fourth has none.
+/// A map of plain values, taken over by another that has room, beside a list of options. Every
+/// fourth has none.
 pub fn maps() {
     println!("| Slots | `HandleMap<i64>::clone_from` | `Vec<Option<i64>>` | Ratio |");
     println!("|---|---|---|---|");

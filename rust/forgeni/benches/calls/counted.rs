@@ -1,8 +1,9 @@
 //! One run of one work, for a tool that counts instructions.
 //!
-//! `FORGENI_COUNTED="0 alloc"` runs the first side of the work `alloc` once, at its first place, and
-//! times nothing. All that it does between two looks at the clock is in [`timed`](crate::timed), so
-//! that a tool can count it alone. `.ci/instructions.py` does so with valgrind.
+//! `FORGENI_COUNTED="0 alloc"` runs the first side of the work `alloc` once, at its first place,
+//! and times nothing. All that it does between two looks at the clock is in
+//! [`timed`](crate::timed), so that a tool can count it alone. `.ci/instructions.py` does so with
+//! valgrind.
 
 use crate::Places;
 use std::env;

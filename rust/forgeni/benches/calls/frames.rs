@@ -62,7 +62,8 @@ fn here(workers: usize, steps: u64) -> Run {
     })
 }
 
-/// The same systems by threads of a scope, all of them started by this one, which is a worker too. Each takes the next system.
+/// The same systems by threads of a scope, all of them started by this one, which is a worker too.
+/// Each takes the next system.
 fn by_threads(workers: usize, steps: u64) -> Run {
     let next = AtomicUsize::new(0);
     let work = || {

@@ -1,5 +1,5 @@
-//! An allocator as bytes, and back, as in a save. Beside what writes the image a loop that appends as many
-//! words to a list with room, and beside what reads it a clone.
+//! An allocator as bytes, and back, as in a save. Beside what writes the image a loop that appends
+//! as many words to a list with room, and beside what reads it a clone.
 
 use crate::clones::{micros, used, TakesOver, SIZES};
 use crate::{counted, timed, Places};

@@ -1,5 +1,5 @@
-//! Where a value lies in a map by handles: beside its generation, as in a `HandleMap`, or in a vector of
-//! its own. And what a new slot costs beside a push.
+//! Where a value lies in a map by handles: beside its generation, as in a `HandleMap`, or in a
+//! vector of its own. And what a new slot costs beside a push.
 
 use crate::components::{rounds_of_size, set_size, size, times, Components, Side, Walked, SIZES};
 use crate::plain::slot_map::{ApartMap, Key, SecondaryMap, SlotMap};

@@ -1,12 +1,13 @@
-//! Commands of a type of the caller's: logs beside plain lists. Both have the same allocator and maps.
+//! Commands of a type of the caller's: logs beside plain lists. Both have the same allocator and
+//! maps.
 
 use crate::{line_of_two, places, rounds, shift, timed, Run, COUNT};
 use forgeni::{run_logs, run_to_sync_point, LogCommands, OutOfMemory, StdThreads};
 use forgeni::{Entities, Entry, Handle, HandleMap, Log, SyncPoint};
 use std::hint::black_box;
 
-/// How many systems issue commands, and how many rounds of three each of them issues. A log has an entry
-/// more a round, and with this number both kinds of lists grow equally often.
+/// How many systems issue commands, and how many rounds of three each of them issues. A log has an
+/// entry more a round, and with this number both kinds of lists grow equally often.
 const SYSTEMS: u32 = 6;
 const ROUNDS: u32 = 5_600;
 

@@ -1,11 +1,11 @@
 //! What calls cost, beside the same work in plain Rust.
 //!
 //! `cargo bench` prints tables of nanoseconds. Where the code of a loop lies moves its time by a
-//! third. So each work stands in the program in eight places, and all of them take turns, first with
-//! one side and then with the other. Of each place the median of its runs counts. A table has the
-//! median of the eight places of each side, the ratio of these two, and the least and the greatest
-//! ratio of one place. `benches/run.sh` brings the crates slotmap and sharded-slab too, if they are
-//! installed.
+//! third. So each work stands in the program in eight places, and all of them take turns, first
+//! with one side and then with the other. Of each place the median of its runs counts. A table has
+//! the median of the eight places of each side, the ratio of these two, and the least and the
+//! greatest ratio of one place. `benches/run.sh` brings the crates slotmap and sharded-slab too, if
+//! they are installed.
 
 mod births;
 mod blocks;
@@ -107,7 +107,8 @@ fn main() {
         components::tables();
         println!();
     }
-    // Other forms of a map, which the page has no place for, and what takes long: only by their names.
+    // Other forms of a map, which the page has no place for, and what takes long: only by their
+    // names.
     let is_named = |name: &str| named.iter().any(|it| it == name);
     if is_named("layouts") {
         layouts::table();
@@ -152,8 +153,8 @@ fn shift<const PLACE: usize>() {
     }
 }
 
-/// Does the work, and looks at the clock before and after it. It is a function of its own, so that a
-/// tool can count what is done in it.
+/// Does the work, and looks at the clock before and after it. It is a function of its own, so that
+/// a tool can count what is done in it.
 #[inline(never)]
 fn timed(work: impl FnOnce() -> u64) -> Run {
     let start = Instant::now();

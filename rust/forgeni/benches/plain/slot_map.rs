@@ -1,5 +1,5 @@
-//! A slot map of keys alone, and a secondary map for the values, of the form of the crate slotmap, in
-//! safe Rust.
+//! A slot map of keys alone, and a secondary map for the values, of the form of the crate slotmap,
+//! in safe Rust.
 
 use std::num::NonZeroU32;
 
@@ -140,7 +140,8 @@ impl<T> SecondaryMap<T> {
     }
 }
 
-/// A secondary map of two vectors: one of the versions, 0 where there is none, and one of the values.
+/// A secondary map of two vectors: one of the versions, 0 where there is none, and one of the
+/// values.
 #[derive(Default)]
 pub struct ApartMap<T> {
     versions: Vec<u32>,

@@ -4,7 +4,8 @@
 //! cargo build --release --target wasm32-unknown-unknown && python3 -m http.server
 //! ```
 //!
-//! Then http://localhost:8000 shows the ships and the drones of each frame, and at the end the digest that the example prints.
+//! Then http://localhost:8000 shows the ships and the drones of each frame, and at the end the
+//! digest that the example prints.
 
 #[allow(dead_code)] // It has a main of its own.
 #[path = "../game.rs"]

@@ -1,8 +1,9 @@
 //! One atomic word, and the tokens by which its callers are told apart in the proofs.
 //!
-//! In the kit a table has words and slots, a rule over them, and a record of what each caller knows.
-//! Rules, records and what a step tells are ghost, so here they are empty traits and types without
-//! bytes. What is left of it is the word. All steps are sequentially consistent, as in the kit.
+//! In the kit a table has words and slots, a rule over them, and a record of what each caller
+//! knows. Rules, records and what a step tells are ghost, so here they are empty traits and types
+//! without bytes. What is left of it is the word. All steps are sequentially consistent, as in the
+//! kit.
 //!
 //! The contract of each step: it is one atomic access of the word, and returns what it found there.
 //!
@@ -105,8 +106,8 @@ impl<S, V, K, P: TableRule<S, V, K>> Shared<S, V, K, P> {
         Seat::ONE
     }
 
-    /// Moves the record of one seat into another. In the kit records change only at a step, so it is
-    /// one.
+    /// Moves the record of one seat into another. In the kit records change only at a step, so it
+    /// is one.
     #[inline]
     pub fn join_seat<M: Join<V>>(&self, _seat: &mut Seat<S, V>, _other: Seat<S, V>) {
         self.words[0].load(SeqCst);

@@ -15,15 +15,16 @@ use core::ops::{Deref, DerefMut};
 #[derive(Debug, PartialEq)]
 pub struct BTreeMap<K, V>(::alloc::collections::BTreeMap<K, V>);
 
-/// At least as much memory as a node of Rust's map takes: at most 11 pairs and 12 nodes below, and where
-/// it hangs.
+/// At least as much memory as a node of Rust's map takes: at most 11 pairs and 12 nodes below, and
+/// where it hangs.
 #[repr(C)]
 struct Node<K, V>([Option<(K, V)>; 11], [usize; 14]);
 
-/// How many nodes the insertion of a new key into a map of so many makes at most: one for each level that is full, and one above.
+/// How many nodes the insertion of a new key into a map of so many makes at most: one for each
+/// level that is full, and one above.
 ///
-/// The first 11 keys are in one node. A node that isn't the top has at least 5 keys, so each level has at least six
-/// times as many nodes as the one above.
+/// The first 11 keys are in one node. A node that isn't the top has at least 5 keys, so each level
+/// has at least six times as many nodes as the one above.
 fn nodes_for(keys: usize) -> usize {
     match keys {
         0 => 1,
@@ -32,8 +33,8 @@ fn nodes_for(keys: usize) -> usize {
     }
 }
 
-/// Asks for so many nodes, and gives them back. Each is asked for by itself, as the map does, so the allocator has just what the map
-/// takes next.
+/// Asks for so many nodes, and gives them back. Each is asked for by itself, as the map does, so
+/// the allocator has just what the map takes next.
 fn ask_for_nodes<K, V>(count: usize) -> Result<(), AllocError> {
     let Some(others) = count.checked_sub(1) else {
         return Ok(());
@@ -50,12 +51,13 @@ impl<K: Ord, V> BTreeMap<K, V> {
         BTreeMap(::alloc::collections::BTreeMap::new())
     }
 
-    /// The contract: the key has the value, and the one that it had comes back; or the pair comes back in an
-    /// `Err`, and nothing has changed. It takes no memory for a key that has a value, and that key stays.
+    /// The contract: the key has the value, and the one that it had comes back; or the pair comes
+    /// back in an `Err`, and nothing has changed. It takes no memory for a key that has a value,
+    /// and that key stays.
     ///
-    /// Rust has no stable map that returns if memory runs out. So as much as it can take is asked for
-    /// and given back first. If another thread takes it meanwhile, and no other memory is left, the
-    /// program ends.
+    /// Rust has no stable map that returns if memory runs out. So as much as it can take is asked
+    /// for and given back first. If another thread takes it meanwhile, and no other memory is left,
+    /// the program ends.
     pub fn insert(&mut self, key: K, value: V) -> Result<Option<V>, AllocFailed<(K, V)>> {
         let nodes = nodes_for(self.0.len());
         match self.0.entry(key) {

@@ -86,8 +86,8 @@ impl Buffer {
         })
     }
 
-    /// The contract: the text is the number's decimal, without leading zeros, and with a sign only if it
-    /// is less than 0.
+    /// The contract: the text is the number's decimal, without leading zeros, and with a sign only
+    /// if it is less than 0.
     #[inline]
     pub fn format<N: Integer>(&mut self, number: N) -> &Decimal {
         self.0.set(number.size(), number.is_negative());
@@ -155,9 +155,10 @@ fn digits_of(number: u64) -> usize {
     digits + usize::from(number >= LEAST[digits])
 }
 
-/// The eight digits of a number below 10^8, zeros in front, as a text whose first byte is the lowest one. It has no
-/// branch, since the processor can't foresee how long a number is. Each line divides all parts of the word in two:
-/// `* 5_243 >> 19` is a division by 100 up to 9,999, and `* 103 >> 10` one by 10 up to 99.
+/// The eight digits of a number below 10^8, zeros in front, as a text whose first byte is the
+/// lowest one. It has no branch, since the processor can't foresee how long a number is. Each line
+/// divides all parts of the word in two: `* 5_243 >> 19` is a division by 100 up to 9,999, and `*
+/// 103 >> 10` one by 10 up to 99.
 #[inline(always)]
 fn eight_digits(number: u32) -> u64 {
     let fours = u64::from(number / 10_000) | u64::from(number % 10_000) << 32;

@@ -1,10 +1,10 @@
 //! What the proved sources use of their kit's std and crates, for plain Rust.
 //!
 //! The sources below [`proved`](crate::proved) were proved against contracts of the kit: its `Vec`
-//! whose growth can fail, its atomic words, its threads. Here are types of the same names, and calls of a list, over
-//! Rust's own `core` and `alloc`, in safe code. Nothing here is proved. So each item says which
-//! contract it has to keep, and its tests go to the edges of it. Each file names the files of the kit's
-//! folder `rattle` that state the contracts.
+//! whose growth can fail, its atomic words, its threads. Here are types of the same names, and
+//! calls of a list, over Rust's own `core` and `alloc`, in safe code. Nothing here is proved. So
+//! each item says which contract it has to keep, and its tests go to the edges of it. Each file
+//! names the files of the kit's folder `rattle` that state the contracts.
 //!
 //! There is no dependency in place of these lines. For the atomic word, the failing `Vec` and the
 //! small vector in safe code no crate has these calls, so there would be a wrapper all the same.
@@ -27,8 +27,8 @@ pub mod sync;
 pub mod thread;
 pub mod vec;
 
-/// Two values that the kit has proved equal. With debug assertions this is tested. Without them nothing is
-/// run, so `rust/erase` takes only code that looks at values.
+/// Two values that the kit has proved equal. With debug assertions this is tested. Without them
+/// nothing is run, so `rust/erase` takes only code that looks at values.
 macro_rules! prove_eq {
     ($($part:tt)*) => {
         debug_assert_eq!($($part)*)

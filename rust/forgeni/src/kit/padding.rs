@@ -1,7 +1,7 @@
 //! Texts that keep the width, the alignment and the precision that are asked for.
 //!
-//! The kit's `Formatter` has none of them, so a contract speaks of the text alone. Rust's own numbers and texts keep
-//! them, and so do the types of the package.
+//! The kit's `Formatter` has none of them, so a contract speaks of the text alone. Rust's own
+//! numbers and texts keep them, and so do the types of the package.
 
 use core::fmt::{self, Write};
 
@@ -13,7 +13,8 @@ macro_rules! padded {
 }
 pub(crate) use padded;
 
-/// Writes the text. A text of at most [`LONGEST`] bytes is padded; a longer one is written as it is.
+/// Writes the text. A text of at most [`LONGEST`] bytes is padded; a longer one is written as it
+/// is.
 pub fn pad(out: &mut fmt::Formatter<'_>, text: fmt::Arguments<'_>) -> fmt::Result {
     let mut short = Short::default();
     let is_plain = out.width().is_none() && out.precision().is_none();

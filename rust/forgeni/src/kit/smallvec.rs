@@ -40,8 +40,9 @@ impl<T: Copy + Default, const N: usize> SmallVec<T, N> {
         self
     }
 
-    /// The contract: the value stands at `at`, which is at most the length, and the later items after
-    /// it; or it comes back, and all is as before. It succeeds if there are fewer than `N` items.
+    /// The contract: the value stands at `at`, which is at most the length, and the later items
+    /// after it; or it comes back, and all is as before. It succeeds if there are fewer than `N`
+    /// items.
     #[inline(always)]
     pub fn insert(&mut self, at: usize, value: T) -> Result<(), AllocFailed<T>> {
         match self {

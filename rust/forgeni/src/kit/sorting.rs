@@ -8,7 +8,8 @@ use core::mem;
 /// A list of at most this length is sorted in its place.
 const FEW: usize = 20;
 
-/// Sorts the items by their keys; those of one key keep their order. After an `Err` no item has moved.
+/// Sorts the items by their keys; those of one key keep their order. After an `Err` no item has
+/// moved.
 pub(super) fn merge_sort<T: Copy, K: Ord>(
     items: &mut [T],
     key: &impl Fn(&T) -> K,
@@ -49,7 +50,8 @@ fn merge<T: Copy, K: Ord>(
     }
     let mut upper = middle;
     for (done, lower) in buffer.iter().enumerate() {
-        // What has been written is all of the lower items so far, and the upper ones before `upper`.
+        // What has been written is all of the lower items so far, and the upper ones before
+        // `upper`.
         while upper < items.len() && key(&items[upper]) < key(lower) {
             items[done + upper - middle] = items[upper];
             upper += 1;
@@ -69,8 +71,9 @@ fn insertion_sort<T: Copy, K: Ord>(items: &mut [T], key: &impl Fn(&T) -> K) {
     }
 }
 
-/// Sorts items that may not be copied by their keys, of which each is computed once. Those of one key keep
-/// their order. After an `Err` no item has moved. Fewer than two items are in order, and take no memory.
+/// Sorts items that may not be copied by their keys, of which each is computed once. Those of one
+/// key keep their order. After an `Err` no item has moved. Fewer than two items are in order, and
+/// take no memory.
 pub(super) fn sort_in_cycles<T, K: Ord>(
     items: &mut [T],
     key: &impl Fn(&T) -> K,

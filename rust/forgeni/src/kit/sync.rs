@@ -17,8 +17,9 @@ struct Room<T>(usize, usize, T);
 impl<T> Arc<T> {
     /// The contract: the value, shared by this owner alone, or the value back.
     ///
-    /// Rust has no stable `Arc` that returns if memory runs out. So as much is asked for and given back
-    /// first. If another thread takes it meanwhile, and no other memory is left, the program ends.
+    /// Rust has no stable `Arc` that returns if memory runs out. So as much is asked for and given
+    /// back first. If another thread takes it meanwhile, and no other memory is left, the program
+    /// ends.
     #[inline]
     pub fn new(value: T) -> Result<Self, AllocFailed<T>> {
         match Vec::<Room<T>>::with_capacity_fallibly(1) {

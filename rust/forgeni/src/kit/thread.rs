@@ -2,11 +2,11 @@
 //!
 //! The contracts are those of the kit's `core/src/thread.rt` and `thread/lent.rt`.
 
-/// Who runs the two parts of a frame's work side by side: threads of std ([`StdThreads`]), rayon, or a
-/// task pool of the caller's.
+/// Who runs the two parts of a frame's work side by side: threads of std ([`StdThreads`]), rayon,
+/// or a task pool of the caller's.
 ///
-/// Of the two nothing is trusted but that they may be called from another thread: a part that `join`
-/// doesn't call is called after it, and a part that it calls again does nothing then.
+/// Of the two nothing is trusted but that they may be called from another thread: a part that
+/// `join` doesn't call is called after it, and a part that it calls again does nothing then.
 ///
 /// ```
 /// use forgeni::{run_logs_on, Entities, Join, LogCommands};
@@ -30,8 +30,9 @@
 /// # Ok::<(), Box<dyn std::error::Error>>(())
 /// ```
 pub trait Join {
-    /// Calls both, side by side if it can, and returns when both have returned. It is best to call the second
-    /// one in this thread at once: if there are more than two workers, that one calls `join` again.
+    /// Calls both, side by side if it can, and returns when both have returned. It is best to call
+    /// the second one in this thread at once: if there are more than two workers, that one calls
+    /// `join` again.
     ///
     /// ```
     /// # #[cfg(feature = "std")] {
@@ -51,8 +52,8 @@ impl<J: Join + ?Sized> Join for &J {
     }
 }
 
-/// A new thread of std for one of two parts, which ends with the frame. Without the feature `std` one
-/// part runs after the other.
+/// A new thread of std for one of two parts, which ends with the frame. Without the feature `std`
+/// one part runs after the other.
 ///
 /// ```
 /// use forgeni::{run_logs_on, Entities, LogCommands, StdThreads};
@@ -67,9 +68,9 @@ impl<J: Join + ?Sized> Join for &J {
 pub struct StdThreads;
 
 impl Join for StdThreads {
-    /// Calls the second one, and the first one beside it if a thread can be started. A panic of one of
-    /// them is handed on when both have ended. If std is refused the memory that it takes to start a
-    /// thread, it may end the program.
+    /// Calls the second one, and the first one beside it if a thread can be started. A panic of one
+    /// of them is handed on when both have ended. If std is refused the memory that it takes to
+    /// start a thread, it may end the program.
     #[cfg(feature = "std")]
     fn join(&self, first: &mut (dyn FnMut() + Send), second: &mut (dyn FnMut() + Send)) {
         let ended = std::thread::scope(|scope| {

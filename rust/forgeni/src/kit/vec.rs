@@ -1,7 +1,8 @@
 //! The calls of the kit's `Vec` that return a `Result`, for Rust's own.
 //!
-//! A list of the results is `alloc::vec::Vec`. What the kit's list does as Rust's, as `pop` or `retain`, is that of Rust's. What may be
-//! refused in the kit has another name here, which no list of Rust has: each ends in `_fallibly`.
+//! A list of the results is `alloc::vec::Vec`. What the kit's list does as Rust's, as `pop` or
+//! `retain`, is that of Rust's. What may be refused in the kit has another name here, which no list
+//! of Rust has: each ends in `_fallibly`.
 //!
 //! The contracts are those of the kit's `std_alloc/src/vec/methods.rt`, `ends.rt`, `edits.rt`,
 //! `filters.rt`, `sorts.rt`, `copies.rt` and `collects.rt`.
@@ -12,11 +13,11 @@ use ::alloc::vec::Vec;
 
 /// The calls.
 ///
-/// The contract of each that returns an `Err`: the items and the capacity are as before, and it never comes if there
-/// was room already. The capacity never shrinks.
+/// The contract of each that returns an `Err`: the items and the capacity are as before, and it
+/// never comes if there was room already. The capacity never shrinks.
 pub trait FallibleVec<T>: Sized {
-    /// In Rust, a list of values of size 0 has unlimited room; in the kit, the room that was asked for. No source
-    /// has such a list, and a call of one doesn't compile.
+    /// In Rust, a list of values of size 0 has unlimited room; in the kit, the room that was asked
+    /// for. No source has such a list, and a call of one doesn't compile.
     const HAVE_A_SIZE: () = assert!(
         size_of::<T>() > 0,
         "the room of a list of values without a size isn't what the kit says"
@@ -32,22 +33,25 @@ pub trait FallibleVec<T>: Sized {
     /// The contract: after an `Ok` there is room for that many more.
     fn reserve_fallibly(&mut self, additional: usize) -> Result<(), AllocError>;
 
-    /// The contract: after an `Ok` there is room for that many more, and for no more than that or what there was.
+    /// The contract: after an `Ok` there is room for that many more, and for no more than that or
+    /// what there was.
     fn reserve_exact_fallibly(&mut self, additional: usize) -> Result<(), AllocError>;
 
-    /// The contract: the room is no more than before, and none if there are no items. If there is no memory to move the
-    /// items to, the room stays. `shrink_to_fit` of Rust's ends the program instead.
+    /// The contract: the room is no more than before, and none if there are no items. If there is
+    /// no memory to move the items to, the room stays. `shrink_to_fit` of Rust's ends the program
+    /// instead.
     fn shrink_to_fit_fallibly(&mut self);
 
     /// The contract: the value stands at the end, or comes back.
     fn push_fallibly(&mut self, value: T) -> Result<(), AllocFailed<T>>;
 
-    /// The contract: there is room, and the value stands at the end. Who calls it has asked for room.
-    /// The test of it takes the place of Rust's own, so that the list doesn't grow here, and a loop of pushes has no call.
+    /// The contract: there is room, and the value stands at the end. Who calls it has asked for
+    /// room. The test of it takes the place of Rust's own, so that the list doesn't grow here, and
+    /// a loop of pushes has no call.
     fn push_reserved(&mut self, value: T);
 
-    /// The contract: the value stands at `at`, which is at most the length, and the later items after
-    /// it; or it comes back.
+    /// The contract: the value stands at `at`, which is at most the length, and the later items
+    /// after it; or it comes back.
     fn insert_fallibly(&mut self, at: usize, value: T) -> Result<(), AllocFailed<T>>;
 
     /// The contract: clones of the items stand at the end, in their order. It is the kit's
@@ -56,21 +60,21 @@ pub trait FallibleVec<T>: Sized {
     where
         T: Clone;
 
-    /// The contract: the length is `count`. Items beyond it are gone, or those that were missing are
-    /// the value.
+    /// The contract: the length is `count`. Items beyond it are gone, or those that were missing
+    /// are the value.
     fn resize_fallibly(&mut self, count: usize, value: T) -> Result<(), AllocError>
     where
         T: Copy;
 
-    /// The contract: the items rise by their keys, and those of one key keep their order. All memory
-    /// is asked for before an item moves, and none for 20 items or fewer. `sort_by_key` of Rust's
-    /// slices ends the program instead.
+    /// The contract: the items rise by their keys, and those of one key keep their order. All
+    /// memory is asked for before an item moves, and none for 20 items or fewer. `sort_by_key` of
+    /// Rust's slices ends the program instead.
     fn sort_by_key_fallibly<K: Ord>(&mut self, key: impl Fn(&T) -> K) -> Result<(), AllocError>
     where
         T: Copy;
 
-    /// The contract: the items rise by their keys, and those of one key keep their order. All memory
-    /// is asked for before an item moves, and none for one item or for no items.
+    /// The contract: the items rise by their keys, and those of one key keep their order. All
+    /// memory is asked for before an item moves, and none for one item or for no items.
     fn sort_by_cached_key_fallibly<K: Ord>(
         &mut self,
         key: impl Fn(&T) -> K,
@@ -81,7 +85,8 @@ pub trait FallibleVec<T>: Sized {
     where
         T: Copy;
 
-    /// The contract: the items rise, and equal ones keep their order. It is for the repository's own tests.
+    /// The contract: the items rise, and equal ones keep their order. It is for the repository's
+    /// own tests.
     #[cfg(test)]
     fn sort_fallibly(&mut self) -> Result<(), AllocError>
     where
@@ -229,9 +234,9 @@ fn allow_growth() -> Result<(), AllocError> {
 
 /// The kit's `collect`.
 pub trait CollectIn: Iterator + Sized {
-    /// The contract: all that the iterator yields, in its order, and no memory if that is nothing. First it asks for
-    /// as many places as the iterator says that there are items. If that fails, memory may still suffice for what
-    /// comes, so it asks for one place.
+    /// The contract: all that the iterator yields, in its order, and no memory if that is nothing.
+    /// First it asks for as many places as the iterator says that there are items. If that fails,
+    /// memory may still suffice for what comes, so it asks for one place.
     #[inline]
     fn collect_in(mut self) -> Result<Vec<Self::Item>, AllocError> {
         let Some(first) = self.next() else {
@@ -274,7 +279,8 @@ mod tests {
         }
     }
 
-    /// Lists of values of that size: with room for so many, with room for so many more, and without the room that they don't need.
+    /// Lists of values of that size: with room for so many, with room for so many more, and without
+    /// the room that they don't need.
     fn has_exact_room<T: Copy + Default>(count: usize) {
         let made = Vec::<T>::with_capacity_fallibly(count).expect("memory");
         assert_eq!((made.sized_capacity(), made.len()), (count, 0));
@@ -289,8 +295,9 @@ mod tests {
         }
     }
 
-    /// Std promises at least as much room as was asked for. The contracts say that it is exactly as much, as std's `Vec` has done: here
-    /// for each count up to a thousand, and for counts around the powers of two up to a million.
+    /// Std promises at least as much room as was asked for. The contracts say that it is exactly as
+    /// much, as std's `Vec` has done: here for each count up to a thousand, and for counts around
+    /// the powers of two up to a million.
     #[test]
     fn room_is_exactly_what_was_asked_for() {
         let around = |power: u32| (1 << power) - 1..=(1 << power) + 1;

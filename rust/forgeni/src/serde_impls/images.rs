@@ -9,7 +9,8 @@ use serde::ser::{Error as _, Serialize, Serializer};
 
 macro_rules! is_its_image {
     ($name:ident, $expected:literal) => {
-        /// As the bytes that [`write_image`](Self::write_image) writes. JSON has a list of numbers for them.
+        /// As the bytes that [`write_image`](Self::write_image) writes. JSON has a list of numbers
+        /// for them.
         impl Serialize for $name {
             fn serialize<S: Serializer>(&self, serializer: S) -> Result<S::Ok, S::Error> {
                 let mut image = Vec::new();

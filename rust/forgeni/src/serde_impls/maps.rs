@@ -125,7 +125,10 @@ macro_rules! tables_serde {
             {
                 type Value = ();
 
-                fn deserialize<D: Deserializer<'de>>(self, deserializer: D) -> Result<(), D::Error> {
+                fn deserialize<D>(self, deserializer: D) -> Result<(), D::Error>
+                where
+                    D: Deserializer<'de>,
+                {
                     let mut read = $Name::default();
                     $(read.$map.set_limit(self.$map.limit());)+
                     deserializer.deserialize_struct(stringify!($Name), MAPS, Reader(&mut read))?;

@@ -1,5 +1,5 @@
-//! The types that are a number or a few, and a value with one. Those of a few are written as a tuple,
-//! which takes no code for the names of fields.
+//! The types that are a number or a few, and a value with one. Those of a few are written as a
+//! tuple, which takes no code for the names of fields.
 
 use crate::allocator::Limits;
 use crate::component::{Birth, ComponentId};
@@ -7,7 +7,8 @@ use crate::{BlockSize, Tracked};
 use serde::de::{Deserialize, Deserializer, Error};
 use serde::ser::{Serialize, Serializer};
 
-/// A type that is written as some numbers, and made of them again. `D` is the type of what reads them.
+/// A type that is written as some numbers, and made of them again. `D` is the type of what reads
+/// them.
 macro_rules! is_its_numbers {
     ($name:ident, $doc:literal: $own:ident => $numbers:expr, $read:pat => $made:expr) => {
         #[doc = concat!("As ", $doc)]

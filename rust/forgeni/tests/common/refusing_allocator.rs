@@ -1,5 +1,6 @@
-//! An allocator that refuses, and counts. The tests and benches of `rust/forgeni` include this file, and take their
-//! memory from it. It is the only file with `unsafe` code: Rust's trait of allocators requires it.
+//! An allocator that refuses, and counts. The tests and benches of `rust/forgeni` include this
+//! file, and take their memory from it. It is the only file with `unsafe` code: Rust's trait of
+//! allocators requires it.
 //!
 //! Each thread says for itself what is refused, so a test doesn't affect others that run beside it.
 
@@ -48,7 +49,8 @@ pub fn held<T>(work: impl FnOnce() -> T) -> (T, isize) {
     (done, BYTES.get() - before)
 }
 
-/// Does this, and returns how many bytes more this thread had at some time meanwhile than before, at the most.
+/// Does this, and returns how many bytes more this thread had at some time meanwhile than before,
+/// at the most.
 pub fn most_held<T>(work: impl FnOnce() -> T) -> (T, isize) {
     let before = BYTES.get();
     MOST.set(before);
@@ -56,8 +58,8 @@ pub fn most_held<T>(work: impl FnOnce() -> T) -> (T, isize) {
     (done, MOST.get() - before)
 }
 
-/// Does this, and returns how many bytes this thread asked for meanwhile, whether it gave them back or not. A
-/// block that grows counts again, with its whole new size.
+/// Does this, and returns how many bytes this thread asked for meanwhile, whether it gave them back
+/// or not. A block that grows counts again, with its whole new size.
 pub fn asked<T>(work: impl FnOnce() -> T) -> (T, usize) {
     let before = ASKED.get();
     let done = work();

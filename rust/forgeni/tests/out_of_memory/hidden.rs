@@ -1,5 +1,5 @@
-//! An error of a call below is the error of the call above, whatever lies between: what is lent, lists of many, and calls of std that
-//! can't return one. None is hidden, and no call asks twice.
+//! An error of a call below is the error of the call above, whatever lies between: what is lent,
+//! lists of many, and calls of std that can't return one. None is hidden, and no call asks twice.
 
 use super::*;
 use std::collections::HashMap;
@@ -38,7 +38,8 @@ fn commands_that_are_lent() {
     }
 }
 
-/// The world after a phase in which that call was made until it succeeded, and how many allocations were refused meanwhile.
+/// The world after a phase in which that call was made until it succeeded, and how many allocations
+/// were refused meanwhile.
 fn lent(refusal: Refusal, call: Call) -> (Vec<Told>, usize) {
     let mut world = two();
     let phase = world.phase(1, |_, systems| {
@@ -321,7 +322,8 @@ mod systems {
     use forgeni::{SystemCommands, View};
     use std::sync::atomic::{AtomicUsize, Ordering};
 
-    /// Where a frame of more than a thousand systems ran out of memory: before any of them ran, or not at all.
+    /// Where a frame of more than a thousand systems ran out of memory: before any of them ran, or
+    /// not at all.
     fn frame(refusal: Refusal) -> (usize, usize) {
         let (mut world, ran) = (two(), AtomicUsize::new(0));
         let system = |_: &View<'_>, _: &mut SystemCommands<'_>| -> Result<(), OutOfMemory> {

@@ -122,7 +122,8 @@ fn read_into(map: &mut HandleMap<u8>, json: &str) -> Result<(), String> {
         .map_err(|error| error.to_string())
 }
 
-/// A map that reads takes the place of its values, keeps its limit, and is as it was after an error.
+/// A map that reads takes the place of its values, keeps its limit, and is as it was after an
+/// error.
 #[test]
 fn into_a_map_with_a_limit() {
     let mut map = HandleMap::with_limit(8);

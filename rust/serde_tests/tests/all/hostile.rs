@@ -90,7 +90,8 @@ impl<'de> Deserializer<'de> for Boasting {
     }
 
     serde::forward_to_deserialize_any! {
-        bool i8 i16 i32 i64 i128 u8 u16 u32 u64 u128 f32 f64 char str string bytes byte_buf option unit
+        bool i8 i16 i32 i64 i128 u8 u16 u32 u64 u128 f32 f64 char
+        str string bytes byte_buf option unit
         unit_struct newtype_struct seq tuple tuple_struct struct enum identifier ignored_any
     }
 }

@@ -1,5 +1,5 @@
-//! What the feature `serde` writes and reads. Each expected value is written out, or follows from the
-//! definition of a handle's text and bits.
+//! What the feature `serde` writes and reads. Each expected value is written out, or follows from
+//! the definition of a handle's text and bits.
 
 mod common;
 mod handle_maps;

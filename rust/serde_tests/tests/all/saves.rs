@@ -1,5 +1,5 @@
-//! A save of a game whose maps name others than its allocator: dead ones, those of another game, and
-//! those of slots that no game has.
+//! A save of a game whose maps name others than its allocator: dead ones, those of another game,
+//! and those of slots that no game has.
 
 use forgeni::{tables, AnyMap, Entities, Handle, HandleMap, SparseMap, Tracked};
 use serde::de::DeserializeSeed;

@@ -1,4 +1,5 @@
-//! The systems of the game, each a type of its own. `specs/Issuing` says what each of them may issue.
+//! The systems of the game, each a type of its own. `specs/Issuing` says what each of them may
+//! issue.
 ghost use Rattle.std.specs.Prelude.{◌≡◌, ◌≤◌, length, OnOk, All};
 ghost use Rattle.ent_queue.specs.Commands.{output_of};
 ghost use Rattle.ent_queue.specs.OfShared.{IsReady, Extends};

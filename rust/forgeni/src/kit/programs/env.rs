@@ -14,10 +14,11 @@ pub trait Env {}
 /// The words.
 pub type Args = IntoIter<String>;
 
-/// The contract: all words in their order, the program's name first; or `InvalidData` if one is no UTF-8, or
-/// `OutOfMemory` if there is no memory for the list of them.
+/// The contract: all words in their order, the program's name first; or `InvalidData` if one is no
+/// UTF-8, or `OutOfMemory` if there is no memory for the list of them.
 ///
-/// The words themselves are in memory that Rust's std takes, and it ends the program if that is refused.
+/// The words themselves are in memory that Rust's std takes, and it ends the program if that is
+/// refused.
 pub fn args(_rt: &impl Env) -> io::Result<Args> {
     texts(std::env::args_os())
 }

@@ -30,7 +30,8 @@ impl<'a> Numeral<'a> {
         self.whole
     }
 
-    /// The contract: the number with its sign, if it has neither a point nor an exponent and is from -2^63 to 2^63 - 1.
+    /// The contract: the number with its sign, if it has neither a point nor an exponent and is
+    /// from -2^63 to 2^63 - 1.
     #[inline]
     pub fn to_i64(&self, negative: bool) -> Option<i64> {
         let size = self.to_u64()?;
@@ -41,8 +42,9 @@ impl<'a> Numeral<'a> {
         }
     }
 
-    /// The contract: the float that is nearest to the number with its sign, of two the even one, and infinity for a
-    /// number that rounds to more than the largest float. Rust's `parse` promises the same.
+    /// The contract: the float that is nearest to the number with its sign, of two the even one,
+    /// and infinity for a number that rounds to more than the largest float. Rust's `parse`
+    /// promises the same.
     pub fn to_float<F: Float>(&self, negative: bool) -> F {
         let text = core::str::from_utf8(self.bytes).unwrap_or("0");
         let size: F = text.parse().unwrap_or_default();

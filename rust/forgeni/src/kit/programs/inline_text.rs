@@ -31,8 +31,8 @@ impl<const N: usize> InlineText<N> {
         text.ended()
     }
 
-    /// The contract: at the end is the part, cut to `most` bytes, if fewer than `N` bytes may be there then. If not,
-    /// all of the part is, and the whole is cut to `N` bytes.
+    /// The contract: at the end is the part, cut to `most` bytes, if fewer than `N` bytes may be
+    /// there then. If not, all of the part is, and the whole is cut to `N` bytes.
     pub fn and_str(mut self, part: &str, most: usize) -> Self {
         if most >= N - self.len || part.len() <= most {
             self.write(part);

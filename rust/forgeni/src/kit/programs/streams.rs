@@ -1,12 +1,13 @@
 //! The standard streams of a program, without buffers of their own.
 //!
-//! The contracts are those of the kit's `std::io`: a read or a write of a stream that fails is an `Err`. Rust's own
-//! `Stdin` and `Stdout` call it a success if a stream isn't open for reading or for writing. So the streams here are
-//! files that are copies of them. Rust's std takes memory for its own buffers all the same, as a stream is asked for,
-//! and ends the program if that is refused.
+//! The contracts are those of the kit's `std::io`: a read or a write of a stream that fails is an
+//! `Err`. Rust's own `Stdin` and `Stdout` call it a success if a stream isn't open for reading or
+//! for writing. So the streams here are files that are copies of them. Rust's std takes memory for
+//! its own buffers all the same, as a stream is asked for, and ends the program if that is refused.
 //!
-//! Rust's runtime opens a standard stream that the program was started without, as one that is empty. What was closed
-//! can't be told from what is empty, so the kit's programs fail there, and these don't.
+//! Rust's runtime opens a standard stream that the program was started without, as one that is
+//! empty. What was closed can't be told from what is empty, so the kit's programs fail there, and
+//! these don't.
 
 use std::fs::File;
 use std::io::{self, IsTerminal, Read, Write};

@@ -13,7 +13,8 @@ pub trait Clock {}
 pub struct Instant(std::time::Instant);
 
 impl Instant {
-    /// The contract: a moment that is not before any that was read earlier. In Rust a clock can always be read.
+    /// The contract: a moment that is not before any that was read earlier. In Rust a clock can
+    /// always be read.
     pub fn now(_clock: &impl Clock) -> io::Result<Self> {
         Ok(Instant(std::time::Instant::now()))
     }

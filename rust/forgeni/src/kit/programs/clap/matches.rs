@@ -66,7 +66,8 @@ impl<'a> ArgMatches<'a> {
         Some((*name, inner))
     }
 
-    /// The contract: the value of the option with this name, which is its default if the words give none.
+    /// The contract: the value of the option with this name, which is its default if the words give
+    /// none.
     pub fn get_str(&self, name: &str) -> Option<&'a str> {
         self.values.iter().find(|it| it.0 == name)?.1
     }

@@ -1,7 +1,8 @@
 //! Command lines: as much of the kit's `clap` as the two programs use.
 //!
-//! A command has options that take one value, and subcommands that have none themselves. The contracts are those of
-//! the kit's `clap/specs`: which words are taken, and which values they give. The texts are those of `clap`.
+//! A command has options that take one value, and subcommands that have none themselves. The
+//! contracts are those of the kit's `clap/specs`: which words are taken, and which values they
+//! give. The texts are those of `clap`.
 
 mod argument;
 mod command;
@@ -39,7 +40,8 @@ pub mod error {
         OutOfMemory,
     }
 
-    /// Why words are not taken. It shows the text for the person who wrote them, with its line feeds.
+    /// Why words are not taken. It shows the text for the person who wrote them, with its line
+    /// feeds.
     #[derive(Debug, PartialEq, Eq)]
     pub struct Error {
         kind: ErrorKind,

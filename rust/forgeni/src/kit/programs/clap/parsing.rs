@@ -56,8 +56,8 @@ impl<'w> Word<'w> {
 }
 
 impl<'a> Command<'a> {
-    /// The contract: what the words give. An `Err` is of memory, or of the first fault in the words, or they ask for
-    /// help.
+    /// The contract: what the words give. An `Err` is of memory, or of the first fault in the
+    /// words, or they ask for help.
     pub fn try_get_matches_from<S: AsStr>(self, words: &'a [S]) -> Result<ArgMatches<'a>, Error> {
         let words: Vec<&'a str> = words.iter().map(AsStr::as_str).collect_in()?;
         self.read(&words)
@@ -95,7 +95,8 @@ impl<'a> Command<'a> {
                 }
                 Word::Short(letter) => return Err(self.unexpected_letter(letter)?),
                 Word::Plain if pending.is_some() => {
-                    // The value is tested later than the next word, so that word's fault comes first.
+                    // The value is tested later than the next word, so that word's fault comes
+                    // first.
                     if let Some(fault) = self.fault_of_next(rest, &matches, pending)? {
                         return Err(fault);
                     }
@@ -213,8 +214,8 @@ impl<'a> Command<'a> {
         Ok(self.fault(&fault, &self.usage()?))
     }
 
-    /// The fault of an option that isn't there: with one that is like it, or with a subcommand of the words after it
-    /// that has one like it.
+    /// The fault of an option that isn't there: with one that is like it, or with a subcommand of
+    /// the words after it that has one like it.
     fn unknown(
         &self,
         name: &str,
@@ -235,7 +236,8 @@ impl<'a> Command<'a> {
         Ok(self.fault(&fault, &usage))
     }
 
-    /// Adds the option like this one that the first subcommand of the words has, of those that have one.
+    /// Adds the option like this one that the first subcommand of the words has, of those that have
+    /// one.
     fn add_option_of_subcommand(
         &self,
         fault: &mut String,

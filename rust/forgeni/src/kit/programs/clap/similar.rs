@@ -27,15 +27,16 @@ pub(super) fn similar<'n>(
     Ok(found)
 }
 
-/// The likeness of two texts after Jaro, from 0 to 1: how many letters they share, in places that are not far from one
-/// another, and how many of those are in the same order.
+/// The likeness of two texts after Jaro, from 0 to 1: how many letters they share, in places that
+/// are not far from one another, and how many of those are in the same order.
 fn jaro(one: &str, other: &str) -> Result<f64, AllocError> {
     let (one_len, other_len) = (one.chars().count(), other.chars().count());
     if one_len == 0 || other_len == 0 {
         return Ok(f64::from(one_len == other_len));
     }
     let reach = (one_len.max(other_len) / 2).saturating_sub(1);
-    // The letters that are shared, in the order of the first text, and which letters of the second one they are.
+    // The letters that are shared, in the order of the first text, and which letters of the second
+    // one they are.
     let mut shared: Vec<char> = Vec::with_capacity_fallibly(one_len)?;
     let mut is_shared: Vec<bool> = Vec::new();
     is_shared.resize_fallibly(other_len, false)?;

@@ -1,8 +1,8 @@
 //! A reader of JSON (RFC 8259) that hands out tokens.
 //!
-//! The contracts are those of the kit's `json/specs`: the tokens are those of the text, in their order, with commas and
-//! colons where they have to be, and the first fault is `Bad`, after which none follows. That brackets fit, and how
-//! deep they nest, is up to the caller.
+//! The contracts are those of the kit's `json/specs`: the tokens are those of the text, in their
+//! order, with commas and colons where they have to be, and the first fault is `Bad`, after which
+//! none follows. That brackets fit, and how deep they nest, is up to the caller.
 
 mod strings;
 mod words;
@@ -79,7 +79,8 @@ pub struct Reader<'a> {
 }
 
 impl<'a> Reader<'a> {
-    /// The contract: a reader of all tokens of the text, or an `Err` if the scratch can't grow to the length of the text.
+    /// The contract: a reader of all tokens of the text, or an `Err` if the scratch can't grow to
+    /// the length of the text.
     pub fn new(text: &'a str, scratch: &'a mut Scratch) -> Result<Self, AllocError> {
         if scratch.text.len() < text.len() {
             scratch.text.resize_fallibly(text.len(), 0)?;
@@ -116,8 +117,8 @@ impl<'a> Reader<'a> {
         }
     }
 
-    /// The contract: a key is taken, or the brace that ends an object. If something else is next, it is an `Err`, and
-    /// no token follows.
+    /// The contract: a key is taken, or the brace that ends an object. If something else is next,
+    /// it is an `Err`, and no token follows.
     #[inline]
     pub fn next_key(&mut self) -> Result<Option<&'a str>, Invalid> {
         match self.next().ok_or(Invalid)? {

@@ -8,8 +8,8 @@ pub(super) struct Found<'a> {
     pub(super) end: usize,
 }
 
-/// The string whose text begins here, if it is one. It is a part of the text, or if it has escapes, of the scratch,
-/// which has room for as much as is left of the text.
+/// The string whose text begins here, if it is one. It is a part of the text, or if it has escapes,
+/// of the scratch, which has room for as much as is left of the text.
 #[inline]
 pub(super) fn read<'a>(
     text: &'a str,
@@ -28,7 +28,8 @@ pub(super) fn read<'a>(
     }
 }
 
-/// How many bytes come before a quotation mark, a backslash or a control character. It tests eight at once.
+/// How many bytes come before a quotation mark, a backslash or a control character. It tests eight
+/// at once.
 #[inline]
 fn plain_len(bytes: &[u8]) -> usize {
     const ONES: u64 = 0x0101_0101_0101_0101;
@@ -98,7 +99,8 @@ fn escape(bytes: &[u8], at: usize) -> Option<(char, usize)> {
     Some((letter, at + 1))
 }
 
-/// The character whose four digits are here, and its end. A surrogate has to be the first of a pair.
+/// The character whose four digits are here, and its end. A surrogate has to be the first of a
+/// pair.
 fn unicode(bytes: &[u8], at: usize) -> Option<(char, usize)> {
     let first = unit(bytes, at)?;
     if !(0xd800..0xdc00).contains(&first) {

@@ -1,4 +1,5 @@
-//! Tests of the tokens at the edges of the grammar. `.ci/tokens.py` compares them with an independent reader.
+//! Tests of the tokens at the edges of the grammar. `.ci/tokens.py` compares them with an
+//! independent reader.
 
 use super::*;
 use crate::kit::refusing::refuse;

@@ -1,8 +1,9 @@
 //! Whether a text ends before its value does.
 //!
-//! No clause of the kit's contracts says when the fault of a text is its end. What the kit does was found by asking it:
-//! all is as in a value up to the end of the text, where the value goes on. Of a string it looks at the letters after
-//! backslashes and at control characters, and not at the bytes of other characters, nor at what surrogates stand for.
+//! No clause of the kit's contracts says when the fault of a text is its end. What the kit does was
+//! found by asking it: all is as in a value up to the end of the text, where the value goes on. Of
+//! a string it looks at the letters after backslashes and at control characters, and not at the
+//! bytes of other characters, nor at what surrogates stand for.
 
 /// How deep arrays and objects may be nested.
 const DEPTH: usize = 127;

@@ -41,8 +41,8 @@ pub struct Error {
 }
 
 impl Error {
-    /// The error of this text whose token begins here. Lines and columns count from 1; at the end of a text the column
-    /// is that of its last byte.
+    /// The error of this text whose token begins here. Lines and columns count from 1; at the end
+    /// of a text the column is that of its last byte.
     pub(super) fn at(code: Code, text: &[u8], offset: usize) -> Self {
         let before = &text[..offset.min(text.len())];
         let is_line_feed = |byte: &&u8| **byte == b'\n';

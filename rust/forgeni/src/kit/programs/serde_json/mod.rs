@@ -1,7 +1,7 @@
 //! Values of JSON.
 //!
-//! The contracts are those of the kit's `serde_json/specs`, over those of [`json`](super::json) and of
-//! [`fast_float`](super::fast_float).
+//! The contracts are those of the kit's `serde_json/specs`, over those of [`json`](super::json) and
+//! of [`fast_float`](super::fast_float).
 
 mod cut;
 mod error;
@@ -16,7 +16,8 @@ use super::string::String;
 use crate::kit::collections::BTreeMap;
 use ::alloc::vec::Vec;
 
-/// The members of an object, in the order of their keys. Of a key that comes twice the last one counts.
+/// The members of an object, in the order of their keys. Of a key that comes twice the last one
+/// counts.
 pub type Map<K, V> = BTreeMap<K, V>;
 
 /// A value.

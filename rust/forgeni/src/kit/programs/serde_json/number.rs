@@ -2,7 +2,8 @@
 
 use crate::kit::programs::fast_float::Numeral;
 
-/// A number. Which of the three it is depends on the number alone, and on whether it was written as a whole one.
+/// A number. Which of the three it is depends on the number alone, and on whether it was written as
+/// a whole one.
 #[derive(Clone, Copy, Debug, PartialEq)]
 pub enum Number {
     /// A whole number that isn't negative.
@@ -28,8 +29,8 @@ impl Number {
         }
     }
 
-    /// The contract: the number of this token: a whole one if its type has it, and else the nearest float. A number
-    /// beyond all floats is none, and `-0` is a float.
+    /// The contract: the number of this token: a whole one if its type has it, and else the nearest
+    /// float. A number beyond all floats is none, and `-0` is a float.
     pub(super) fn read(token: &str) -> Option<Self> {
         let Some(size) = token.strip_prefix('-') else {
             let numeral = Numeral::scan(token.as_bytes());

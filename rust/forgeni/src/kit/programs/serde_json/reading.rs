@@ -11,8 +11,8 @@ use ::alloc::vec::Vec;
 const DEPTH: usize = 127;
 
 impl Value {
-    /// The contract: the value that the bytes are in JSON, nested at most 127 deep, or an `Err`: of memory if that was
-    /// refused, and else the bytes are no such value.
+    /// The contract: the value that the bytes are in JSON, nested at most 127 deep, or an `Err`: of
+    /// memory if that was refused, and else the bytes are no such value.
     pub fn from_slice(bytes: &[u8]) -> Result<Self, Error> {
         let Ok(text) = core::str::from_utf8(bytes) else {
             let valid = bytes.utf8_chunks().next();

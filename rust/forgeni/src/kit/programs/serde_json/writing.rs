@@ -8,8 +8,8 @@ use crate::kit::programs::string::{String, ToStringIn};
 type Written = Result<(), AllocError>;
 
 impl ToStringIn for Value {
-    /// The contract: the text without blanks that reads as the value, its members in the order of their keys, or an
-    /// `Err` if there is no memory for it.
+    /// The contract: the text without blanks that reads as the value, its members in the order of
+    /// their keys, or an `Err` if there is no memory for it.
     fn to_string_in(&self) -> Result<String, AllocError> {
         let mut text = String::new();
         write_value(&mut text, self)?;
@@ -68,8 +68,8 @@ fn write_quoted(out: &mut String, text: &str) -> Written {
     out.push_str("\"")
 }
 
-/// The shortest digits that read as the float: a decimal with a point where that is short, as in `10.0` and `0.00001`,
-/// and else with an exponent, as in `1e+30` and `1.5e-7`.
+/// The shortest digits that read as the float: a decimal with a point where that is short, as in
+/// `10.0` and `0.00001`, and else with an exponent, as in `1e+30` and `1.5e-7`.
 fn write_float(out: &mut String, float: f64) -> Written {
     if float == 0.0 {
         return out.push_str(if float.is_sign_negative() {
@@ -109,10 +109,11 @@ fn write_float(out: &mut String, float: f64) -> Written {
     }
 }
 
-/// The digits, with a point after the first one, and the exponent. There are as few as read as the float, and of those
-/// they are the nearest, or of two that are as near the even ones.
+/// The digits, with a point after the first one, and the exponent. There are as few as read as the
+/// float, and of those they are the nearest, or of two that are as near the even ones.
 fn digits_of(float: f64) -> InlineText<32> {
-    // Of two that are as near, Rust's shortest digits may be the odd ones. Its rounded digits are the even ones.
+    // Of two that are as near, Rust's shortest digits may be the odd ones. Its rounded digits are
+    // the even ones.
     let shortest = InlineText::<32>::of(format_args!("{float:e}"));
     let mantissa = shortest.as_str().split('e').next().unwrap_or("");
     let more = mantissa.len().saturating_sub(2);
