@@ -2,11 +2,14 @@
 """Measures for docs/PERFORMANCE.md and draws its chart, and README's. It needs nothing but Python,
 and runs from any folder.
 
-    docs/performance.py measure [PART..]   runs the scripts that the page names (or those with a PART in their names), puts
-                                           their tables into the page, and draws the charts
-    docs/performance.py draw               draws the charts of the tables in the page: docs/performance.svg has all rows, and
-                                       docs/benchmarks.svg those of README; and writes the page's table of limits
-    docs/performance.py check              ends with status 1 if a chart or the limits are others, or a table is missing
+    docs/performance.py measure [PART..]
+        runs the scripts that the page names (or those with a PART in their names), puts their
+        tables into the page, and draws the charts
+    docs/performance.py draw
+        draws the charts of the tables in the page: docs/performance.svg has all rows, and
+        docs/benchmarks.svg those of README; and writes the page's table of limits
+    docs/performance.py check
+        ends with status 1 if a chart or the limits are others, or a table is missing
 
 The figures stand in the page alone. A line above a table says what prints it, and the tables below
 it up to the next such line:

@@ -1,14 +1,16 @@
-// The proved crates of this repository as plain Rust, each a module of the package that includes this file.
+// The proved crates of this repository as plain Rust, each a module of the package that includes
+// this file.
 //
-// `rust/erase` makes all files here of the sources below `crates/`. What is ghost is taken out, and the
-// clauses of a contract go to the docs of a public call, and else stay as comments. None of these files is edited by
-// hand: the gate makes them anew and compares. The modules, and some items, have other names than in the sources, by
-// the table `rust/erase/names.txt`.
+// `rust/erase` makes all files here of the sources below `crates/`. What is ghost is taken out, and
+// the clauses of a contract go to the docs of a public call, and else stay as comments. None of
+// these files is edited by hand: the gate makes them anew and compares. The modules, and some
+// items, have other names than in the sources, by the table `rust/erase/names.txt`.
 //
 // The proofs are of the sources, before that.
 //
-// What a clause alone reads isn't used here, and the package doesn't call all that is proved. How the
-// sources are written is up to them: they have labels where a proof names a loop, and values for the case that a call fails.
+// What a clause alone reads isn't used here, and the package doesn't call all that is proved. How
+// the sources are written is up to them: they have labels where a proof names a loop, and values
+// for the case that a call fails.
 
 #[allow(dead_code, unused_assignments, unused_imports, unused_labels, unused_variables, clippy::all)]
 #[path = "ent_handle/mod.rs"]

@@ -80,8 +80,8 @@ impl Entities {
     ///
     /// # Errors
     ///
-    /// - [`ReserveError::Quota`] if more than 2^50 handles were requested since the last flush, with
-    ///   these. Nothing has changed.
+    /// - [`ReserveError::Quota`] if more than 2^50 handles were requested since the last flush,
+    ///   with these. Nothing has changed.
     /// - [`ReserveError::Memory`] if there is no memory for the list. Nothing has changed, and no
     ///   handle was requested.
     /// - [`ReserveError::Space`] if fewer than `n` handles are left. The request counts all the
@@ -143,8 +143,8 @@ impl Entities {
     ///
     /// In each case the list has the same handles as before.
     ///
-    /// - [`ReserveError::Quota`] if more than 2^50 handles were requested since the last flush, with
-    ///   these. Nothing has changed.
+    /// - [`ReserveError::Quota`] if more than 2^50 handles were requested since the last flush,
+    ///   with these. Nothing has changed.
     /// - [`ReserveError::Memory`] if the list has too little room, and there is no memory for more.
     ///   Nothing has changed, and no handle was requested.
     /// - [`ReserveError::Space`] if fewer than `n` handles are left. The request counts all the

@@ -51,8 +51,8 @@ impl Entities {
     /// Takes over the state of another allocator, as [`try_clone`](Self::try_clone) copies it. What
     /// this one had before is gone.
     ///
-    /// It uses the room that this one has, so one that had as many slots before takes no memory. This
-    /// is how a game that predicts goes back to a frame that the server has confirmed:
+    /// It uses the room that this one has, so one that had as many slots before takes no memory.
+    /// This is how a game that predicts goes back to a frame that the server has confirmed:
     ///
     /// ```
     /// use forgeni::Entities;
@@ -71,8 +71,8 @@ impl Entities {
     ///
     /// # Errors
     ///
-    /// [`OutOfMemory`] if there is no memory for slots that the source has beyond those of this
-    /// allocator. Nothing has changed then: all room is asked for first.
+    /// [`OutOfMemory`] if there is no memory for slots that the source has beyond those of
+    /// this allocator. Nothing has changed then: all room is asked for first.
     ///
     /// <details><summary>Contract</summary>
     ///

@@ -59,7 +59,8 @@ impl Entities {
     /// ensures rows { result.rows ≡ [map.empty](crate::contracts::logic#FinMap.empty) }
     /// ensures rows_of_living { [HasRowsOfLiving](crate::contracts::ent_alloc::entities#HasRowsOfLiving) result }
     /// &#32;
-    /// // Whatever calls come then, no handle is given twice, and none that was given is given again.
+    /// // Whatever calls come then, no handle is given twice, and none that was given is given
+    /// // again.
     /// ensures given_once { (steps : [List](crate::contracts::logic#List) [Step](crate::contracts::ent_alloc::runs#Step)) → [IsRun](crate::contracts::ent_alloc::runs#IsRun) result.allocator steps
     /// &#9;→ [AreSpent](crate::contracts::ent_alloc::spent#AreSpent) ([after_run](crate::contracts::ent_alloc::runs#after_run) result.allocator steps) ([given_in_run](crate::contracts::ent_alloc::runs#given_in_run) result.allocator steps) }
     /// </code>
@@ -94,7 +95,8 @@ impl Entities {
     /// ensures rows { result.rows ≡ [map.empty](crate::contracts::logic#FinMap.empty) }
     /// ensures rows_of_living { [HasRowsOfLiving](crate::contracts::ent_alloc::entities#HasRowsOfLiving) result }
     /// &#32;
-    /// // Whatever calls come then, no handle is given twice, and none that was given is given again.
+    /// // Whatever calls come then, no handle is given twice, and none that was given is given
+    /// // again.
     /// ensures given_once { (steps : [List](crate::contracts::logic#List) [Step](crate::contracts::ent_alloc::runs#Step)) → [IsRun](crate::contracts::ent_alloc::runs#IsRun) result.allocator steps
     /// &#9;→ [AreSpent](crate::contracts::ent_alloc::spent#AreSpent) ([after_run](crate::contracts::ent_alloc::runs#after_run) result.allocator steps) ([given_in_run](crate::contracts::ent_alloc::runs#given_in_run) result.allocator steps) }
     /// </code>
@@ -215,10 +217,10 @@ impl Entities {
         Ok(Freed { next })
     }
 
-    /// Brings to life what is reserved, and appends it to `out`: first the handles of new slots, then
-    /// those of old ones. What a refused request passed over can be given again. If nothing is
-    /// reserved, it appends nothing. It takes time for each handle that it appends, however long the
-    /// list is.
+    /// Brings to life what is reserved, and appends it to `out`: first the handles of new slots,
+    /// then those of old ones. What a refused request passed over can be given again. If nothing is
+    /// reserved, it appends nothing. It takes time for each handle that it appends, however long
+    /// the list is.
     ///
     /// If the list has room for the handles and no slot is new, the call takes no memory. So a list
     /// that is cleared and used again takes none eventually.
@@ -242,8 +244,9 @@ impl Entities {
     ///
     /// # Errors
     ///
-    /// [`OutOfMemory`] if there is no memory for new slots or for the list. Nothing has changed then,
-    /// neither here nor in `out`: all room is asked for before the first handle is listed.
+    /// [`OutOfMemory`] if there is no memory for new slots or for the list. Nothing has
+    /// changed then, neither here nor in `out`: all room is asked for before the first handle is
+    /// listed.
     ///
     /// <details><summary>Contract</summary>
     ///
@@ -691,8 +694,8 @@ impl Entities {
         self.slots.made()
     }
 
-    /// How many slots there are after the next [`flush`](Self::flush): those that were made, and one for
-    /// each reserved handle of a new slot.
+    /// How many slots there are after the next [`flush`](Self::flush): those that were made, and
+    /// one for each reserved handle of a new slot.
     ///
     /// ```
     /// use forgeni::Entities;

@@ -81,8 +81,8 @@ impl Entities {
     }
 }
 
-/// Of a list that has the fresh handles first and then the old ones as they wait, the order in which
-/// single calls give them: the old one that was freed last, .., then the fresh ones.
+/// Of a list that has the fresh handles first and then the old ones as they wait, the order in
+/// which single calls give them: the old one that was freed last, .., then the fresh ones.
 #[inline]
 fn in_order(handles: &mut [Handle], fresh: usize)
     // requires { fresh ≤ length handles.old }

@@ -197,11 +197,11 @@ impl Entities {
 
     /// The allocator whose image these bytes are, all of them.
     ///
-    /// The bytes may come from anywhere. Each image that [`write_image`](Self::write_image) writes is
-    /// read as the same allocator, which gives no handle that was given before. Bytes that are the
-    /// image of no allocator are refused. The call takes 8 bytes of memory for each slot and 4 for each
-    /// that waits, which is no more than the slots have in the image. It takes none before it has
-    /// compared the number of slots with the length.
+    /// The bytes may come from anywhere. Each image that [`write_image`](Self::write_image) writes
+    /// is read as the same allocator, which gives no handle that was given before. Bytes that are
+    /// the image of no allocator are refused. The call takes 8 bytes of memory for each slot and 4
+    /// for each that waits, which is no more than the slots have in the image. It takes none before
+    /// it has compared the number of slots with the length.
     ///
     /// A forged image can make the next [`flush`](Self::flush) take up to 68 GB, since it may say
     /// that each of 2^32 - 1 slots is reserved. For bytes from a stranger, use
@@ -225,17 +225,18 @@ impl Entities {
     ///
     /// # Errors
     ///
-    /// Each but [`Memory`](ImageFault::Memory) says that no allocator has this image. The first fault
-    /// that the bytes have, in this order, is returned:
+    /// Each but [`Memory`](ImageFault::Memory) says that no allocator has this image. The first
+    /// fault that the bytes have, in this order, is returned:
     ///
     /// - [`ImageFault::Magic`] if the bytes don't begin as an image does.
     /// - [`ImageFault::Length`] if there are fewer than 40 bytes.
     /// - [`ImageFault::Version`] if the image is of another version of the format.
     /// - [`ImageFault::Limits`] if no allocator can have these limits.
-    /// - [`ImageFault::Counts`] if more slots were made than the limits allow, or more wait than were
-    ///   made.
+    /// - [`ImageFault::Counts`] if more slots were made than the limits allow, or more wait than
+    ///   were made.
     /// - [`ImageFault::Requests`] if no requests reserve that many handles.
-    /// - [`ImageFault::Length`] if there are fewer or more bytes than an image of so many slots has.
+    /// - [`ImageFault::Length`] if there are fewer or more bytes than an image of so many slots
+    ///   has.
     /// - [`ImageFault::Slot`] with the first slot that is invalid.
     /// - [`ImageFault::Position`] with the first position that no slot waits at.
     ///
@@ -256,8 +257,8 @@ impl Entities {
     /// &#9;→ [first_fault](crate::contracts::ent_alloc::first_fault#first_fault) bytes.now ≡ [Some](crate::contracts::logic#Some) fault) }
     /// ensures faultless { [OnOk](crate::contracts::logic#OnOk) result ([first_fault](crate::contracts::ent_alloc::first_fault#first_fault) bytes.now ≡ [None](crate::contracts::logic#None)) }
     /// &#32;
-    /// // Memory is asked for only after all before the slots was found faultless, the number of bytes
-    /// // too, and only if there are slots. What is kept has no more bytes than the slots.
+    /// // Memory is asked for only after all before the slots was found faultless, the number of
+    /// // bytes too, and only if there are slots. What is kept has no more bytes than the slots.
     /// ensures memory { [IfErr](crate::contracts::logic#IfErr) result (λ fault. fault ≡ ImageFault.Memory
     /// &#9;→ [header_fault](crate::contracts::ent_alloc::first_fault#header_fault) bytes.now ≡ [None](crate::contracts::logic#None)) }
     /// ensures slots { [IfErr](crate::contracts::logic#IfErr) result (λ fault. fault ≡ ImageFault.Memory
@@ -268,8 +269,8 @@ impl Entities {
     /// ensures exact { (e : [Entities](crate::contracts::ent_alloc::entities#Entities)) → [HasImage](crate::contracts::ent_alloc::image#HasImage) e → [image](crate::contracts::ent_alloc::image#image) e ≡ bytes.now
     /// &#9;→ (result ≡ [Ok](crate::contracts::logic#Ok) e) ⊎ (result ≡ [Err](crate::contracts::logic#Err) ImageFault.Memory) }
     /// &#32;
-    /// // Of what was given before the image was written, nothing is given again, whatever calls come
-    /// // after it is read. Nor is anything given twice by these.
+    /// // Of what was given before the image was written, nothing is given again, whatever calls
+    /// // come after it is read. Nor is anything given twice by these.
     /// ensures given_once { (e : [Entities](crate::contracts::ent_alloc::entities#Entities)) (given : [List](crate::contracts::logic#List) [Handle](crate::contracts::ent_handle::handle#Handle)) → [HasImage](crate::contracts::ent_alloc::image#HasImage) e
     /// &#9;→ [image](crate::contracts::ent_alloc::image#image) e ≡ bytes.now → [AreSpent](crate::contracts::ent_alloc::spent#AreSpent) e.allocator given → [IfOk](crate::contracts::logic#IfOk) result (λ r.
     /// &#9;(steps : [List](crate::contracts::logic#List) [Step](crate::contracts::ent_alloc::runs#Step)) → [IsRun](crate::contracts::ent_alloc::runs#IsRun) r.allocator steps → [AreSpent](crate::contracts::ent_alloc::spent#AreSpent)
@@ -316,8 +317,8 @@ impl Entities {
     /// // A flush of what is read leaves no more slots than are allowed.
     /// ensures within { [IfOk](crate::contracts::logic#IfOk) result (λ e. [slots_after_flush](crate::contracts::ent_alloc::within#slots_after_flush) e.allocator ≤ most) }
     /// &#32;
-    /// // The image of an allocator is read as this allocator, unless memory runs out, exactly if it has
-    /// // no more slots then.
+    /// // The image of an allocator is read as this allocator, unless memory runs out, exactly if
+    /// // it has no more slots then.
     /// ensures exact { (e : [Entities](crate::contracts::ent_alloc::entities#Entities)) → [HasImage](crate::contracts::ent_alloc::image#HasImage) e → [image](crate::contracts::ent_alloc::image#image) e ≡ bytes.now
     /// &#9;→ (result ≡ [within](crate::contracts::ent_alloc::within#within) most e) ⊎ (result ≡ [Err](crate::contracts::logic#Err) ImageFault.Memory) }
     /// &#32;
@@ -342,8 +343,8 @@ impl Entities {
 }
 
 impl Entities {
-    /// Appends the image that the allocator has if none of its entities has a row, for a caller whose
-    /// rows follow from what it writes beside it. There is room for it.
+    /// Appends the image that the allocator has if none of its entities has a row, for a caller
+    /// whose rows follow from what it writes beside it. There is room for it.
     #[inline]
     pub(crate) fn write_image_without_rows(&self, out: &mut Vec<u8>)
         // requires { vec_len out.old + (40 + 12 * self.now.allocator.made) ≤ vec_capacity out.old }

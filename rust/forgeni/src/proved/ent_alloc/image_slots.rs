@@ -166,8 +166,9 @@ fn read_words(bytes: &[u8; SLOT], limits: Limits) -> Option<SlotRecord>
     record_of(limits, generation, kind, number)
 }
 
-/// The slot that these bytes are; `None` if no slot within the limits is so written. Most slots have a
-/// living occupant without a row, so it looks for one first, with one comparison of its two words.
+/// The slot that these bytes are; `None` if no slot within the limits is so written. Most slots
+/// have a living occupant without a row, so it looks for one first, with one comparison of its two
+/// words.
 #[inline]
 fn read_slot(bytes: &[u8; SLOT], limits: Limits) -> Option<SlotRecord>
     // ensures bytes { IfSome result (λ s. bytes.now ≡ record_bytes s) }
@@ -225,7 +226,8 @@ fn vacant_positions(count: u32) -> Result<Vec<u32>, AllocError>
     Ok(positions)
 }
 
-/// The fault of a slot. It is apart, so that the compiler keeps no fault ready while it reads the slots.
+/// The fault of a slot. It is apart, so that the compiler keeps no fault ready while it reads the
+/// slots.
 #[cold]
 #[inline(never)]
 fn slot_fault(index: u32) -> ImageFault

@@ -14,7 +14,8 @@ use crate::handles::OutOfMemory;
 
 /// An allocator and the room that its lists have.
 ///
-/// Contracts see the allocator, and for how many slots there is room, in all and of those that wait.
+/// Contracts see the allocator, and for how many slots there is room, in all and of those that
+/// wait.
 pub struct Prepared {
     limits: Limits,
     records: Vec<PackedSlot>,

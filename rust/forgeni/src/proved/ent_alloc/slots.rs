@@ -279,8 +279,8 @@ impl Slots {
         }
     }
 
-    /// `leave`, if the list of the slots that wait has no room. It is apart, so that nothing is called
-    /// if there is room, and the compiler keeps all numbers in registers.
+    /// `leave`, if the list of the slots that wait has no room. It is apart, so that nothing is
+    /// called if there is room, and the compiler keeps all numbers in registers.
     #[cold]
     #[inline(never)]
     fn leave_growing(&mut self, handle: Handle) -> Result<Option<Handle>, FreeError>

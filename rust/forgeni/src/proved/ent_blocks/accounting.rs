@@ -21,8 +21,8 @@ pub(super) fn are_of(number: u64, reservers: &[BlockReserver]) -> bool
     true
 }
 
-/// How many blocks are held by nothing here. `None` if what is here doesn't hold some of the blocks,
-/// in their order.
+/// How many blocks are held by nothing here. `None` if what is here doesn't hold some of the
+/// blocks, in their order.
 #[inline]
 pub(super) fn missing<H: Held>(parts: &[Part], held: &[H]) -> Option<usize>
     // ensures among { IsSome result ↔ IsTrue (are_among parts.now (map H.block held.now)) }
@@ -44,8 +44,8 @@ pub(super) fn missing<H: Held>(parts: &[Part], held: &[H]) -> Option<usize>
     }
 }
 
-/// Appends all blocks with what was used of each: all of it, if nothing here holds it. There is room
-/// for them.
+/// Appends all blocks with what was used of each: all of it, if nothing here holds it. There is
+/// room for them.
 #[inline]
 pub(super) fn account<H: Held>(parts: &[Part], held: &[H], all: &mut Vec<Part>)
     // requires none { all.old.items ≡ [] }

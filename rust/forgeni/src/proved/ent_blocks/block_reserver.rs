@@ -110,8 +110,8 @@ impl BlockReserver {
         self.part.left()
     }
 
-    /// How many handles would have been enough: those that are used, and the largest of the requests
-    /// that were refused since too few were left. At most 4,294,967,295.
+    /// How many handles would have been enough: those that are used, and the largest of the
+    /// requests that were refused since too few were left. At most 4,294,967,295.
     /// [`BlockSize::adapt`](crate::in_blocks::BlockSize::adapt) takes it.
     ///
     /// ```
@@ -183,8 +183,8 @@ impl Held for BlockReserver {
 
 /// A reserver of the same block, which remembers as much. The two give the same handles, so one of
 /// them has to be dropped unused, and no contract sees to that. It is for `ent_runner` alone: a
-/// frame owns the reservers of its systems, makes another one for a job, which is done once, and drops
-/// its own.
+/// frame owns the reservers of its systems, makes another one for a job, which is done once, and
+/// drops its own.
 ///
 /// <details><summary>Contract</summary>
 ///

@@ -521,8 +521,8 @@ impl Blocks {
     }
 }
 
-/// [`Blocks::reserve_many`] without a list: it takes no memory, and each handle is looked up when it is
-/// yielded.
+/// [`Blocks::reserve_many`] without a list: it takes no memory, and each handle is looked up when
+/// it is yielded.
 ///
 /// # Errors
 ///

@@ -26,8 +26,8 @@ pub struct Deal {
 ///
 /// # Errors
 ///
-/// [`HandedBack`] has the allocator as it was, and [`DealError::NeedsFlush`] or [`DealError::Memory`].
-/// No sizes take no memory.
+/// [`HandedBack`] has the allocator as it was, and [`DealError::NeedsFlush`] or
+/// [`DealError::Memory`]. No sizes take no memory.
 ///
 /// <details><summary>Contract</summary>
 ///

@@ -145,7 +145,8 @@ impl Handle {
     /// The handle of the slot's next occupant: of the same index, and of the next generation, which
     /// has to be in range. It tests nothing when it runs.
     ///
-    /// It is never `None`. As an `Option` its bits need no test for 0, which would stand for `None`.
+    /// It is never `None`. As an `Option` its bits need no test for 0, which would stand for
+    /// `None`.
     #[inline]
     pub(crate) fn following(self) -> Option<Self>
         // requires { IsHandle (record self { generation = self.generation + 1 }) }

@@ -4,8 +4,8 @@ use crate::logs::entry::Entry;
 use crate::logs::rest::Rest;
 use crate::allocator::Entities;
 
-/// Calls `run` at the entry in front, if there is one, and then at the rest in turn, until it fails.
-/// The entry that it handed back then is in front.
+/// Calls `run` at the entry in front, if there is one, and then at the rest in turn, until it
+/// fails. The entry that it handed back then is in front.
 #[inline]
 pub(super) fn hand_on<C, E, F>(
     front: &mut Option<Entry<C>>,

@@ -231,15 +231,15 @@ impl<C> Log<C> {
         }
     }
 
-    /// Reserves a handle at once, of a source that serves this reserver, and adds its entry, or that
-    /// of the refusal. Room for the entry is allocated first, so each reservation has one.
+    /// Reserves a handle at once, of a source that serves this reserver, and adds its entry, or
+    /// that of the refusal. Room for the entry is allocated first, so each reservation has one.
     ///
     /// # Errors
     ///
     /// - [`ReserveError::Memory`] if there is no room for the entry. The log is as it was, and
     ///   nothing was reserved.
-    /// - [`ReserveError::Space`] and [`ReserveError::Quota`] as the source returns them. The log has
-    ///   an entry for the [refusal](Entry::Refused), which the sync point hands on in its turn.
+    /// - [`ReserveError::Space`] and [`ReserveError::Quota`] as the source returns them. The log
+    ///   has an entry for the [refusal](Entry::Refused), which the sync point hands on in its turn.
     #[inline]
     pub(crate) fn spawn_from<S: Source>(
         &mut self,

@@ -74,8 +74,8 @@ pub struct SyncPoint<C> {
 impl<C> SyncPoint<C> {
     /// Brings to life all that is reserved, and appends it to `out`, as
     /// [`flush`](Entities::flush) does. The sync point has the entries of these logs, one log after
-    /// the other, and the list of logs is empty then. What a log reserved that isn't among them comes
-    /// to life too.
+    /// the other, and the list of logs is empty then. What a log reserved that isn't among them
+    /// comes to life too.
     ///
     /// It tests each spawn of the logs: its handle has to be reserved in this allocator. So when
     /// the first entry is handed on, each of these handles is alive.
@@ -214,8 +214,8 @@ impl<C> SyncPoint<C> {
     ///
     /// # Panics
     ///
-    /// A panic of `run` is handed on. The entry at which it panicked is gone, and those behind it are
-    /// left.
+    /// A panic of `run` is handed on. The entry at which it panicked is gone, and those behind it
+    /// are left.
     ///
     /// <details><summary>Contract</summary>
     ///

@@ -95,8 +95,8 @@ impl<'a, O, S: Source> SystemCommands<'a, O, S> {
         self.source.was_alive(handle)
     }
 
-    /// The row that was kept with the entity when the phase was opened. `None` if the entity was not
-    /// alive then, or had no row. It takes constant time.
+    /// The row that was kept with the entity when the phase was opened. `None` if the entity was
+    /// not alive then, or had no row. It takes constant time.
     ///
     /// ```
     /// use forgeni::{run_logs, Entities, Entry, LogCommands};

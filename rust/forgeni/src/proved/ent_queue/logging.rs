@@ -64,8 +64,8 @@ impl<C, S: Source> SystemCommands<'_, Log<C>, S> {
     ///
     /// - [`ReserveError::Memory`] if there is no room for the entry. The log is as it was, and
     ///   nothing was reserved.
-    /// - [`ReserveError::Space`] and [`ReserveError::Quota`] as the source returns them. The log has
-    ///   an entry for the [refusal](Entry::Refused), which the sync point hands on in its turn.
+    /// - [`ReserveError::Space`] and [`ReserveError::Quota`] as the source returns them. The log
+    ///   has an entry for the [refusal](Entry::Refused), which the sync point hands on in its turn.
     ///   [`ReserveError::or_memory`] lets the system go on.
     ///
     /// <details><summary>Contract</summary>

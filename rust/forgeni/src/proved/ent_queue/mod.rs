@@ -1,6 +1,7 @@
 // Made of crates/ent_queue/src/lib.rt by rust/erase. It isn't edited by hand.
 
-//! Queues of commands that systems write and a world applies, and what systems fill them with, or logs.
+//! Queues of commands that systems write and a world applies, and what systems fill them with, or
+//! logs.
 
 mod bundle;
 mod bundle_ref;

@@ -64,8 +64,8 @@ impl<O> Crew<O> {
         })
     }
 
-    /// Does the jobs, each of them once: one worker for each element of `lent`, which is lent to the
-    /// jobs that the worker does. The outputs are in the order of the jobs.
+    /// Does the jobs, each of them once: one worker for each element of `lent`, which is lent to
+    /// the jobs that the worker does. The outputs are in the order of the jobs.
     ///
     /// The workers run in threads of `rt`. If a thread can't be started, another one does its work.
     ///

@@ -111,7 +111,8 @@ where
         shared: &shared,
         systems: &loggers,
     };
-    // A command may panic when it is dropped. So no log is dropped before the allocator is in its place.
+    // A command may panic when it is dropped. So no log is dropped before the allocator is in its
+    // place.
     let logs = crew.work(rt, &mut reservers, &stage);
     *entities = shared.close(reservers);
     let Ok(logs) = logs else {

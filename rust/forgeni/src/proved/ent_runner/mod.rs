@@ -1,7 +1,7 @@
 // Made of crates/ent_runner/src/lib.rt by rust/erase. It isn't edited by hand.
 
-//! Systems run on workers. Each fills an output of its own, a queue of a world or a log, with handles of
-//! one shared allocator or of a block of its own.
+//! Systems run on workers. Each fills an output of its own, a queue of a world or a log, with
+//! handles of one shared allocator or of a block of its own.
 
 mod blocks;
 mod crew;

@@ -31,8 +31,8 @@ pub(super) struct BlockStage<'b, 'r, 's, T> {
     pub(super) systems: &'s T,
 }
 
-/// Nothing is lent to them: each has its own reserver. So there is nothing that workers share but the
-/// claims.
+/// Nothing is lent to them: each has its own reserver. So there is nothing that workers share but
+/// the claims.
 impl<O: Output, T: Systems<O, Blocks>> Jobs<(O, BlockReserver), ()>
     for BlockStage<'_, '_, '_, T> {
     /// Runs the system of this number, which is run once. Its output has what it added, also if it

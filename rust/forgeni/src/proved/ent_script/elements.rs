@@ -80,8 +80,8 @@ pub(super) fn whole_within(value: &Value, low: u32, high: u32) -> Option<u32>
     }
 }
 
-/// The name that a value is: a string of 1 to 32 letters from `a` to `z`, digits and `_`. `None` if it
-/// is none.
+/// The name that a value is: a string of 1 to 32 letters from `a` to `z`, digits and `_`. `None` if
+/// it is none.
 ///
 /// <details><summary>Contract</summary>
 ///

@@ -4,8 +4,8 @@ use crate::components::pairs::search;
 use crate::handles::{ComponentId, OutOfMemory};
 use crate::kit::smallvec::SmallVec;
 
-/// Components and their values, by strictly rising number: what an entity is given. Contracts see the
-/// list of them.
+/// Components and their values, by strictly rising number: what an entity is given. Contracts see
+/// the list of them.
 ///
 /// Up to `INLINE` components lie in the bundle itself, and take no memory.
 ///
@@ -61,8 +61,8 @@ impl<const INLINE: usize> InlineBundle<INLINE> {
         })
     }
 
-    /// A bundle of these components. The list may be in any order. If a component is in it twice, its
-    /// last value counts.
+    /// A bundle of these components. The list may be in any order. If a component is in it twice,
+    /// its last value counts.
     ///
     /// # Errors
     ///

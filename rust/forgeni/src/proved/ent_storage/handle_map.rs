@@ -86,8 +86,9 @@ use core::mem;
 /// A value takes 4 bytes more than its size, for its generation, and what alignment adds. A slot
 /// has 8 bytes for values of up to 4 bytes, and 16 bytes for values of 8.
 ///
-/// Contracts see a finite map from handles to values (`values`), how many slots there are (`slots`),
-/// for how many slots there is room (`room`), and for how many slots there may be values (`limit`).
+/// Contracts see a finite map from handles to values (`values`), how many slots there are
+/// (`slots`), for how many slots there is room (`room`), and for how many slots there may be values
+/// (`limit`).
 pub struct HandleMap<T> {
     pub(crate) slots: Vec<Slot<T>>,
     pub(crate) len: usize,
@@ -126,8 +127,8 @@ impl<T> HandleMap<T> {
     /// A map without values, which refuses each handle whose slot is at or above this limit. It
     /// takes no memory.
     ///
-    /// [`Entities::total`](crate::Entities::total) is a limit that fits an allocator as long as it
-    /// makes no new slots. [`set_limit`](Self::set_limit) changes the limit.
+    /// [`Entities::total`](crate::Entities::total) is a limit that fits an allocator as long as
+    /// it makes no new slots. [`set_limit`](Self::set_limit) changes the limit.
     ///
     /// ```
     /// use forgeni::{HandleMap, InsertError};
@@ -200,8 +201,8 @@ impl<T> HandleMap<T> {
 
 /// # Values
 impl<T> HandleMap<T> {
-    /// Gives the handle a value, and returns the one that it had. If an earlier occupant of the slot
-    /// has one, that is dropped.
+    /// Gives the handle a value, and returns the one that it had. If an earlier occupant of the
+    /// slot has one, that is dropped.
     ///
     /// If there is room for the slot ([`capacity`](Self::capacity)), it takes no memory, and
     /// constant time. If not, it takes memory and time for all slots up to that of the handle.
@@ -542,8 +543,8 @@ impl<T> HandleMap<T> {
     ///
     /// # Panics
     ///
-    /// A panic of `keep` is handed on. The map then has the values that were kept, those that `keep`
-    /// wasn't called on, and the one on which it panicked, as far as `keep` had changed it.
+    /// A panic of `keep` is handed on. The map then has the values that were kept, those that
+    /// `keep` wasn't called on, and the one on which it panicked, as far as `keep` had changed it.
     ///
     /// <details><summary>Contract</summary>
     ///
@@ -704,8 +705,8 @@ impl<T> HandleMap<T> {
         self.slots.len()
     }
 
-    /// For how many slots the map may have values, from slot 0 on: 4,294,967,295, which is no limit,
-    /// or the limit that was set.
+    /// For how many slots the map may have values, from slot 0 on: 4,294,967,295, which is no
+    /// limit, or the limit that was set.
     ///
     /// ```
     /// use forgeni::HandleMap;
@@ -862,8 +863,8 @@ impl<T> HandleMap<T> {
 
 /// # Snapshots
 impl<T: Clone> HandleMap<T> {
-    /// A map with a clone of each value, and with the same slots and the same limit. Without slots it
-    /// takes no memory.
+    /// A map with a clone of each value, and with the same slots and the same limit. Without slots
+    /// it takes no memory.
     ///
     /// ```
     /// use forgeni::{Handle, HandleMap};
@@ -904,8 +905,8 @@ impl<T: Clone> HandleMap<T> {
         })
     }
 
-    /// Drops all values, and gives this map a clone of each value of the source, and the slots and the
-    /// limit of the source.
+    /// Drops all values, and gives this map a clone of each value of the source, and the slots and
+    /// the limit of the source.
     ///
     /// If there is room for the slots of the source ([`capacity`](Self::capacity)), it takes memory
     /// only for the clones. So a map into which another one is cloned again and again takes memory
@@ -933,8 +934,8 @@ impl<T: Clone> HandleMap<T> {
     ///
     /// # Panics
     ///
-    /// A panic of a clone is handed on. If there was room for the slots of the source, no values are
-    /// left. If there wasn't, nothing has changed.
+    /// A panic of a clone is handed on. If there was room for the slots of the source, no values
+    /// are left. If there wasn't, nothing has changed.
     ///
     /// <details><summary>Contract</summary>
     ///
@@ -963,8 +964,8 @@ impl<T: Clone> HandleMap<T> {
             *self = source.try_clone()?;
             return Ok(());
         }
-        // While the list is out of the map, a panic of a value's `drop` or `clone` leaves a map without
-        // values.
+        // While the list is out of the map, a panic of a value's `drop` or `clone` leaves a map
+        // without values.
         self.len = 0;
         let mut slots = mem::replace(&mut self.slots, Vec::new());
         slots.clear();

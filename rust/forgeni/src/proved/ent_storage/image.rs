@@ -228,7 +228,8 @@ impl Storage {
         }
     }
 
-    /// Gives the entity at this place the value of a component that it doesn't have, if there is one.
+    /// Gives the entity at this place the value of a component that it doesn't have, if there is
+    /// one.
     #[inline]
     fn give(
         &mut self,

@@ -100,8 +100,8 @@ impl Index {
     /// did: not if the living have the entity already. It takes no memory.
     ///
     /// An allocator's handles come behind the pair of their slot's last occupant, or behind all, or
-    /// over a pair that was made for their slot before it had an occupant. So these places are tried
-    /// first, and only then is the handle looked for.
+    /// over a pair that was made for their slot before it had an occupant. So these places are
+    /// tried first, and only then is the handle looked for.
     #[inline(always)]
     pub(crate) fn put(&mut self, living: &Living, handle: Handle) -> bool
         // requires room { length living.now.entities < self.old.room }

@@ -6,8 +6,8 @@ use crate::handles::ComponentId;
 
 /// The components of one entity and their values, by rising number.
 ///
-/// [`Storage::items`](super::Storage::items) makes it. It borrows the storage and copies nothing. It
-/// looks at the components that any entity has ever had, at most 256 of them.
+/// [`Storage::items`](super::Storage::items) makes it. It borrows the storage and copies nothing.
+/// It looks at the components that any entity has ever had, at most 256 of them.
 ///
 /// ```
 /// use forgeni::{ComponentId, Items, World};

@@ -257,8 +257,8 @@ impl Storage {
         self.living.of_birth(birth)
     }
 
-    /// The place of the entity in the vector of entities, if it is there. It stays the same until an
-    /// entity is taken out.
+    /// The place of the entity in the vector of entities, if it is there. It stays the same until
+    /// an entity is taken out.
     ///
     /// ```
     /// use forgeni::{Birth, Storage};

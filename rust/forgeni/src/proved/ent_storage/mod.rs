@@ -2,9 +2,9 @@
 
 //! Birth and components of living entities: a finite map from handles.
 //!
-//! `Storage` keeps the entities in one vector. An entity's *place* is its position there. Beside the
-//! vector an index has the place of each handle, and for each component number a sparse set has the
-//! values, by places.
+//! `Storage` keeps the entities in one vector. An entity's *place* is its position there. Beside
+//! the vector an index has the place of each handle, and for each component number a sparse set has
+//! the values, by places.
 //!
 //! [`InlineBundle`] has components and their values by themselves, as commands carry them. And [`search`]
 //! finds the position of a key among pairs of a key and a value, by strictly rising key.

@@ -2,6 +2,6 @@
 
 //! How many places there are.
 
-/// How many entities a storage has at most: the places are numbered in 32 bits. A `usize` of 32 bits
-/// has no such number.
+/// How many entities a storage has at most: the places are numbered in 32 bits. A `usize` of 32
+/// bits has no such number.
 pub const MOST_PLACES: u64 = 4_294_967_296;

@@ -31,8 +31,8 @@ use crate::handles::{Birth, ComponentId, Handle, OutOfMemory};
 /// that has retired few slots, and otherwise logarithmic time. The values of each component lie in
 /// a vector of their own.
 ///
-/// Contracts see a finite map from handles to births and components (`entities`), the handle at each
-/// place of the vector of entities (`places`), and for how many more entities there is room
+/// Contracts see a finite map from handles to births and components (`entities`), the handle at
+/// each place of the vector of entities (`places`), and for how many more entities there is room
 /// (`spare`).
 pub struct Storage {
     pub(super) living: Living,
@@ -103,8 +103,8 @@ impl Storage {
     /// Nothing has changed.
     ///
     /// - `Present`: the entity is there already. This is tested first.
-    /// - `Memory`: `spare` is 0, and memory ran out, or there are 4,294,967,296 entities, which is the
-    ///   most.
+    /// - `Memory`: `spare` is 0, and memory ran out, or there are 4,294,967,296 entities, which is
+    ///   the most.
     ///
     /// <details><summary>Contract</summary>
     ///
@@ -182,8 +182,8 @@ impl Storage {
         Ok(())
     }
 
-    /// Sets each of the components, and leaves the entity's others as they are. The list may be in any
-    /// order. If a component is in it twice, its last value counts.
+    /// Sets each of the components, and leaves the entity's others as they are. The list may be in
+    /// any order. If a component is in it twice, its last value counts.
     ///
     /// It takes memory only for components that the entity does not have yet.
     ///
@@ -385,8 +385,8 @@ impl Storage {
     ///
     /// # Errors
     ///
-    /// Out of memory, or there would be more than 4,294,967,296 entities. The entities are as before,
-    /// and `spare` is below `additional`. It may have grown.
+    /// Out of memory, or there would be more than 4,294,967,296 entities. The entities are as
+    /// before, and `spare` is below `additional`. It may have grown.
     ///
     /// <details><summary>Contract</summary>
     ///
@@ -508,8 +508,8 @@ impl Storage {
     /// Takes over the entities of another storage, each at its place, as
     /// [`try_clone`](Self::try_clone) copies them. What this one had before is gone.
     ///
-    /// It uses the room that this one has, and never gives it back. So a storage that another one is
-    /// cloned into again and again takes memory only as that one grows.
+    /// It uses the room that this one has, and never gives it back. So a storage that another one
+    /// is cloned into again and again takes memory only as that one grows.
     ///
     /// ```
     /// use forgeni::{Birth, ComponentId, Handle, Storage};
@@ -584,8 +584,8 @@ impl Storage {
         len < self.living.capacity() && len < self.index.room()
     }
 
-    /// Does what [`Storage::born`] does, where there is room: a caller that adds many tests that once
-    /// for all of them. It takes no memory, and `spare` is then less by 1.
+    /// Does what [`Storage::born`] does, where there is room: a caller that adds many tests that
+    /// once for all of them. It takes no memory, and `spare` is then less by 1.
     ///
     /// # Errors
     ///

@@ -5,7 +5,8 @@
 use crate::phases::world::World;
 use crate::handles::OutOfMemory;
 
-/// Another world in the same state, with this number. So the queues of one are refused by the other.
+/// Another world in the same state, with this number. So the queues of one are refused by the
+/// other.
 ///
 /// # Errors
 ///

@@ -12,8 +12,8 @@ use crate::handles::HandedBack;
 
 /// # Closing
 impl Shared {
-    /// Ends the phase with all its reservers: those that are returned, and these. The allocator is as
-    /// if their reservations had been made one by one, in the order of their atomic steps, and
+    /// Ends the phase with all its reservers: those that are returned, and these. The allocator is
+    /// as if their reservations had been made one by one, in the order of their atomic steps, and
     /// [`flush`](Entities::flush) brings to life what they were given. It takes no memory.
     ///
     /// ```
@@ -37,8 +37,9 @@ impl Shared {
     /// # Errors
     ///
     /// [`HandedBack`] has the `Shared`, which goes on, the reservers that are handed back, and the
-    /// first of these errors that holds: [`CloseError::OtherPhase`] and [`CloseError::Missing`], with all reservers
-    /// handed back; [`CloseError::InUse`], and then those that came are returned.
+    /// first of these errors that holds: [`CloseError::OtherPhase`] and [`CloseError::Missing`],
+    /// with all reservers handed back; [`CloseError::InUse`], and then those that came are
+    /// returned.
     ///
     /// <details><summary>Contract</summary>
     ///
@@ -108,10 +109,10 @@ impl Shared {
     /// # Errors
     ///
     /// [`HandedBack`] has the `Shared`, which goes on, the reservers that are handed back, and the
-    /// first of these errors that holds: [`CloseError::OtherPhase`], with all reservers handed back;
-    /// [`CloseError::InUse`], and then those that came are returned. As long as a reserver that
-    /// wasn't handed in exists, it is `InUse`. One that was given to [`core::mem::forget`] exists
-    /// for good.
+    /// first of these errors that holds: [`CloseError::OtherPhase`], with all reservers handed
+    /// back; [`CloseError::InUse`], and then those that came are returned. As long as a reserver
+    /// that wasn't handed in exists, it is `InUse`. One that was given to [`core::mem::forget`]
+    /// exists for good.
     ///
     /// <details><summary>Contract</summary>
     ///

@@ -51,8 +51,8 @@ impl Commands {
     ///
     /// # Errors
     ///
-    /// `Memory`, and then nothing has changed. With `Space` and `Quota` the queue keeps the refusal,
-    /// which is a fault of the sync point's report, and the system may go on.
+    /// `Memory`, and then nothing has changed. With `Space` and `Quota` the queue keeps the
+    /// refusal, which is a fault of the sync point's report, and the system may go on.
     ///
     /// ```
     /// use forgeni::{ComponentId, World};
@@ -252,8 +252,8 @@ impl Commands {
         issued
     }
 
-    /// Takes the entity out of the world. If it isn't alive when the command takes effect, that is a
-    /// fault of the sync point's report.
+    /// Takes the entity out of the world. If it isn't alive when the command takes effect, that is
+    /// a fault of the sync point's report.
     ///
     /// ```
     /// use forgeni::{FaultKind, World};

@@ -19,8 +19,8 @@ pub struct WorldDeal {
 ///
 /// # Errors
 ///
-/// [`HandedBack`] has the world as it was, and [`DealError::NeedsFlush`] or [`DealError::Memory`]. No
-/// sizes take no memory.
+/// [`HandedBack`] has the world as it was, and [`DealError::NeedsFlush`] or [`DealError::Memory`].
+/// No sizes take no memory.
 ///
 /// <details><summary>Contract</summary>
 ///

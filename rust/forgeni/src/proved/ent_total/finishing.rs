@@ -38,8 +38,8 @@ impl OpenWorld {
     ///
     /// # Errors
     ///
-    /// [`HandedBack`] has the phase, which goes on, the queues that are handed back, and the first of
-    /// these errors that holds: [`CloseError::OtherPhase`] and [`CloseError::Missing`], with all
+    /// [`HandedBack`] has the phase, which goes on, the queues that are handed back, and the first
+    /// of these errors that holds: [`CloseError::OtherPhase`] and [`CloseError::Missing`], with all
     /// queues handed back in their order; [`CloseError::InUse`], and then the phase keeps them, as
     /// [`close_lost`](OpenWorld::close_lost) does.
     ///

@@ -18,9 +18,9 @@ use crate::kit::thread::Join;
 /// position. The world isn't changed: it is [closed](WorldInBlocks::close) with the reservers, and
 /// then [`World::apply`] takes the queues, which are in the order of the systems.
 ///
-/// The handles of a system's spawns are the next ones of its block, in the pool's order, whatever the
-/// others do, whichever worker runs it, and however many workers there are. The reservers say how many
-/// each system wanted, from which its block's size in the next frame may follow:
+/// The handles of a system's spawns are the next ones of its block, in the pool's order, whatever
+/// the others do, whichever worker runs it, and however many workers there are. The reservers say
+/// how many each system wanted, from which its block's size in the next frame may follow:
 ///
 /// ```
 /// # #[cfg(feature = "std")] {
@@ -46,14 +46,15 @@ use crate::kit::thread::Join;
 /// # Ok::<(), Box<dyn std::error::Error + Send + Sync>>(())
 /// ```
 ///
-/// A worker takes the next system that nobody has taken yet, until none is left. If a thread can't be
-/// started, another one does its work. One worker starts no thread.
+/// A worker takes the next system that nobody has taken yet, until none is left. If a thread can't
+/// be started, another one does its work. One worker starts no thread.
 ///
 /// # Errors
 ///
 /// [`HandedBack`] has the reservers that are handed back, and the first of these errors that holds.
 ///
-/// - [`RunError::Workers`], [`RunError::Systems`] if there are more than 65,536, [`RunError::Reservers`],
+/// - [`RunError::Workers`], [`RunError::Systems`] if there are more than 65,536,
+///   [`RunError::Reservers`],
 ///   [`RunError::OtherPhase`], [`RunError::Memory`]: no system ran, and the reservers are handed back as
 ///   they were. No systems take no memory.
 /// - [`RunError::Lost`]: a system returned an error, or systems are left and
@@ -62,8 +63,8 @@ use crate::kit::thread::Join;
 ///
 /// # Panics
 ///
-/// A panic of a system is handed on when all workers have ended. Queues and reservers are dropped then
-/// too, and [`WorldInBlocks::close_lost`] ends the phase.
+/// A panic of a system is handed on when all workers have ended. Queues and reservers are dropped
+/// then too, and [`WorldInBlocks::close_lost`] ends the phase.
 ///
 /// <details><summary>Contract</summary>
 ///
@@ -111,10 +112,10 @@ where
 /// Runs each system once, on that many workers side by side, 1 to 64, each with the reserver at its
 /// position, and then the sync point. The commands take effect in the order of the systems.
 ///
-/// The handles of a system's spawns are the next ones of its block, in the pool's order, whatever the
-/// others do, whichever worker runs it, and however many workers there are. So if what a system does
-/// follows from what it sees, the world after the frame is the same each time, handles included, if no
-/// allocation fails.
+/// The handles of a system's spawns are the next ones of its block, in the pool's order, whatever
+/// the others do, whichever worker runs it, and however many workers there are. So if what a system
+/// does follows from what it sees, the world after the frame is the same each time, handles
+/// included, if no allocation fails.
 ///
 /// It is [`fill_in_blocks`], [`WorldInBlocks::close`] and [`World::apply`] in one call.
 ///
@@ -140,10 +141,10 @@ where
 ///
 /// - [`Unframed::Unrun`] as of [`fill_in_blocks`]: no command was applied.
 /// - [`Unframed::Unended`] if all systems ran, and the world was not closed, as of
-///   [`WorldInBlocks::close`]. With the reservers of all blocks, in their order, it is so only if memory
-///   ran out.
-/// - [`Unframed::Unapplied`], [`Unframed::Stopped`] if all systems ran, and memory ran out in the sync
-///   point. It may be made again, or go on.
+///   [`WorldInBlocks::close`]. With the reservers of all blocks, in their order, it is so only if
+///   memory ran out.
+/// - [`Unframed::Unapplied`], [`Unframed::Stopped`] if all systems ran, and memory ran out in the
+///   sync point. It may be made again, or go on.
 ///
 /// # Panics
 ///

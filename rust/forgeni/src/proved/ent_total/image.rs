@@ -106,8 +106,8 @@ pub fn read_world(bytes: &[u8], number: u64) -> Result<World, WorldImageFault> {
     of_image(bytes, number)
 }
 
-/// The world whose image these bytes are, all of them, with this number, if it has at most `most` slots
-/// after its next flush.
+/// The world whose image these bytes are, all of them, with this number, if it has at most `most`
+/// slots after its next flush.
 ///
 /// # Errors
 ///

@@ -33,7 +33,8 @@ pub struct Opening {
 /// ensures start { [IfOk](crate::contracts::logic#IfOk) result (λ o. o.shared.start ≡ entities.allocator) }
 /// ensures rows { [IfOk](crate::contracts::logic#IfOk) result (λ o. o.shared.rows ≡ entities.rows) }
 /// ensures count { [IfOk](crate::contracts::logic#IfOk) result (λ o. o.shared.count ≡ count) }
-/// ensures may_return { [IfOk](crate::contracts::logic#IfOk) result (λ o. [records_of](crate::contracts::ent_shared::phase#records_of) o.returned ≡ [opened_records](crate::contracts::ent_shared::record#opened_records) entities.allocator 0 count) }
+/// ensures may_return { [IfOk](crate::contracts::logic#IfOk) result (λ o.
+/// &#9;[records_of](crate::contracts::ent_shared::phase#records_of) o.returned ≡ [opened_records](crate::contracts::ent_shared::record#opened_records) entities.allocator 0 count) }
 /// ensures needs_flush { [IsErrAnd](crate::contracts::logic#IsErrAnd) result (λ h. h.error ≡ NeedsFlush)
 /// &#9;↔ (0 \< entities.allocator.asked) }
 /// ensures no_count { [IsErrAnd](crate::contracts::logic#IsErrAnd) result (λ h. h.error ≡ Count)
@@ -74,13 +75,13 @@ pub fn share(
 }
 
 impl Opening {
-    /// The phase under this number, which no other phase has, and all its reservers, in the order of
-    /// their numbers. It takes no memory.
+    /// The phase under this number, which no other phase has, and all its reservers, in the order
+    /// of their numbers. It takes no memory.
     ///
     /// # Errors
     ///
-    /// The same, with some reservers returned to the phase: each owns a part of the allocator, and no
-    /// more owners could be counted. That takes 2^62 of them.
+    /// The same, with some reservers returned to the phase: each owns a part of the allocator, and
+    /// no more owners could be counted. That takes 2^62 of them.
     #[inline]
     pub(crate) fn numbered(
         self,

@@ -66,8 +66,8 @@ impl Reserver {
     /// # Errors
     ///
     /// - [`ReserveError::Quota`] if `n` is above what is left of the quota. Nothing has changed.
-    /// - [`ReserveError::Space`] if the pool has fewer than `n` handles. `n` is taken from the quota
-    ///   all the same, and the pool gives no more until the next flush.
+    /// - [`ReserveError::Space`] if the pool has fewer than `n` handles. `n` is taken from the
+    ///   quota all the same, and the pool gives no more until the next flush.
     /// - [`ReserveError::Memory`] if there is no memory for the list. Nothing has changed.
     ///
     /// The list is allocated before the atomic step, and only that step tells what the pool has. So
@@ -102,8 +102,8 @@ impl Reserver {
         Ok(handles)
     }
 
-    /// [`reserve_many`](Self::reserve_many), which appends the handles to a list. It takes no memory
-    /// if the list has room for them.
+    /// [`reserve_many`](Self::reserve_many), which appends the handles to a list. It takes no
+    /// memory if the list has room for them.
     ///
     /// ```
     /// use forgeni::Entities;

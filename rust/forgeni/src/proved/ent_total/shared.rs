@@ -8,8 +8,8 @@ use crate::allocator::Living;
 use crate::handles::{Handle, OutOfMemory};
 use crate::kit::sync::Arc;
 
-/// An allocator while it is shared. [`Entities::share`](crate::Entities::share) makes it, with its
-/// reservers.
+/// An allocator while it is shared. [`Entities::share`](crate::Entities::share) makes it, with
+/// its reservers.
 ///
 /// The allocator is inside, so nothing but reservations happens until [`close`](Self::close) gives
 /// it back. If the `Shared` is dropped, the allocator goes with the last of the reservers.
@@ -151,9 +151,9 @@ impl Shared {
         self.shared.is_empty()
     }
 
-    /// The row that was set with the entity ([`try_set_row`](crate::Entities::try_set_row)), when the
-    /// phase was opened. `None` if the entity was not alive then, or had no row. Any thread may ask,
-    /// and it takes constant time.
+    /// The row that was set with the entity ([`try_set_row`](crate::Entities::try_set_row)), when
+    /// the phase was opened. `None` if the entity was not alive then, or had no row. Any thread may
+    /// ask, and it takes constant time.
     ///
     /// ```
     /// use forgeni::Entities;
@@ -254,7 +254,8 @@ impl Shared {
     ///
     /// # Errors
     ///
-    /// `OutOfMemory` if the owners of the phase can't be counted any more. Then nothing has changed.
+    /// `OutOfMemory` if the owners of the phase can't be counted any more. Then nothing has
+    /// changed.
     ///
     /// <details><summary>Contract</summary>
     ///

@@ -46,8 +46,8 @@ const NO_SYSTEM: u32 = 0xffff_ffff;
 /// ```
 pub struct World {
     pub(super) world: crate::worlds::World,
-    /// By it queues know their world. It is given from outside: what a queue says of its world is as
-    /// good as it.
+    /// By it queues know their world. It is given from outside: what a queue says of its world is
+    /// as good as it.
     pub(super) number: u64,
     /// How many entities [`spawn`](World::spawn) made since the last flush, at most 2^32 - 1.
     pub(super) spawned: u32,
@@ -74,8 +74,8 @@ pub fn new_world(limits: Limits, number: u64) -> World {
 
 /// # Entities
 impl World {
-    /// Brings an entity to life at once, with these components, in any order. If a component is listed
-    /// twice, its last value counts.
+    /// Brings an entity to life at once, with these components, in any order. If a component is
+    /// listed twice, its last value counts.
     ///
     /// The entity's birth names the phase and no system. Its ordinal is how many entities `spawn`
     /// made before it since the last flush, and at most 2^32 - 1.

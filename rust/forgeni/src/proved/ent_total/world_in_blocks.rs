@@ -103,8 +103,8 @@ impl WorldInBlocks {
     ///
     /// # Errors
     ///
-    /// [`HandedBack`] has the world and the reservers as they were, and the first of these errors that
-    /// holds.
+    /// [`HandedBack`] has the world and the reservers as they were, and the first of these errors
+    /// that holds.
     ///
     /// - [`EndError::OtherPhase`]: a reserver is of another phase.
     /// - [`EndError::Order`]: the reservers aren't in their order.
@@ -160,8 +160,8 @@ impl WorldInBlocks {
         }
     }
 
-    /// Ends the phase although some reservers are lost. What is left of a lost one's block counts as
-    /// reserved too: a [`World::flush`] brings it to life, without components.
+    /// Ends the phase although some reservers are lost. What is left of a lost one's block counts
+    /// as reserved too: a [`World::flush`] brings it to life, without components.
     ///
     /// ```
     /// use forgeni::World;

@@ -129,8 +129,8 @@ impl WorldOpening {
     ///
     /// # Errors
     ///
-    /// The same, with the reservers of some systems returned to the phase: each system owns a part of
-    /// the world, and no more owners could be counted. That takes 2^62 of them.
+    /// The same, with the reservers of some systems returned to the phase: each system owns a part
+    /// of the world, and no more owners could be counted. That takes 2^62 of them.
     #[inline]
     pub(crate) fn numbered(
         self,

@@ -32,8 +32,8 @@ impl Applying {
         }
     }
 
-    /// Reads the components of a bundle, instead of what was read before. A bundle of one component,
-    /// the most frequent one, needs no list.
+    /// Reads the components of a bundle, instead of what was read before. A bundle of one
+    /// component, the most frequent one, needs no list.
     #[inline(always)]
     fn read(&mut self, bundle: &BundleRef<'_>) -> Result<(), OutOfMemory>
         // ensures faults { self.new.faults.items ≡ self.old.faults.items }

@@ -2,13 +2,13 @@
 
 //! What a flush brings to life enters the storage, each entity with its birth.
 //!
-//! All enter in the order of the flush, and nothing moves: the storage's index has room for a pair of
-//! each slot that is made by then. A fresh slot comes after all others, and an old one has its pair.
-//! If a phase in blocks has made slots that the index does not have yet, the first birth past them
-//! brings their pairs. The births are of no system at first. Then the queues name them, one after
-//! the other, and an entity that has the birth of a system keeps it. Those that no queue lists are
-//! numbered at last. So the time grows with the number of births and of new slots alone, in any
-//! order, as long as the storage's index has dropped no pair (`ent_storage`).
+//! All enter in the order of the flush, and nothing moves: the storage's index has room for a pair
+//! of each slot that is made by then. A fresh slot comes after all others, and an old one has its
+//! pair. If a phase in blocks has made slots that the index does not have yet, the first birth past
+//! them brings their pairs. The births are of no system at first. Then the queues name them, one
+//! after the other, and an entity that has the birth of a system keeps it. Those that no queue
+//! lists are numbered at last. So the time grows with the number of births and of new slots alone,
+//! in any order, as long as the storage's index has dropped no pair (`ent_storage`).
 
 use crate::worlds::rows::place_of;
 use crate::allocator::Entities;

@@ -9,8 +9,8 @@ use crate::components::Storage;
 use core::mem;
 
 impl World {
-    /// Another world in the same state: the same entities live, with the same births and components,
-    /// the same handles are reserved, and the next ones are the same.
+    /// Another world in the same state: the same entities live, with the same births and
+    /// components, the same handles are reserved, and the next ones are the same.
     ///
     /// # Errors
     ///
@@ -35,8 +35,8 @@ impl World {
         })
     }
 
-    /// Takes over the state of another world, as [`try_clone`](World::try_clone) copies it. What this
-    /// one had before is gone.
+    /// Takes over the state of another world, as [`try_clone`](World::try_clone) copies it. What
+    /// this one had before is gone.
     ///
     /// It uses the room that this one has, and never gives it back. So a world that another one is
     /// cloned into again and again takes memory only as that one grows.

@@ -73,8 +73,8 @@ fn read_header(bytes: &[u8]) -> Result<(u64, &[u8], &[u8]), WorldImageFault>
     Ok((phase, part, rest))
 }
 
-/// Appends the entities of these handles, which have rows. There is room for them and for `extra` more
-/// bytes.
+/// Appends the entities of these handles, which have rows. There is room for them and for `extra`
+/// more bytes.
 #[inline]
 fn write_entities(
     entities: &Entities,
@@ -201,8 +201,8 @@ impl World {
     /// same world anew, with its limits, entities, births, components, waiting slots and requests.
     ///
     /// The image tells no more than that. Two worlds that are the same to every call have the same
-    /// image, whatever came before. It grows with the slots that were made and the entities that are
-    /// alive, not with the calls. There is room for `extra` more bytes then.
+    /// image, whatever came before. It grows with the slots that were made and the entities that
+    /// are alive, not with the calls. There is room for `extra` more bytes then.
     ///
     /// # Errors
     ///
@@ -255,8 +255,9 @@ impl World {
     ///
     /// # Errors
     ///
-    /// Each but [`Memory`](WorldImageFault::Memory) says that no world has this image, by the first fault
-    /// that the bytes have. `Memory` comes if there is no memory for the slots, whatever they are.
+    /// Each but [`Memory`](WorldImageFault::Memory) says that no world has this image, by the first
+    /// fault that the bytes have. `Memory` comes if there is no memory for the slots, whatever they
+    /// are.
     ///
     /// <details><summary>Contract</summary>
     ///
@@ -274,14 +275,14 @@ impl World {
     /// ensures fault { [IfErr](crate::contracts::logic#IfErr) result (λ fault. fault ≢ WorldImageFault.Memory
     /// &#9;→ [HasFault](crate::contracts::ent_world::first_fault#HasFault) bytes.now fault) }
     /// &#32;
-    /// // Memory is asked for only after the allocator\'s part was found faultless up to its slots, and
-    /// // only for slots. There are no more slots and entities than the bytes have.
+    /// // Memory is asked for only after the allocator\'s part was found faultless up to its slots,
+    /// // and only for slots. There are no more slots and entities than the bytes have.
     /// ensures memory { [IfErr](crate::contracts::logic#IfErr) result (λ fault. fault ≡ WorldImageFault.Memory
     /// &#9;→ [MayTakeMemory](crate::contracts::ent_world::first_fault#MayTakeMemory) bytes.now) }
     /// ensures bound { [IfOk](crate::contracts::logic#IfOk) result (λ w. [least](crate::contracts::ent_world::image#least) w ≤ [length](crate::contracts::logic#length) bytes.now) }
     /// &#32;
-    /// // Of what was given before the image was written, nothing is given again, whatever calls come
-    /// // after it is read. Nor is anything given twice by these.
+    /// // Of what was given before the image was written, nothing is given again, whatever calls
+    /// // come after it is read. Nor is anything given twice by these.
     /// ensures given_once { (w : [WorldValue](crate::contracts::ent_world::world#World)) (given : [List](crate::contracts::logic#List) [HandleValue](crate::contracts::ent_handle::handle#Handle)) → [HasImage](crate::contracts::ent_world::image#HasImage) w
     /// &#9;→ [image](crate::contracts::ent_world::image#image) w ≡ bytes.now → [AreSpent](crate::contracts::ent_alloc::spent#AreSpent) w.allocator given → [IfOk](crate::contracts::logic#IfOk) result (λ r.
     /// &#9;(steps : [List](crate::contracts::logic#List) [Step](crate::contracts::ent_alloc::runs#Step)) → [IsRun](crate::contracts::ent_alloc::runs#IsRun) r.allocator steps → [AreSpent](crate::contracts::ent_alloc::spent#AreSpent)
@@ -294,13 +295,13 @@ impl World {
         World::of_image(bytes)
     }
 
-    /// The world whose image these bytes are, if it has at most `most` slots after its next flush. So the
-    /// flush takes no more memory than so many slots and handles do.
+    /// The world whose image these bytes are, if it has at most `most` slots after its next flush.
+    /// So the flush takes no more memory than so many slots and handles do.
     ///
     /// # Errors
     ///
-    /// Those of [`read_image`](World::read_image), and then [`Bound`](WorldImageFault::Bound) if there
-    /// would be more slots.
+    /// Those of [`read_image`](World::read_image), and then [`Bound`](WorldImageFault::Bound) if
+    /// there would be more slots.
     ///
     /// <details><summary>Contract</summary>
     ///
@@ -311,8 +312,9 @@ impl World {
     /// // A flush of what is read leaves no more slots than are allowed.
     /// ensures within { [IfOk](crate::contracts::logic#IfOk) result (λ w. [slots_after_flush](crate::contracts::ent_alloc::within#slots_after_flush) w.allocator ≤ [most](crate::contracts::ent_world::image#most)) }
     /// &#32;
-    /// // The image of a world is read as this world, unless memory runs out, exactly if it has no more
-    /// // slots then. All else is refused for a fault of the bytes, or for the bound if they have none.
+    /// // The image of a world is read as this world, unless memory runs out, exactly if it has no
+    /// // more slots then. All else is refused for a fault of the bytes, or for the bound if they
+    /// // have none.
     /// ensures exact { (w : [WorldValue](crate::contracts::ent_world::world#World)) → [HasImage](crate::contracts::ent_world::image#HasImage) w → [image](crate::contracts::ent_world::image#image) w ≡ bytes.now
     /// &#9;→ (result ≡ [within](crate::contracts::ent_world::within#within) [most](crate::contracts::ent_world::image#most) w.allocator w) ⊎ (result ≡ [Err](crate::contracts::logic#Err) WorldImageFault.Memory) }
     /// ensures fault { [IfErr](crate::contracts::logic#IfErr) result (λ fault. fault ≢ WorldImageFault.Memory

@@ -5,8 +5,8 @@ use crate::handles::OutOfMemory;
 use crate::components::StorageImageFault;
 use crate::kit::alloc::AllocError;
 
-/// Why bytes were not read as the image of a world: the first fault that they have, in this order. The
-/// version is looked at only if there are as many bytes as stand before the allocator's part.
+/// Why bytes were not read as the image of a world: the first fault that they have, in this order.
+/// The version is looked at only if there are as many bytes as stand before the allocator's part.
 ///
 /// ```
 /// use forgeni::{World, WorldImageFault};

@@ -177,8 +177,8 @@ impl World {
     }
 }
 
-/// Makes room for what is reserved, and in the storage's index for each slot that is made by then. If
-/// nothing is reserved, it takes no memory.
+/// Makes room for what is reserved, and in the storage's index for each slot that is made by then.
+/// If nothing is reserved, it takes no memory.
 #[inline(always)]
 fn reserve_births(entities: &Entities, storage: &mut Storage) -> Result<(), OutOfMemory>
     // ensures entities { storage.new.entities ≡ storage.old.entities }

@@ -8,8 +8,8 @@ use crate::in_blocks::{BlockReserver, Blocks, Deal, DealError, EndError, open_in
 use crate::handles::HandedBack;
 use crate::components::Storage;
 
-/// A world of which contracts also see the rows: the numbers that its allocator keeps with its living
-/// handles. A phase in blocks has them too, so they are in what its number stands for.
+/// A world of which contracts also see the rows: the numbers that its allocator keeps with its
+/// living handles. A phase in blocks has them too, so they are in what its number stands for.
 pub struct PlacedWorld {
     entities: Entities,
     storage: Storage,
@@ -23,8 +23,8 @@ pub struct WorldDeal {
     phase: u64,
 }
 
-/// A world whose allocator is dealt in blocks: its callers reserve, each from a block of its own, and
-/// read the rest of it.
+/// A world whose allocator is dealt in blocks: its callers reserve, each from a block of its own,
+/// and read the rest of it.
 pub struct WorldInBlocks {
     blocks: Blocks,
     storage: Storage,
@@ -55,12 +55,13 @@ impl World {
         }
     }
 
-    /// Deals the front of the pool in blocks of these sizes, as [`PlacedWorld::open_in_blocks`] does.
+    /// Deals the front of the pool in blocks of these sizes, as [`PlacedWorld::open_in_blocks`]
+    /// does.
     ///
     /// # Errors
     ///
-    /// The world as it was, and [`DealError::NeedsFlush`] or [`DealError::Memory`]. No sizes take no
-    /// memory.
+    /// The world as it was, and [`DealError::NeedsFlush`] or [`DealError::Memory`]. No sizes take
+    /// no memory.
     ///
     /// <details><summary>Contract</summary>
     ///
@@ -86,14 +87,14 @@ impl World {
 }
 
 impl PlacedWorld {
-    /// Deals the front of the pool in blocks of these sizes, one after the other: a block is smaller
-    /// where the pool ends. It makes room for an entity of each handle that is dealt, which stays when
-    /// the world is closed again.
+    /// Deals the front of the pool in blocks of these sizes, one after the other: a block is
+    /// smaller where the pool ends. It makes room for an entity of each handle that is dealt, which
+    /// stays when the world is closed again.
     ///
     /// # Errors
     ///
-    /// The world as it was, and [`DealError::NeedsFlush`] or [`DealError::Memory`]. No sizes take no
-    /// memory.
+    /// The world as it was, and [`DealError::NeedsFlush`] or [`DealError::Memory`]. No sizes take
+    /// no memory.
     ///
     /// <details><summary>Contract</summary>
     ///
@@ -219,8 +220,8 @@ impl WorldInBlocks {
         View::new(&self.storage, self.phase)
     }
 
-    /// Ends the phase with all its reservers, as [`Blocks::close`] does. Nothing of the world but its
-    /// allocator changes.
+    /// Ends the phase with all its reservers, as [`Blocks::close`] does. Nothing of the world but
+    /// its allocator changes.
     ///
     /// # Errors
     ///
@@ -297,8 +298,8 @@ impl WorldInBlocks {
         }
     }
 
-    /// Ends the phase although some reservers are lost, as [`Blocks::close_lost`] does: what is left of
-    /// a lost one's block counts as used. Nothing of the world but its allocator changes.
+    /// Ends the phase although some reservers are lost, as [`Blocks::close_lost`] does: what is
+    /// left of a lost one's block counts as used. Nothing of the world but its allocator changes.
     ///
     /// # Errors
     ///

@@ -6,9 +6,9 @@ use crate::kit::programs::inline_text::InlineText;
 /// What a test found, and where: one line without its line feed, which follows what the test
 /// expects.
 ///
-/// It begins with `; found `, and ends with the place. Of a script of more than 65,536 bytes it has only
-/// the place, such as ` at frame 0 (counted from 0)`, and outside of a frame it is empty. It takes no
-/// memory itself.
+/// It begins with `; found `, and ends with the place. Of a script of more than 65,536 bytes it has
+/// only the place, such as ` at frame 0 (counted from 0)`, and outside of a frame it is empty. It
+/// takes no memory itself.
 pub(super) type Found = InlineText<256>;
 
 /// Appends a text, for which there is room.

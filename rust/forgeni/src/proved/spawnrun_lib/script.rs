@@ -13,8 +13,8 @@ const LONGEST: usize = 65_536;
 
 /// What a text has in place of what a test of scripts expects, and where.
 ///
-/// It is printable ASCII, whatever the text has. A value of more than 60 characters is cut, and ends
-/// in three dots.
+/// It is printable ASCII, whatever the text has. A value of more than 60 characters is cut, and
+/// ends in three dots.
 ///
 /// It reads the text as JSON once more, so it is for a text that is refused. Of a text of more than
 /// 65,536 bytes it has only the place. If memory runs out, it says so in place of the value.

@@ -76,8 +76,8 @@ where
 }
 
 /// Runs a script over a world that begins empty, on 1 to 64 workers, and returns the report: the
-/// text of each frame and of the world that the last one leaves. The script is one that `ent_script`
-/// has read.
+/// text of each frame and of the world that the last one leaves. The script is one that
+/// `ent_script` has read.
 ///
 /// In each frame each system has a block of `size` handles of its own, fewer where the slots end. A
 /// spawn of more than is left of the block is refused, and a later one of fewer is served. So the

@@ -27,8 +27,8 @@ use crate::kit::programs::time::Clock;
 /// before it, with the file as its input. If there is no such file, if it is a folder, or if it
 /// can't be opened, the status is 4, and a line on the error stream says so.
 ///
-/// If the output is a pipe whose reader has left, the status is 4, and nothing is written to the error
-/// stream.
+/// If the output is a pipe whose reader has left, the status is 4, and nothing is written to the
+/// error stream.
 ///
 /// <details><summary>Contract</summary>
 ///

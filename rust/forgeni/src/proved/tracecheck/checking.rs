@@ -33,8 +33,8 @@ pub struct Checking {
 }
 
 impl Checking {
-    /// One that has taken no line. The trace begins in the state of this allocator, with its requests.
-    /// It takes no memory.
+    /// One that has taken no line. The trace begins in the state of this allocator, with its
+    /// requests. It takes no memory.
     ///
     /// <details><summary>Contract</summary>
     ///

@@ -37,8 +37,8 @@ use std::io;
 /// | 3 | Memory ran out. Nothing was written. | `memory` |
 /// | 4 | A call of the image, the input or the output failed. | `device` |
 ///
-/// If `tells`, it writes to the terminal how many lines were read, after each million. A failure of the
-/// error stream or of the terminal changes no status.
+/// If `tells`, it writes to the terminal how many lines were read, after each million. A failure of
+/// the error stream or of the terminal changes no status.
 ///
 /// <details><summary>Contract</summary>
 ///
@@ -168,8 +168,8 @@ fn execute_on<R: Files + AllocGlobal, I: Source, O: Sink, E: Sink, T: Sink>(
 /// can't be opened, the status is 4, and a line on the error stream says so. The same holds for the
 /// file of an image.
 ///
-/// If the output is a pipe whose reader has left, the status is 4, and nothing is written to the error
-/// stream.
+/// If the output is a pipe whose reader has left, the status is 4, and nothing is written to the
+/// error stream.
 ///
 /// <details><summary>Contract</summary>
 ///

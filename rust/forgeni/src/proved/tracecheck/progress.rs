@@ -8,8 +8,8 @@ use crate::kit::itoa::Buffer;
 // The lines between two reports.
 const STEP: u64 = 1_000_000;
 
-/// After each million lines, writes to the terminal how many were read, if `is_wanted`. Returns how many
-/// millions were written.
+/// After each million lines, writes to the terminal how many were read, if `is_wanted`. Returns how
+/// many millions were written.
 ///
 /// <details><summary>Contract</summary>
 ///

@@ -56,8 +56,8 @@ fn check<I: Source, T: Sink>(
 /// have any length. It stops at the first line that isn't one of a trace, or that differs.
 ///
 /// After `Memory`, or a failure of the input, the output is as it was. `Device` is one failed call
-/// of one of the two devices. If `tells`, it writes to the terminal after each million lines how many
-/// were read. If not, it writes nothing there.
+/// of one of the two devices. If `tells`, it writes to the terminal after each million lines how
+/// many were read. If not, it writes nothing there.
 ///
 /// <details><summary>Contract</summary>
 ///
@@ -95,12 +95,12 @@ pub fn check_trace<I: Source, O: Sink, T: Sink>(
     }
 }
 
-// Checks the trace that the input gives, which begins with the allocator whose image the other input
-// gives. The image is read first. If it is none, this writes one line that names its first fault, and
-// the trace isn't read.
+// Checks the trace that the input gives, which begins with the allocator whose image the other
+// input gives. The image is read first. If it is none, this writes one line that names its first
+// fault, and the trace isn't read.
 //
-// After `Memory`, or a failure of an input, the output is as it was. `Device` is one failed call of one
-// of the three devices. It writes to the terminal as `check_trace`.
+// After `Memory`, or a failure of an input, the output is as it was. `Device` is one failed call of
+// one of the three devices. It writes to the terminal as `check_trace`.
 #[inline]
 fn check_from<M: Source, I: Source, O: Sink, T: Sink>(
     image: &mut M,
@@ -137,8 +137,9 @@ fn check_from<M: Source, I: Source, O: Sink, T: Sink>(
     }
 }
 
-/// Checks the trace that the input gives, which begins so: as `check_trace`, with an allocator of these
-/// limits that has given nothing, or as `check_from`. Without an image the image's device isn't used.
+/// Checks the trace that the input gives, which begins so: as `check_trace`, with an allocator of
+/// these limits that has given nothing, or as `check_from`. Without an image the image's device
+/// isn't used.
 ///
 /// <details><summary>Contract</summary>
 ///

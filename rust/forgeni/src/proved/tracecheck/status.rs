@@ -9,8 +9,8 @@ pub enum Status {
     Agrees,
     /// The trace differs, and that was written.
     Differs,
-    /// The text is no trace, or the image is none, and that was written. Words that are no command line
-    /// end so too.
+    /// The text is no trace, or the image is none, and that was written. Words that are no command
+    /// line end so too.
     Refused,
     /// Memory ran out. Nothing was written.
     Memory,

@@ -51,8 +51,8 @@ impl Ended {
         self.requested
     }
 
-    /// The allocator, in which what was used is reserved: a flush brings it to life. What is left of
-    /// the blocks can be given again, and comes before all that nobody got.
+    /// The allocator, in which what was used is reserved: a flush brings it to life. What is left
+    /// of the blocks can be given again, and comes before all that nobody got.
     ///
     /// It takes time and memory as [`Blocks::close`](crate::in_blocks::Blocks::close) does.
     ///

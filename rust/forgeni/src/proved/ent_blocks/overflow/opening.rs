@@ -82,8 +82,11 @@ fn hand_out(
     // requires room { length parts.now ≤ vec_capacity callers.old }
     // ensures dealer { dealer.new ≡ dealer.old }
     // ensures blocks { own_blocks callers.new.items ≡ parts.now }
-    // ensures own { All (IsCallerOf (record { shared = shared.now; dealer = dealer.old; blocks = parts.now }))
-    //     callers.new.items }
+    // ensures own { All (IsCallerOf (record {
+    //   shared = shared.now;
+    //   dealer = dealer.old;
+    //   blocks = parts.now;
+    // })) callers.new.items }
     // ensures nothing { past_history callers.new.items ≡ [] }
     // ensures quota { All (λ c. c.past.own.left ≡ quota) callers.new.items }
 {

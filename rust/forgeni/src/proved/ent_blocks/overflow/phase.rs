@@ -128,8 +128,8 @@ impl Overflow {
     ///
     /// Only if the block has fewer than `n` handles left:
     /// - [`Refused::Quota`] if `n` is above the quota that is left. Nothing has changed.
-    /// - [`Refused::Space`] if the pool has fewer than `n` handles behind the blocks. The request is
-    ///   taken from the quota all the same, and no request past a block is served until the next
+    /// - [`Refused::Space`] if the pool has fewer than `n` handles behind the blocks. The request
+    ///   is taken from the quota all the same, and no request past a block is served until the next
     ///   flush.
     #[inline]
     pub(crate) fn reserve_many(

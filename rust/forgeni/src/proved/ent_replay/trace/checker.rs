@@ -17,8 +17,8 @@ use core::mem;
 /// allocator's.
 ///
 /// It holds the allocator and the reservations since the last other call, and nothing else. A call
-/// that fails is the last one: each later call returns the same error. So the first difference stays,
-/// and no call is compared after it.
+/// that fails is the last one: each later call returns the same error. So the first difference
+/// stays, and no call is compared after it.
 ///
 /// ```
 /// use forgeni::trace::Checker;
@@ -78,8 +78,8 @@ impl Checker {
         }
     }
 
-    /// A checker that begins in the middle: the allocator that is checked is in the same state as this
-    /// one, with its limits and its requests. It takes no memory.
+    /// A checker that begins in the middle: the allocator that is checked is in the same state as
+    /// this one, with its limits and its requests. It takes no memory.
     ///
     /// ```
     /// use forgeni::Entities;
@@ -175,12 +175,12 @@ impl Checker {
     /// # Errors
     ///
     /// - `Differs`: an answer isn't the allocator's, of this call or of a reservation before it.
-    /// - `TooMany`: it is a reservation, and with it more than 2^50 handles were requested since the
-    ///   last flush.
+    /// - `TooMany`: it is a reservation, and with it more than 2^50 handles were requested since
+    ///   the last flush.
     /// - `Memory`: out of memory.
     ///
-    /// The first error is kept, and each later call returns a copy of it, or `Memory` if there is no
-    /// memory for a copy. [`error`](Self::error) returns the one that is kept.
+    /// The first error is kept, and each later call returns a copy of it, or `Memory` if there is
+    /// no memory for a copy. [`error`](Self::error) returns the one that is kept.
     ///
     /// ```
     /// use forgeni::trace::{Call, CheckError, Checker};

@@ -48,7 +48,8 @@ impl Comparer {
         Comparer::from_entities(Entities::with_exact_limits(limits))
     }
 
-    /// One whose trace begins in the state of this allocator, with its requests. It takes no memory.
+    /// One whose trace begins in the state of this allocator, with its requests. It takes no
+    /// memory.
     ///
     /// <details><summary>Contract</summary>
     ///

@@ -13,9 +13,9 @@ const LAST_REFUSED: u64 = 1 << 33;
 
 /// The place of a reservation in its run, if nothing else is known of its caller.
 ///
-/// First come the reservations that were served, by the place of a handle that they got. Then come those
-/// that were refused: first the one that says how many handles were left, then those that don't say so,
-/// the greatest first, then those that found none.
+/// First come the reservations that were served, by the place of a handle that they got. Then come
+/// those that were refused: first the one that says how many handles were left, then those that
+/// don't say so, the greatest first, then those that found none.
 #[inline]
 pub(super) fn own_key(entities: &Entities, requested: u32, reply: &ReserveReply) -> u64
     // ensures key { KeyOf (available entities.now.allocator) requested reply.now result }

@@ -1,7 +1,7 @@
 // Made of crates/ent_replay/src/trace/lineup.rt by rust/erase. It isn't edited by hand.
 
-//! The reservations of a run, lined up: those that agree, in an order in which they may have come, and
-//! the others.
+//! The reservations of a run, lined up: those that agree, in an order in which they may have come,
+//! and the others.
 
 use alloc::vec::Vec;
 use crate::kit::vec::FallibleVec;
@@ -64,8 +64,8 @@ impl Lineup {
         Ok(lineup)
     }
 
-    /// Goes over those that are not placed, in their order, and places each one that fits and is the next
-    /// one of its caller.
+    /// Goes over those that are not placed, in their order, and places each one that fits and is
+    /// the next one of its caller.
     #[inline]
     fn pass(self, entities: &Entities) -> Result<Self, OutOfMemory>
         // requires { IsLineup entities.now.allocator self }

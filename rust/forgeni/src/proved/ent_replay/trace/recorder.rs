@@ -51,8 +51,8 @@ pub struct Recorder {
 }
 
 impl Recorder {
-    /// A recorder of an allocator that has given nothing, with a log for each of so many callers. They
-    /// are numbered from 0.
+    /// A recorder of an allocator that has given nothing, with a log for each of so many callers.
+    /// They are numbered from 0.
     ///
     /// ```
     /// use forgeni::{trace, Limits};

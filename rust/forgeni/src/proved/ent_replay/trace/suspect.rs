@@ -24,9 +24,9 @@ struct Turn {
     index: usize,
 }
 
-/// If none of these fits at this position, the index of the one that is named: the first one that is its
-/// caller's next one, and without whose answer all others fit. If none of the first 64 callers has such
-/// a reservation, it is the first of the list.
+/// If none of these fits at this position, the index of the one that is named: the first one that
+/// is its caller's next one, and without whose answer all others fit. If none of the first 64
+/// callers has such a reservation, it is the first of the list.
 #[inline]
 pub(super) fn suspect(
     entities: &Entities,
@@ -70,8 +70,8 @@ fn turns(entities: &Entities, rest: &[Placed]) -> Result<Vec<Turn>, OutOfMemory>
     Ok(order)
 }
 
-/// Whether all reservations but one fit in this order, one after the other, if the order is also that of
-/// each caller. A reservation of nothing fits anywhere.
+/// Whether all reservations but one fit in this order, one after the other, if the order is also
+/// that of each caller. A reservation of nothing fits anywhere.
 #[inline]
 fn others_fit(
     entities: &Entities,

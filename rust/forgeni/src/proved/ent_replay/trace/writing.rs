@@ -155,8 +155,8 @@ fn write_reserve(out: &mut Vec<u8>, reservation: &Reservation) -> Result<(), Out
     write_reserved(out, &reservation.reply)
 }
 
-/// Appends the words of a line's answer, with a space before each. It appends nothing if no answer is
-/// told.
+/// Appends the words of a line's answer, with a space before each. It appends nothing if no answer
+/// is told.
 ///
 /// # Errors
 ///

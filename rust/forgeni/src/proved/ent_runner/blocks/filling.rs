@@ -17,21 +17,22 @@ use crate::kit::thread::Join;
 /// Runs each system once, on that many workers side by side, each with the reserver at its position
 /// and a queue of its own. The queues and the reservers are in the order of the systems.
 ///
-/// The handles of a system's spawns are the next ones of its block, in the pool's order, whatever the
-/// others do, whichever worker runs it, and however many workers there are.
+/// The handles of a system's spawns are the next ones of its block, in the pool's order, whatever
+/// the others do, whichever worker runs it, and however many workers there are.
 ///
-/// A worker takes the next system that nobody has taken yet, until none is left. If a thread can't be
-/// started, another one does its work. One worker starts no thread.
+/// A worker takes the next system that nobody has taken yet, until none is left. If a thread can't
+/// be started, another one does its work. One worker starts no thread.
 ///
 /// # Errors
 ///
 /// [`HandedBack`] has the reservers that are handed back, and the first of these errors that holds.
 ///
-/// - [`RunError::Workers`], [`RunError::Systems`], [`RunError::Reservers`], [`RunError::OtherPhase`],
+/// - [`RunError::Workers`], [`RunError::Systems`], [`RunError::Reservers`],
+///   [`RunError::OtherPhase`],
 ///   [`RunError::Memory`]: no system ran, and the reservers are handed back as they were. No systems
 ///   take no memory.
-/// - [`RunError::Lost`]: a system returned an error, or systems are left and no worker has memory for
-///   another one. All queues and reservers are dropped: [`Blocks::close_lost`] ends the phase.
+/// - [`RunError::Lost`]: a system returned an error, or systems are left and no worker has memory
+///   for another one. All queues and reservers are dropped: [`Blocks::close_lost`] ends the phase.
 ///
 /// <details><summary>Contract</summary>
 ///

@@ -42,20 +42,21 @@ pub enum Unframed {
     },
 }
 
-/// Runs each system once, on that many workers side by side, each with the reserver at its position, and
-/// then the sync point. The queues are applied in the order of the systems.
+/// Runs each system once, on that many workers side by side, each with the reserver at its
+/// position, and then the sync point. The queues are applied in the order of the systems.
 ///
-/// The handles of a system's spawns are the next ones of its block, in the pool's order, whatever the
-/// others do, whichever worker runs it, and however many workers there are. So if what a system does
-/// follows from what it sees, the world after the frame is the same each time, handles included.
+/// The handles of a system's spawns are the next ones of its block, in the pool's order, whatever
+/// the others do, whichever worker runs it, and however many workers there are. So if what a system
+/// does follows from what it sees, the world after the frame is the same each time, handles
+/// included.
 ///
 /// # Errors
 ///
 /// - [`Unframed::Unrun`] as of [`fill_in_blocks`]: no command was applied.
 /// - [`Unframed::Unended`] if all systems ran, and the world was not closed, as of
 ///   [`WorldInBlocks::close`].
-/// - [`Unframed::Sync`] if all systems ran and memory ran out in the sync point. [`World::apply`] or
-///   [`World::apply_from`] goes on, as after a frame that isn't in blocks.
+/// - [`Unframed::Sync`] if all systems ran and memory ran out in the sync point. [`World::apply`]
+///   or [`World::apply_from`] goes on, as after a frame that isn't in blocks.
 ///
 /// <details><summary>Contract</summary>
 ///
@@ -100,7 +101,8 @@ pub enum Unframed {
 /// ensures unended_of { [IfErr](crate::contracts::logic#IfErr) result ([IfUnended](crate::contracts::ent_runner::blocks_unframed#IfUnended) (λ \_ left \_ \_.
 /// &#9;[All](crate::contracts::logic#All) (λ r. r.number ≡ opened.blocks.number) left)) }
 /// &#32;
-/// // Why not. If the reservers are those of all blocks, in their order, it is because memory ran out.
+/// // Why not. If the reservers are those of all blocks, in their order, it is because memory ran
+/// // out.
 /// ensures unended_why { [IfErr](crate::contracts::logic#IfErr) result ([IfUnended](crate::contracts::ent_runner::blocks_unframed#IfUnended) (λ \_ \_ error \_.
 /// &#9;[IsWhyUnended](crate::contracts::ent_runner::blocks_unframed#IsWhyUnended) opened.blocks.phase.blocks ([blocks_of](crate::contracts::ent_blocks::blocks#blocks_of) reservers.items) error)) }
 /// ensures whole { [map](crate::contracts::logic#map) [unused](crate::contracts::ent_blocks::blocks#unused) ([blocks_of](crate::contracts::ent_blocks::blocks#blocks_of) reservers.items) ≡ opened.blocks.phase.blocks

@@ -1,6 +1,7 @@
 // Made of crates/ent_runner/src/blocks/room.rt by rust/erase. It isn't edited by hand.
 
-//! What systems in blocks need before they run: a reserver each, a crew, and room for what they hand back.
+//! What systems in blocks need before they run: a reserver each, a crew, and room for what they
+//! hand back.
 use alloc::vec::Vec;
 use crate::kit::vec::FallibleVec;
 use crate::running::blocks::run_error::RunError;
@@ -25,7 +26,8 @@ pub(super) struct Room<O> {
 ///
 /// # Errors
 ///
-/// Any [`RunError`] but [`RunError::Memory`] and [`RunError::Lost`]. Of those, the first that holds.
+/// Any [`RunError`] but [`RunError::Memory`] and [`RunError::Lost`]. Of those, the first that
+/// holds.
 #[inline]
 pub(super) fn check(
     blocks: &Blocks,

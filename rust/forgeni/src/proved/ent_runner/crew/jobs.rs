@@ -2,8 +2,8 @@
 
 use crate::handles::OutOfMemory;
 
-/// Jobs with numbers from 0, which the workers of a [`Crew`](crate::running::Crew) do. A worker lends each of
-/// its jobs what it has itself, an `L`, such as a reserver. A job has one output.
+/// Jobs with numbers from 0, which the workers of a [`Crew`](crate::running::Crew) do. A worker lends each
+/// of its jobs what it has itself, an `L`, such as a reserver. A job has one output.
 ///
 /// One value has all jobs, and each of them may run on any worker.
 pub trait Jobs<O, L> {

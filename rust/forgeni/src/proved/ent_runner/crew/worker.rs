@@ -92,8 +92,8 @@ fn handed_on(workers: usize) -> usize
 }
 
 /// All workers work side by side, each with what is lent at its position, in so many threads if
-/// there are as many workers and each thread can be started. Some of the workers go to a new thread,
-/// again and again. Those that share a thread work one after the other.
+/// there are as many workers and each thread can be started. Some of the workers go to a new
+/// thread, again and again. Those that share a thread work one after the other.
 #[inline]
 pub(super) fn run_all<R, O, L, J>(
     rt: &R,
@@ -127,7 +127,8 @@ where
     run_both(rt, site, front, first, back, second, threads);
 }
 
-/// Both parts of the workers work side by side, the first one in no more threads than it has workers.
+/// Both parts of the workers work side by side, the first one in no more threads than it has
+/// workers.
 #[inline]
 fn run_both<R, O, L, J>(
     rt: &R,

@@ -35,8 +35,8 @@ pub enum FrameFault {
     /// Memory ran out before any system ran. The world is as it was.
     Memory,
     /// A system returned `Memory`, or systems are left and no worker has memory for the queue of
-    /// another one. No command was applied. The handles that the systems reserved stay reserved, and
-    /// no others: the next flush brings them to life, without components.
+    /// another one. No command was applied. The handles that the systems reserved stay reserved,
+    /// and no others: the next flush brings them to life, without components.
     Lost,
     /// All systems ran, and the sync point stopped.
     Sync {

@@ -8,9 +8,9 @@ use crate::worlds::View;
 /// A system: it reads the world as the frame began, and issues commands that take effect at the
 /// frame's sync point. `S` is the source of its handles: a shared allocator, or blocks.
 ///
-/// One value of it may run on any worker, so what it knows of the world is what the view says. In plain
-/// Rust a function is a system, and so is a closure: `system` tells Rust the types of its parameters.
-/// Systems of several types go into one list in boxes, or behind `&dyn System<S>`.
+/// One value of it may run on any worker, so what it knows of the world is what the view says. In
+/// plain Rust a function is a system, and so is a closure: `system` tells Rust the types of its
+/// parameters. Systems of several types go into one list in boxes, or behind `&dyn System<S>`.
 ///
 /// ```
 /// use forgeni::{run_frame, Handle, OutOfMemory, System, SystemCommands, View, World};
@@ -54,8 +54,8 @@ pub trait System<S: Source = crate::reserving::SharedSource> {
     ///
     /// # Errors
     ///
-    /// `Memory`, if the system ran out of memory. The whole frame is then lost. Of a shared allocator,
-    /// what the system had reserved stays reserved; in blocks all reservers are dropped.
+    /// `Memory`, if the system ran out of memory. The whole frame is then lost. Of a shared
+    /// allocator, what the system had reserved stays reserved; in blocks all reservers are dropped.
     ///
     /// <details><summary>Contract</summary>
     ///

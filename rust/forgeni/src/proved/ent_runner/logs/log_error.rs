@@ -32,8 +32,8 @@ pub enum LogError {
     /// another one. The logs are dropped. The handles that the systems reserved stay reserved, and
     /// no others: the next flush brings them to life.
     Lost,
-    /// All systems ran, and there is no memory for what is born. The handles that they reserved stay
-    /// reserved, and no others. `run_logs` never returns it.
+    /// All systems ran, and there is no memory for what is born. The handles that they reserved
+    /// stay reserved, and no others. `run_logs` never returns it.
     Unborn,
 }
 

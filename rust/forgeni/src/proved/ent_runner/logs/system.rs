@@ -5,8 +5,8 @@ use crate::handles::OutOfMemory;
 use crate::logs::Log;
 use crate::commands::SystemCommands;
 
-/// A system that fills a log. `C` is the caller's type of commands, and `S` the source of the handles: a
-/// shared allocator, or blocks.
+/// A system that fills a log. `C` is the caller's type of commands, and `S` the source of the
+/// handles: a shared allocator, or blocks.
 ///
 /// One value of it may run on any worker.
 ///
@@ -45,8 +45,8 @@ pub trait LogSystem<C, S: Source = crate::reserving::SharedSource> {
     ///
     /// # Errors
     ///
-    /// `Memory`, if the system ran out of memory. All logs are then dropped. Of a shared allocator, what
-    /// the systems had reserved stays reserved; in blocks all reservers are dropped.
+    /// `Memory`, if the system ran out of memory. All logs are then dropped. Of a shared allocator,
+    /// what the systems had reserved stays reserved; in blocks all reservers are dropped.
     ///
     /// <details><summary>Contract</summary>
     ///

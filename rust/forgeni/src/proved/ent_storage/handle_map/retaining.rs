@@ -25,8 +25,8 @@ pub(super) fn retain_slots<T, F: FnMut(Handle, &mut T) -> bool>(
     }
 }
 
-/// Calls `keep` at the value of a slot, if it has one. `len` counts that value. Returns `keep` after
-/// that.
+/// Calls `keep` at the value of a slot, if it has one. `len` counts that value. Returns `keep`
+/// after that.
 #[inline]
 fn retain_slot<T, F: FnMut(Handle, &mut T) -> bool>(
     slot: &mut Slot<T>,
