@@ -82,8 +82,7 @@ fn clauses_become_comments() {
         "fn a(b: u8) -> Option<u8>\n    requires b { b ≡ { 1 } }\n    // Why.\n    ensures { IfSome result\n        \
          (λ c. c) }\n\n    ensures* d { e ∗ f }\n{\n    None\n}\n",
         "#[inline]\nfn a(b: u8) -> Option<u8>\n    // requires b { b ≡ { 1 } }\n    // Why.\n    \
-         // ensures { IfSome result\n    //     (λ c. c) }\n\n    // ensures* d { e ∗ f }\n{\n
-         // None\n}\n",
+         // ensures { IfSome result\n    //     (λ c. c) }\n\n    // ensures* d { e ∗ f }\n{\n    None\n}\n",
     );
 }
 
@@ -153,8 +152,7 @@ fn names_of_definitions_are_links_in_the_docs() {
         "ghost use Rattle.ent_here.specs.First.Fault.{P as Q, r, p};\nghost use Rattle.std.specs.FinSet as set;\n\
          ghost use Rattle.std.specs.Prelude.{◌*◌, All};\n\
          ghost use Rattle.std.specs.declared.option.Option.TheVariants.{Some};\n\n\
-         /// Of a.\npub fn a(b: u8)\n    ensures p { Q (λ r. r * p) b.p }\n    ensures { set.len b <
-         /// All (Some b) }\n{\n}\n",
+         /// Of a.\npub fn a(b: u8)\n    ensures p { Q (λ r. r * p) b.p }\n    ensures { set.len b < All (Some b) }\n{\n}\n",
         &format!("/// Of a.\n{contract}#[inline]\npub fn a(b: u8) {{\n}}\n").replace(
             " p) b.p",
             " [p](crate::contracts::ent_here::first_fault#p)) b.p",
@@ -246,8 +244,7 @@ fn who_may_call_a_function_with_a_condition() {
         "pub use b::a;\npub use b::{C, d};\n\nmod b {\n    pub fn a()\n        requires { c }\n    {\n    }\n\n    \
          pub fn d() {}\n\n    pub struct C;\n}\n",
         "pub(crate) use b::a;\npub use b::{C, d};\n\nmod b {\n    #[inline]\n    pub(crate) fn a()\n        \
-         // requires { c }\n    {\n    }\n\n    #[inline]\n    pub fn d() {}\n\n    pub struct
-         // C;\n}\n",
+         // requires { c }\n    {\n    }\n\n    #[inline]\n    pub fn d() {}\n\n    pub struct C;\n}\n",
     );
 }
 
