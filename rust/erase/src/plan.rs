@@ -43,7 +43,14 @@ const TESTS: &[&str] = &["cases_and_examples", "cli", "ent_tests"];
 const LEFT_OUT: &[(&str, &[&str])] = &[
     (
         "cli",
-        &["ending", "input", "limits", "line_fault", "options", "words"],
+        &[
+            "ending",
+            "input",
+            "limits",
+            "line_fault",
+            "options",
+            "words",
+        ],
     ),
     ("ent_tests", &["scripts"]),
 ];

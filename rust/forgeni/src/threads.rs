@@ -5,8 +5,8 @@
 
 use crate::numbers::next_number;
 use crate::phase::closed;
-use crate::reserving::SharedSource;
 use crate::phases::share;
+use crate::reserving::SharedSource;
 use crate::shown::shows;
 use crate::{Entities, HandedBack};
 use alloc::vec::Vec;
