@@ -58,7 +58,7 @@ at_most "instructions a birth, a system of 10,000 beside one of 100 ($few)" "$ma
 
 # The tests of the package, as cargo builds them.
 (cd "$here/../rust/offline" && cargo test --offline --release --test counted --no-run) >"$out/built" 2>&1 || { cat "$out/built"; exit 1; }
-tests=$here/../rust/offline/$(sed -n 's/.*Executable tests\/counted.rs (\(.*\)).*/\1/p' "$out/built")
+tests=$here/../rust/offline/$(sed -n 's/.*Executable .*tests\/counted.rs (\(.*\)).*/\1/p' "$out/built")
 
 # counted FILE ENTITIES TEST WORDS..: a test of the package with so many entities.
 counted() {

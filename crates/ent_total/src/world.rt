@@ -271,7 +271,8 @@ impl World {
         self.world.birth(handle)
     }
 
-    /// Whether the entity is alive. It takes constant time.
+    /// Whether the entity is alive. It takes constant time. It is false for a handle that is only
+    /// reserved, for which [`Entities::contains`](forgeni::Entities::contains) is true.
     ///
     /// ```
     /// use forgeni::World;

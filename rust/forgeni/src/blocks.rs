@@ -1,5 +1,9 @@
 //! Blocks: the handles that come next are [dealt](crate::Entities::open_in_blocks) to callers
 //! beforehand, so which thread is first makes no difference to them.
+//!
+//! [`run_in_blocks`](crate::run_in_blocks) runs systems that fill logs in blocks, and
+//! [`run_frame_in_blocks`](crate::run_frame_in_blocks) those of a world. A [`BlockSize`] for each
+//! system, which [adapts](BlockSize::adapt) after each frame, gives the sizes of the next one.
 
 use crate::in_blocks::open_in_blocks;
 use crate::numbers::next_number;

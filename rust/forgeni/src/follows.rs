@@ -47,8 +47,8 @@ pub trait Follows {
     ///
     /// # Panics
     ///
-    /// If a value panics when it is dropped, the other maps forget the handle all the same, and the
-    /// panic is handed on.
+    /// If a value panics when it is dropped, the other maps still forget the handle, and the panic
+    /// is handed on.
     fn forget(&mut self, handle: Handle);
 
     /// Frees an entity, and forgets its handle.
@@ -149,12 +149,13 @@ tuples_follow!(A a B b C c D d E e F f G g H h);
 ///
 /// Each field is a [`HandleMap`] or a [`SparseMap`], and has the attributes and the visibility that
 /// it is given. Beside what it derives, the struct has:
-/// - `forget(handle)` and `despawn(&mut entities, handle)`, those of [`Follows`];
+/// - `forget(handle)` and `despawn(&mut entities, handle)`, those of [`Follows`], which has to be in
+///   scope;
 /// - `sweep(&entities)`, which drops the values of all handles that are neither alive nor reserved.
 ///   Call it after entities were freed elsewhere, or a save was read: see
 ///   [`AnyMap::sweep`](crate::AnyMap::sweep);
 /// - `stale(&entities)`, which returns the name of a map and a handle of it that `sweep` would
-///   drop, if there is one, for who refuses such a save;
+///   drop, if there is one, for a program that refuses such a save;
 /// - `clear()`, which drops all values, and `lens()`, which returns the name of each map and how
 ///   many values it has;
 /// - `try_clone()` and `try_clone_from(&source)`, if the values are `Clone`: a snapshot, and the

@@ -72,7 +72,7 @@ pub use crate::system::*;
 ///   memory for another one. No command was applied. What the systems that ran had reserved stays
 ///   reserved, and nothing else is: [`World::flush`] brings it to life, without components.
 /// - [`Unapplied`](FrameError::Unapplied) and [`Stopped`](FrameError::Stopped): all systems ran,
-///   and the sync point ran out of memory. It may be made again, or go on.
+///   and the sync point ran out of memory. It can be repeated, or go on.
 ///
 /// # Panics
 ///
@@ -302,9 +302,9 @@ pub fn run_logs_on<J: Join + Sync, C: Send, S: LogSystem<C> + Sync>(
 ///
 /// # Panics
 ///
-/// If a system panics, or a command that is dropped, as of [`run_logs`]. If no system panics but
-/// the `Join` does, its panic is handed on when all workers have ended. What they reserved is
-/// alive, and their logs are dropped.
+/// If a system panics, or a command when it is dropped: the same as [`run_logs`]. If no system
+/// panics but the `Join` does, its panic is handed on when all workers have ended. What they
+/// reserved is alive, and their logs are dropped.
 pub fn run_to_sync_point<J: Join + Sync, C: Send, S: LogSystem<C> + Sync>(
     join: &J,
     entities: &mut Entities,

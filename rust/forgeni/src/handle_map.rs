@@ -140,7 +140,8 @@ pub trait AnyMap:
     /// A handle that has a value and is neither alive nor reserved, if there is one: the first in
     /// the order of [`iter`](Self::iter).
     ///
-    /// It is for who refuses a save whose maps name others than its allocator.
+    /// It is for a program that refuses a save whose maps name handles that its allocator doesn't
+    /// have.
     fn stale(&self, entities: &Entities) -> Option<Handle> {
         let mut handles = self.iter().map(|(one, _)| one);
         handles.find(|one| !entities.contains(*one))

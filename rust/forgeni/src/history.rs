@@ -28,9 +28,9 @@ pub enum Change {
 /// Births and deaths in their order, each with its tick, for what mirrors the living: a renderer,
 /// or a physics engine.
 ///
-/// The program says what is born, by the list that a flush filled. Deaths come as a map forgets its
-/// values: a `History` [`Follows`] the entities. Ticks are the program's own, as those of
-/// [`Tracked`](crate::Tracked).
+/// The program says what is born, by the list that a flush filled. For deaths a `History`
+/// [`Follows`] the entities, as a map does: [despawn](Follows::despawn) through a tuple that has it
+/// too. Ticks are the program's own, as those of [`Tracked`](crate::Tracked).
 ///
 /// ```
 /// use forgeni::{Change, Entities, Follows, HandleMap, History};
@@ -198,8 +198,8 @@ impl History {
         self.lost = self.lost.max(tick.checked_sub(1));
     }
 
-    /// Begins anew at this tick, after other entities came to life than were listed: the program
-    /// went back to a snapshot, or loaded a save. Ticks go on nevertheless: for this tick and those
+    /// Begins anew at this tick, for a program that went back to a snapshot or loaded a save, so
+    /// that other entities are alive than were listed. Ticks still go on: for this tick and those
     /// before it, [`since`](Self::since) returns `None`.
     ///
     /// ```

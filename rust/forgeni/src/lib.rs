@@ -76,6 +76,7 @@ mod tracked;
 #[cfg(feature = "std")]
 mod waiting;
 mod world_phase;
+mod world_saves;
 
 pub use allocator::Limits;
 pub use entities::{Entities, Freed, Living, State};

@@ -11,7 +11,7 @@ use std::sync::{Mutex, MutexGuard, PoisonError, TryLockError};
 use std::thread_local;
 
 /// A pool of reservers, which lends one for as long as a closure takes. It is for task systems,
-/// where who runs a task isn't known before.
+/// where it isn't known beforehand which thread runs a task.
 ///
 /// It may be shared by any number of threads. It has no order, and no thread has a reserver of its
 /// own. A pool of owned reservers can be kept in an `Arc` or a `static`, and
@@ -62,11 +62,11 @@ use std::thread_local;
 /// threads touch. With as many reservers as running threads, a thread mostly finds the first one
 /// free.
 ///
-/// If no reserver is free, [`with`](Self::with) sleeps until one is. Threads that sleep get one in
-/// the order in which they came. A thread that comes when a reserver is just given back may take it
-/// at once, before the first of them is awake: but only until that one was woken once and found
-/// none. From then on all others wait for it. [`try_with`](Self::try_with) never waits, and returns
-/// `None` meanwhile.
+/// If no reserver is free, [`with`](Self::with) sleeps until one is. Threads that sleep are served
+/// in the order in which they came. A thread that comes just as a reserver is given back can take
+/// it at once, before the first sleeper is awake, but only until that sleeper has been woken once
+/// and found none. From then on all others wait for it. [`try_with`](Self::try_with) never waits,
+/// and returns `None` meanwhile.
 pub struct Reservers<R = Reserver> {
     places: Vec<Place<R>>,
     waiting: Waiting,
@@ -127,7 +127,7 @@ mod sealed {
 }
 
 impl<R: Lends> Reservers<R> {
-    /// A pool of these reservers, which may be of several phases. There has to be one at least.
+    /// A pool of these reservers, which may be of several phases. There must be at least one.
     ///
     /// ```
     /// use forgeni::{Entities, Reservers};
@@ -305,7 +305,7 @@ impl<R> Place<R> {
     }
 }
 
-/// A number of this thread. Those of threads that were started one after the other are so too.
+/// A number of this thread. Threads that start one after the other get successive numbers.
 fn own_number() -> usize {
     static NEXT: AtomicUsize = AtomicUsize::new(0);
     thread_local!(static OWN: usize = NEXT.fetch_add(1, Ordering::Relaxed));

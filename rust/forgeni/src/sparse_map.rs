@@ -1,5 +1,6 @@
-//! Values of any type, of which few handles have one. What is proved of them is in the contracts of
-//! [`SparseMap`]; here are traits of std, and `handle_map` has those that both kinds of maps have.
+//! Values of any type, for maps in which few handles have one. What is proved of them is in the
+//! contracts of [`SparseMap`]; here are traits of std, and `handle_map` has those that both kinds
+//! of maps have.
 
 use crate::handle::Handle;
 use crate::shown::shows;

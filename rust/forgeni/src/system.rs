@@ -8,8 +8,8 @@ use alloc::sync::Arc;
 #[cfg(feature = "std")]
 use std::sync::{Mutex, PoisonError};
 
-/// Where the handles of a system come from: [`SharedSource`] or [`Blocks`]. As a bound it makes a
-/// function or a system one for both, as at [`LogCommands`].
+/// Where the handles of a system come from: [`SharedSource`] or [`Blocks`]. As a bound, it lets one
+/// function or system serve both, as at [`LogCommands`].
 pub use crate::allocator::Source;
 pub use crate::commands::{IssuedCommands, SystemCommands};
 /// The source of the systems of [`run_frame`](crate::run_frame) and [`run_logs`](crate::run_logs).
@@ -39,7 +39,7 @@ pub type WorldCommands<'a, S = SharedSource> = SystemCommands<'a, IssuedCommands
 /// Fills the log of one system, with handles from the source `S`. `C` is the caller's type of
 /// commands.
 ///
-/// What several systems do may be one function, for every source:
+/// One function can do what several systems share, for every source:
 ///
 /// ```
 /// # #[cfg(feature = "std")] {

@@ -24,9 +24,9 @@ use core::ops::Deref;
 /// ```
 ///
 /// A tick has 64 bits and doesn't wrap around: one each nanosecond is enough for 584 years. If the
-/// program goes back to a snapshot, the values have their ticks of that time. The program's ticks
-/// go on, and whatever was kept by `changed_since` has to be made of all values once, as after
-/// [`History::restart`](crate::History::restart).
+/// program goes back to a snapshot, the values have the ticks that they had then. The program's
+/// ticks go on, and whatever was kept up to date by `changed_since` has to be made anew, once, from
+/// all values, as after [`History::restart`](crate::History::restart).
 #[derive(Clone, Copy, Default, PartialEq, Eq, Hash)]
 pub struct Tracked<T> {
     value: T,
@@ -139,8 +139,8 @@ impl<T> Deref for Tracked<T> {
 macro_rules! lists_changes {
     ($Map:ident) => {
         impl<T> $Map<Tracked<T>> {
-            /// The handles and their values, in the order of [`iter`](Self::iter), of which the
-            /// value is new or was lent to be changed at this tick or later. It takes time for each
+            /// The handles and their values, in the order of [`iter`](Self::iter), for each value
+            /// that is new or was lent to be changed at this tick or later. It takes time for each
             /// value.
             ///
             /// ```

@@ -12,7 +12,7 @@ pub(crate) struct Waiting {
     count: AtomicUsize,
     pub(crate) overtaken: AtomicBool,
     queue: Mutex<Queue>,
-    /// Where the threads sleep. So few of them wake if one is woken.
+    /// Where the threads sleep. There are several, so that few threads wake if one is woken.
     rooms: [Condvar; ROOMS],
 }
 
@@ -195,7 +195,7 @@ mod tests {
         }
     }
 
-    /// Who was woken and found nothing is overtaken, until it is served.
+    /// A thread that was woken and found nothing counts as overtaken until it is served.
     #[test]
     fn a_thread_that_is_overtaken() {
         let things = Things::new(0);

@@ -304,7 +304,8 @@ impl World {
         self.world.get(handle, id)
     }
 
-    /// Whether the entity is alive. It takes constant time.
+    /// Whether the entity is alive. It takes constant time. It is false for a handle that is only
+    /// reserved, for which [`Entities::contains`](crate::Entities::contains) is true.
     ///
     /// ```
     /// use forgeni::World;

@@ -1,0 +1,214 @@
+//! Worlds: snapshots, saves and phases. A page of a type has its `impl` blocks in the order of the
+//! modules, and these come after what a world does every day.
+
+use crate::numbers::next_number;
+use crate::phases::{clone_world, clone_world_from};
+use crate::phases::{open, open_in_blocks, read_world, read_world_within};
+use crate::world_phase::closed;
+use crate::{BlockReserver, Commands, DealError, HandedBack, OpenWorld, OutOfMemory, ShareError};
+use crate::{World, WorldImageFault, WorldInBlocks};
+use alloc::vec::Vec;
+
+/// # Snapshots
+impl World {
+    /// Another world in the same state: the same entities are alive, with the same births and
+    /// components, the same handles are reserved, and the same calls return the same. From then on
+    /// the two are independent.
+    ///
+    /// Neither takes the queues of the other's phases: [`SyncError::OtherWorld`].
+    ///
+    /// ```
+    /// use forgeni::World;
+    ///
+    /// let mut world = World::new();
+    /// let cart = world.spawn(&[])?;
+    /// let mut clone = world.try_clone()?;
+    /// clone.despawn(cart)?;
+    /// assert!(world.contains(cart) && !clone.contains(cart));
+    /// # Ok::<(), Box<dyn std::error::Error>>(())
+    /// ```
+    ///
+    /// # Errors
+    ///
+    /// [`OutOfMemory`], but never if no entity was ever alive.
+    ///
+    /// [`SyncError::OtherWorld`]: crate::SyncError::OtherWorld
+    pub fn try_clone(&self) -> Result<Self, OutOfMemory> {
+        clone_world(self, next_number())
+    }
+
+    /// Takes over the state of another world, as [`try_clone`](Self::try_clone) copies it. What
+    /// this one had before is gone, and the queues of its earlier phases are refused.
+    ///
+    /// It uses the room that this one has, and never gives it back. So a world that another one is
+    /// cloned into again and again takes memory only as that one grows. With it, a game that
+    /// predicts goes back to a frame that the server has confirmed:
+    ///
+    /// ```
+    /// use forgeni::World;
+    ///
+    /// let mut world = World::new();
+    /// let cart = world.spawn(&[])?;
+    /// let mut confirmed = World::new();
+    /// confirmed.try_clone_from(&world)?;
+    /// world.despawn(cart)?;
+    /// world.try_clone_from(&confirmed)?;
+    /// assert!(world.contains(cart));
+    /// # Ok::<(), Box<dyn std::error::Error>>(())
+    /// ```
+    ///
+    /// Handles that were given since the clone was made will be given again. Keep none of them.
+    ///
+    /// # Errors
+    ///
+    /// [`OutOfMemory`], and then nothing has changed. It never happens if no entity of the source
+    /// was ever alive.
+    pub fn try_clone_from(&mut self, source: &Self) -> Result<(), OutOfMemory> {
+        clone_world_from(self, source, next_number())
+    }
+}
+
+/// # Saves
+impl World {
+    /// The world whose image these bytes are, all of them.
+    ///
+    /// The bytes may come from anywhere. Each image that [`write_image`](Self::write_image) writes
+    /// is read as the same world, which gives no handle that was given before. It refuses the
+    /// queues of phases that were opened before: [`SyncError::OtherWorld`]. Bytes that are the
+    /// image of no world are refused. The call takes at most eight bytes of memory for each byte,
+    /// and 16 KiB. It takes none before it has compared the number of slots with the length of the
+    /// allocator's part.
+    ///
+    /// A forged image can make the next [`flush`](Self::flush) take all memory, since it may say
+    /// that each of 2^32 - 1 slots is reserved. For bytes from a stranger there is
+    /// [`read_image_within`](Self::read_image_within).
+    ///
+    /// ```
+    /// use forgeni::{World, WorldImageFault};
+    ///
+    /// let mut image = Vec::new();
+    /// World::new().write_image(&mut image)?;
+    /// assert!(World::read_image(&image)?.is_empty());
+    /// image[0] = 0;
+    /// assert_eq!(World::read_image(&image).err(), Some(WorldImageFault::Magic));
+    /// # Ok::<(), Box<dyn std::error::Error>>(())
+    /// ```
+    ///
+    /// # Errors
+    ///
+    /// Each but [`Memory`](WorldImageFault::Memory) means that these bytes are not the image of any
+    /// world, and names the first fault in them.
+    ///
+    /// [`SyncError::OtherWorld`]: crate::SyncError::OtherWorld
+    pub fn read_image(bytes: &[u8]) -> Result<Self, WorldImageFault> {
+        read_world(bytes, next_number())
+    }
+
+    /// The world whose image these bytes are, if it has at most `most` slots after its next
+    /// [`flush`](Self::flush).
+    ///
+    /// The image of a world may say that 4,294,967,295 handles are reserved. `read_image` reads it,
+    /// and the next flush brings them to life. So this is the call for bytes from a stranger: it
+    /// takes no more memory than `read_image`, and the next flush no more than `most` slots and
+    /// `most` entities do.
+    ///
+    /// ```
+    /// use forgeni::{World, WorldImageFault};
+    ///
+    /// let (mut world, mut image) = (World::new(), Vec::new());
+    /// for _ in 0..10 {
+    ///     world.spawn(&[])?;
+    /// }
+    /// world.write_image(&mut image)?;
+    /// assert_eq!(World::read_image_within(&image, 10)?.len(), 10);
+    /// let refused = World::read_image_within(&image, 9).err();
+    /// assert_eq!(refused, Some(WorldImageFault::Bound { slots: 10 }));
+    /// # Ok::<(), Box<dyn std::error::Error>>(())
+    /// ```
+    ///
+    /// # Errors
+    ///
+    /// Those of [`read_image`](Self::read_image), and then [`Bound`](WorldImageFault::Bound) if
+    /// there would be more slots.
+    pub fn read_image_within(bytes: &[u8], most: u32) -> Result<Self, WorldImageFault> {
+        read_world_within(bytes, next_number(), most)
+    }
+}
+
+/// # Opening it
+impl World {
+    /// Opens the world for `count` systems, 1 to 1,024, each with its [`Commands`]. They may go to
+    /// other threads. [`OpenWorld::close`] gives the world back, with the queues of the systems.
+    ///
+    /// ```
+    /// use forgeni::{ComponentId, World};
+    ///
+    /// let (open, mut systems) = World::new().open(2)?;
+    /// let cart = systems[0].spawn(&[(ComponentId(0), 5)])?;
+    /// systems[1].insert(cart, &[(ComponentId(1), 6)])?;
+    /// let queues = systems.into_iter().map(|one| one.finish()).collect();
+    /// let (mut world, queues) = open.close(queues)?;
+    /// world.apply(queues)?;
+    /// assert_eq!(world.get(cart, ComponentId(1)), Some(6));
+    /// # Ok::<(), Box<dyn std::error::Error>>(())
+    /// ```
+    ///
+    /// A world that is open can't be changed:
+    ///
+    /// ```compile_fail
+    /// let mut world = forgeni::World::new();
+    /// let (open, systems) = world.open(1).unwrap();
+    /// world.spawn(&[]);
+    /// ```
+    ///
+    /// # Errors
+    ///
+    /// [`HandedBack`] has the world as it was, and the first of these errors that holds:
+    /// [`ShareError::NeedsFlush`], [`ShareError::Count`], [`ShareError::Memory`].
+    ///
+    /// # Aborts
+    ///
+    /// Rust's `Arc` ends the process if memory runs out. So as much memory is allocated and freed
+    /// first, and the process ends only if another thread takes it in between.
+    pub fn open(
+        self,
+        count: usize,
+    ) -> Result<(OpenWorld, Vec<Commands>), HandedBack<World, ShareError>> {
+        let opening = open(self, count)?;
+        opening
+            .numbered(next_number())
+            .map_err(|phase| HandedBack::new(closed(phase).0, ShareError::Memory))
+    }
+
+    /// Opens the world in blocks of these sizes: each caller gets a reserver of its own block, so
+    /// its handles depend on no other caller, and on no thread. A block is smaller where the world
+    /// has no more handles. [`WorldInBlocks::close`] gives the world back.
+    ///
+    /// Callers may be systems: with the feature `std`, `run_frame_in_blocks` runs them, and
+    /// `fill_in_blocks` runs them and says how much of its block each used.
+    ///
+    /// ```
+    /// use forgeni::World;
+    ///
+    /// let (open, mut reservers) = World::new().open_in_blocks(&[64, 64])?;
+    /// let one = open.blocks().reserve(&mut reservers[1])?;
+    /// assert_eq!(one.index(), 64);
+    /// let mut world = open.close(reservers)?;
+    /// world.flush()?;
+    /// assert!(world.contains(one));
+    /// // What was left of the blocks is given next, in the same order.
+    /// assert_eq!(world.spawn(&[])?.index(), 0);
+    /// # Ok::<(), Box<dyn std::error::Error + Send + Sync>>(())
+    /// ```
+    ///
+    /// # Errors
+    ///
+    /// [`HandedBack`] has the world as it was, and [`DealError::NeedsFlush`] or
+    /// [`DealError::Memory`].
+    pub fn open_in_blocks(
+        self,
+        sizes: &[u32],
+    ) -> Result<(WorldInBlocks, Vec<BlockReserver>), HandedBack<World, DealError>> {
+        Ok(open_in_blocks(self, sizes)?.numbered(next_number()))
+    }
+}
