@@ -149,8 +149,8 @@ tuples_follow!(A a B b C c D d E e F f G g H h);
 ///
 /// Each field is a [`HandleMap`] or a [`SparseMap`], and has the attributes and the visibility that
 /// it is given. Beside what it derives, the struct has:
-/// - `forget(handle)` and `despawn(&mut entities, handle)`, those of [`Follows`], which has to be in
-///   scope;
+/// - `forget(handle)` and `despawn(&mut entities, handle)`, those of [`Follows`], which has to be
+///   in scope;
 /// - `sweep(&entities)`, which drops the values of all handles that are neither alive nor reserved.
 ///   Call it after entities were freed elsewhere, or a save was read: see
 ///   [`AnyMap::sweep`](crate::AnyMap::sweep);

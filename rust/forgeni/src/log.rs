@@ -2,9 +2,9 @@
 //! to a closure in the order of the systems.
 //!
 //! A system is a closure over [`LogCommands`](crate::LogCommands), or a type with `run`
-//! ([`LogSystem`](crate::LogSystem)). [`run_to_sync_point`](crate::run_to_sync_point) runs systems on
-//! workers and begins the sync point of their logs. [`run_logs`](crate::run_logs) returns the logs,
-//! and [`run_in_blocks`](crate::run_in_blocks) runs systems that reserve from blocks.
+//! ([`LogSystem`](crate::LogSystem)). [`run_to_sync_point`](crate::run_to_sync_point) runs systems
+//! on workers and begins the sync point of their logs. [`run_logs`](crate::run_logs) returns the
+//! logs, and [`run_in_blocks`](crate::run_in_blocks) runs systems that reserve from blocks.
 //!
 //! ```
 //! # #[cfg(feature = "std")] {
