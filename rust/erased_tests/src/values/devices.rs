@@ -1,6 +1,6 @@
 //! Devices over readers and writers that are interrupted, fail, would block, or can't be flushed.
 
-use crate::made::devices::{Counted, Failed, Sink, Source};
+use crate::made::cli::{Counted, Failed, Sink, Source};
 use std::io::{self, ErrorKind, Read, Write};
 
 /// For a device that never fails.

@@ -1,6 +1,6 @@
 //! Whole inputs, from sources that give them in pieces, fail, or never end.
 
-use crate::made::devices::{read_all, Failed, InputFault, Source};
+use crate::made::cli::{read_all, Failed, InputFault, Source};
 
 /// The longest input that `spawnrun` reads, in bytes.
 const INPUT_LIMIT: usize = 67_108_864;

@@ -1,6 +1,7 @@
 //! Entities as bytes: a worked image, each change of it, and one of many entities.
 
-use crate::components::{write_word, Storage, StorageImageFault};
+use crate::components::{Storage, StorageImageFault};
+use crate::handles::write_word;
 use crate::handles::{Birth, ComponentId, Handle};
 
 /// Width 2. The first entity has the component 1, and the second one none.
