@@ -40,116 +40,8 @@ pub struct Blocks {
     number: u64,
 }
 
+/// # Reserving
 impl Blocks {
-    #[inline]
-    pub(super) fn new(entities: Entities, parts: Vec<Part>, number: u64) -> Self
-        // requires dealt { AreDealt entities.allocator parts.items }
-        // requires stands_for { J.blocks_of number ≡ record {
-        //   start = entities.allocator;
-        //   rows = entities.rows;
-        //   blocks = parts.items;
-        // } }
-        // ensures { result ≡ record {
-        //   number = number;
-        //   phase = record {
-        //     start = entities.allocator;
-        //     rows = entities.rows;
-        //     blocks = parts.items;
-        //   };
-        // } }
-    {
-        Blocks {
-            entities,
-            parts,
-            number,
-        }
-    }
-
-    #[inline]
-    pub(super) fn number(&self) -> u64
-        // ensures { result ≡ self.now.number }
-    {
-        self.number
-    }
-
-    /// How many blocks it has.
-    ///
-    /// ```
-    /// use forgeni::Entities;
-    ///
-    /// let (blocks, reservers) = Entities::new().open_in_blocks(&[100; 8])?;
-    /// assert_eq!((blocks.count(), reservers.len()), (8, 8));
-    /// # Ok::<(), Box<dyn std::error::Error>>(())
-    /// ```
-    ///
-    /// <details><summary>Contract</summary>
-    ///
-    /// <code style="display: block; tab-size: 4; white-space: pre-wrap">// In the words of [contracts](crate::contracts):
-    /// ensures { result ≡ [length](crate::contracts::logic#length) self.now.phase.blocks }
-    /// </code>
-    ///
-    /// </details>
-    #[must_use]
-    #[inline]
-    pub fn count(&self) -> usize {
-        self.parts.len()
-    }
-
-    /// Whether the entity was alive when the phase was opened. It stays so until the close. Any
-    /// thread may ask, and it takes constant time.
-    ///
-    /// ```
-    /// use forgeni::Entities;
-    ///
-    /// let mut entities = Entities::new();
-    /// let old = entities.alloc()?;
-    /// let (blocks, mut reservers) = entities.open_in_blocks(&[10])?;
-    /// let new = blocks.reserve(&mut reservers[0])?;
-    /// assert!(blocks.is_alive(old) && !blocks.is_alive(new));
-    /// # Ok::<(), Box<dyn std::error::Error>>(())
-    /// ```
-    ///
-    /// <details><summary>Contract</summary>
-    ///
-    /// <code style="display: block; tab-size: 4; white-space: pre-wrap">// In the words of [contracts](crate::contracts):
-    /// ensures { result ≡ [set.contains](crate::contracts::logic#FinSet.contains) self.now.phase.start.live handle }
-    /// </code>
-    ///
-    /// </details>
-    #[must_use]
-    #[inline]
-    pub fn is_alive(&self, handle: Handle) -> bool {
-        self.entities.is_alive(handle)
-    }
-
-    /// The row that was set with the entity when the phase was opened. `None` if the entity was not
-    /// alive then, or had no row. It takes constant time.
-    ///
-    /// ```
-    /// use forgeni::Entities;
-    ///
-    /// let mut entities = Entities::new();
-    /// let (seen, plain) = (entities.alloc()?, entities.alloc()?);
-    /// entities.try_set_row(seen, 7)?;
-    /// let (blocks, _reservers) = entities.open_in_blocks(&[10])?;
-    /// assert_eq!((blocks.row(seen), blocks.row(plain)), (Some(7), None));
-    /// # Ok::<(), Box<dyn std::error::Error>>(())
-    /// ```
-    ///
-    /// <details><summary>Contract</summary>
-    ///
-    /// <code style="display: block; tab-size: 4; white-space: pre-wrap">// In the words of [contracts](crate::contracts):
-    /// ensures value { result ≡ [maps.get](crate::contracts::logic#FinMap.get) self.now.phase.rows handle }
-    /// ensures alive { [OnSome](crate::contracts::logic#OnSome) result ([set.contains](crate::contracts::logic#FinSet.contains) self.now.phase.start.live handle ≡ [true](crate::contracts::logic#true)) }
-    /// </code>
-    ///
-    /// </details>
-    #[must_use]
-    #[inline]
-    pub fn row(&self, handle: Handle) -> Option<u32> {
-        self.entities.row(handle)
-    }
-
     /// Reserves the next handle of the reserver's block. It makes no atomic step, takes no memory
     /// and waits for nobody. The handle comes to life after the phase, by the next flush.
     ///
@@ -315,7 +207,10 @@ impl Blocks {
         append(handles, given);
         Ok(())
     }
+}
 
+/// # Closing
+impl Blocks {
     /// Ends the phase with all its reservers, in the order in which they were made. What was used
     /// is reserved: a flush brings it to life. What is left of the blocks can be given again, and
     /// comes before all that was not dealt.
@@ -475,6 +370,120 @@ impl Blocks {
             return Err(HandedBack::new((self, reservers), EndError::Order));
         }
         self.end_with(reservers)
+    }
+}
+
+/// # Looking at entities
+impl Blocks {
+    /// How many blocks it has.
+    ///
+    /// ```
+    /// use forgeni::Entities;
+    ///
+    /// let (blocks, reservers) = Entities::new().open_in_blocks(&[100; 8])?;
+    /// assert_eq!((blocks.count(), reservers.len()), (8, 8));
+    /// # Ok::<(), Box<dyn std::error::Error>>(())
+    /// ```
+    ///
+    /// <details><summary>Contract</summary>
+    ///
+    /// <code style="display: block; tab-size: 4; white-space: pre-wrap">// In the words of [contracts](crate::contracts):
+    /// ensures { result ≡ [length](crate::contracts::logic#length) self.now.phase.blocks }
+    /// </code>
+    ///
+    /// </details>
+    #[must_use]
+    #[inline]
+    pub fn count(&self) -> usize {
+        self.parts.len()
+    }
+
+    /// Whether the entity was alive when the phase was opened. It stays so until the close. Any
+    /// thread may ask, and it takes constant time.
+    ///
+    /// ```
+    /// use forgeni::Entities;
+    ///
+    /// let mut entities = Entities::new();
+    /// let old = entities.alloc()?;
+    /// let (blocks, mut reservers) = entities.open_in_blocks(&[10])?;
+    /// let new = blocks.reserve(&mut reservers[0])?;
+    /// assert!(blocks.is_alive(old) && !blocks.is_alive(new));
+    /// # Ok::<(), Box<dyn std::error::Error>>(())
+    /// ```
+    ///
+    /// <details><summary>Contract</summary>
+    ///
+    /// <code style="display: block; tab-size: 4; white-space: pre-wrap">// In the words of [contracts](crate::contracts):
+    /// ensures { result ≡ [set.contains](crate::contracts::logic#FinSet.contains) self.now.phase.start.live handle }
+    /// </code>
+    ///
+    /// </details>
+    #[must_use]
+    #[inline]
+    pub fn is_alive(&self, handle: Handle) -> bool {
+        self.entities.is_alive(handle)
+    }
+
+    /// The row that was set with the entity when the phase was opened. `None` if the entity was not
+    /// alive then, or had no row. It takes constant time.
+    ///
+    /// ```
+    /// use forgeni::Entities;
+    ///
+    /// let mut entities = Entities::new();
+    /// let (seen, plain) = (entities.alloc()?, entities.alloc()?);
+    /// entities.try_set_row(seen, 7)?;
+    /// let (blocks, _reservers) = entities.open_in_blocks(&[10])?;
+    /// assert_eq!((blocks.row(seen), blocks.row(plain)), (Some(7), None));
+    /// # Ok::<(), Box<dyn std::error::Error>>(())
+    /// ```
+    ///
+    /// <details><summary>Contract</summary>
+    ///
+    /// <code style="display: block; tab-size: 4; white-space: pre-wrap">// In the words of [contracts](crate::contracts):
+    /// ensures value { result ≡ [maps.get](crate::contracts::logic#FinMap.get) self.now.phase.rows handle }
+    /// ensures alive { [OnSome](crate::contracts::logic#OnSome) result ([set.contains](crate::contracts::logic#FinSet.contains) self.now.phase.start.live handle ≡ [true](crate::contracts::logic#true)) }
+    /// </code>
+    ///
+    /// </details>
+    #[must_use]
+    #[inline]
+    pub fn row(&self, handle: Handle) -> Option<u32> {
+        self.entities.row(handle)
+    }
+}
+
+impl Blocks {
+    #[inline]
+    pub(super) fn new(entities: Entities, parts: Vec<Part>, number: u64) -> Self
+        // requires dealt { AreDealt entities.allocator parts.items }
+        // requires stands_for { J.blocks_of number ≡ record {
+        //   start = entities.allocator;
+        //   rows = entities.rows;
+        //   blocks = parts.items;
+        // } }
+        // ensures { result ≡ record {
+        //   number = number;
+        //   phase = record {
+        //     start = entities.allocator;
+        //     rows = entities.rows;
+        //     blocks = parts.items;
+        //   };
+        // } }
+    {
+        Blocks {
+            entities,
+            parts,
+            number,
+        }
+    }
+
+    #[inline]
+    pub(super) fn number(&self) -> u64
+        // ensures { result ≡ self.now.number }
+    {
+        self.number
     }
 
     /// Ends the phase with these reservers, of some of its blocks.

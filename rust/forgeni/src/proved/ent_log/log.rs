@@ -39,6 +39,7 @@ pub struct Log<C> {
     entries: Vec<Entry<C>>,
 }
 
+/// # Making one
 impl<C> Log<C> {
     /// A log without entries. It takes no memory.
     ///
@@ -66,7 +67,167 @@ impl<C> Log<C> {
             entries: Vec::new(),
         }
     }
+}
 
+/// # Filling it
+impl<C> Log<C> {
+    /// Reserves a handle at once, and adds its entry, or that of the refusal. Room for the entry is
+    /// allocated first, so each reservation has one.
+    ///
+    /// ```
+    /// use forgeni::{Entities, Entry, Log};
+    ///
+    /// let (shared, mut reservers) = Entities::new().share(1)?;
+    /// let mut log: Log<()> = Log::new();
+    /// let cart = log.spawn(&mut reservers[0])?;
+    /// assert_eq!(log.entries(), [Entry::Spawn(cart)]);
+    /// assert_eq!(log.refused(), 0);
+    /// # drop(shared);
+    /// # Ok::<(), Box<dyn std::error::Error + Send + Sync>>(())
+    /// ```
+    ///
+    /// # Errors
+    ///
+    /// - [`ReserveError::Memory`] if there is no room for the entry. The log is as it was, and
+    ///   nothing was reserved.
+    /// - [`ReserveError::Space`] and [`ReserveError::Quota`] as the reservation returns them. The
+    ///   log has an entry for the [refusal](Entry::Refused), which the sync point hands on in its
+    ///   turn. [`ReserveError::or_memory`] lets the system go on.
+    ///
+    /// <details><summary>Contract</summary>
+    ///
+    /// <code style="display: block; tab-size: 4; white-space: pre-wrap">// In the words of [contracts](crate::contracts):
+    /// ensures ok { [IfOk](crate::contracts::logic#IfOk) result (λ handle. self.new ≡ self.old ++ Spawn handle ∷ \[\]) }
+    /// ensures refused { [IfErr](crate::contracts::logic#IfErr) result (λ error. self.new ≡ self.old ++ [refused_by](crate::contracts::ent_log::spawning#refused_by) error) }
+    /// &#32;
+    /// // Anything but Memory is the result of one reservation.
+    /// ensures replies { (reply : [Result](crate::contracts::logic#Result) [HandleValue](crate::contracts::ent_handle::handle#Handle) Refusal) → result ≡ [returned](crate::contracts::ent_log::spawning#returned) reply
+    /// &#9;→ S.may_reserve source.old reply source.new }
+    /// ensures memory { [IsErrOf](crate::contracts::logic#IsErrOf) result ReserveError.Memory → source.new ≡ source.old }
+    /// </code>
+    ///
+    /// </details>
+    #[inline]
+    pub fn spawn<S: Reserves>(&mut self, source: &mut S) -> Result<Handle, ReserveError> {
+        self.entries.reserve_fallibly(1)?;
+        match source.reserve_one() {
+            Ok(handle) => {
+                self.entries.push_reserved(Entry::Spawn(handle));
+                Ok(handle)
+            }
+            Err(why) => {
+                self.entries.push_reserved(Entry::Refused(why));
+                Err(ReserveError::from(why))
+            }
+        }
+    }
+
+    /// Reserves a handle at once, of a source that serves this reserver, and adds its entry, or
+    /// that of the refusal. Room for the entry is allocated first, so each reservation has one.
+    ///
+    /// # Errors
+    ///
+    /// - [`ReserveError::Memory`] if there is no room for the entry. The log is as it was, and
+    ///   nothing was reserved.
+    /// - [`ReserveError::Space`] and [`ReserveError::Quota`] as the source returns them. The log
+    ///   has an entry for the [refusal](Entry::Refused), which the sync point hands on in its turn.
+    #[inline]
+    pub(crate) fn spawn_from<S: Source>(
+        &mut self,
+        source: &S,
+        reserver: &mut S::Reserver,
+    ) -> Result<Handle, ReserveError>
+        // requires { S.serves source.now reserver.old }
+        // ensures stays { S.serves source.now reserver.new }
+        // ensures ok { IfOk result (λ handle. self.new ≡ self.old ++ Spawn handle ∷ []) }
+        // ensures refused { IfErr result (λ error. self.new ≡ self.old ++ refused_by error) }
+
+        // Anything but Memory is the result of one reservation.
+        // ensures replies { (reply : Result HandleValue Refusal) → result ≡ returned reply
+        //     → S.may_reply source.now reserver.old reserver.new 1 (listed_alone reply) }
+        // ensures memory { IsErrOf result ReserveError.Memory → reserver.new ≡ reserver.old }
+    {
+        self.entries.reserve_fallibly(1)?;
+        match source.serve_one(reserver) {
+            Ok(handle) => {
+                self.entries.push_reserved(Entry::Spawn(handle));
+                Ok(handle)
+            }
+            Err(why) => {
+                self.entries.push_reserved(Entry::Refused(why));
+                Err(ReserveError::from(why))
+            }
+        }
+    }
+
+    /// Adds a command, which the sync point hands on in its turn.
+    ///
+    /// ```
+    /// use forgeni::{Handle, Log};
+    ///
+    /// enum Command {
+    ///     Heal(Handle, u32),
+    ///     Despawn(Handle),
+    /// }
+    ///
+    /// let oak = "0v1".parse()?;
+    /// let mut log = Log::new();
+    /// log.push(Command::Heal(oak, 20))?;
+    /// log.push(Command::Despawn(oak))?;
+    /// assert_eq!(log.len(), 2);
+    /// # Ok::<(), Box<dyn std::error::Error>>(())
+    /// ```
+    ///
+    /// # Errors
+    ///
+    /// [`OutOfMemory`] if there is no room for it. The log is as it was, and the command is
+    /// dropped.
+    ///
+    /// <details><summary>Contract</summary>
+    ///
+    /// <code style="display: block; tab-size: 4; white-space: pre-wrap">// In the words of [contracts](crate::contracts):
+    /// ensures ok { [OnOk](crate::contracts::logic#OnOk) result (self.new ≡ self.old ++ Command command ∷ \[\]) }
+    /// ensures err { [OnErr](crate::contracts::logic#OnErr) result (self.new ≡ self.old) }
+    /// </code>
+    ///
+    /// </details>
+    #[inline]
+    pub fn push(&mut self, command: C) -> Result<(), OutOfMemory> {
+        self.entries.reserve_fallibly(1)?;
+        self.entries.push_reserved(Entry::Command(command));
+        Ok(())
+    }
+
+    /// Drops all entries, and keeps their room. So adding as many entries again takes no memory.
+    ///
+    /// ```
+    /// use forgeni::Log;
+    ///
+    /// let mut log = Log::new();
+    /// for frame in 0..3 {
+    ///     // From the second frame on it takes no memory.
+    ///     log.clear();
+    ///     log.push(frame)?;
+    /// }
+    /// assert_eq!(log.len(), 1);
+    /// # Ok::<(), Box<dyn std::error::Error>>(())
+    /// ```
+    ///
+    /// <details><summary>Contract</summary>
+    ///
+    /// <code style="display: block; tab-size: 4; white-space: pre-wrap">// In the words of [contracts](crate::contracts):
+    /// ensures { self.new ≡ \[\] }
+    /// </code>
+    ///
+    /// </details>
+    #[inline]
+    pub fn clear(&mut self) {
+        self.entries.clear();
+    }
+}
+
+/// # What it has
+impl<C> Log<C> {
     /// The entries, in the order of issue.
     ///
     /// ```
@@ -179,96 +340,9 @@ impl<C> Log<C> {
         }
         refused
     }
+}
 
-    /// Reserves a handle at once, and adds its entry, or that of the refusal. Room for the entry is
-    /// allocated first, so each reservation has one.
-    ///
-    /// ```
-    /// use forgeni::{Entities, Entry, Log};
-    ///
-    /// let (shared, mut reservers) = Entities::new().share(1)?;
-    /// let mut log: Log<()> = Log::new();
-    /// let cart = log.spawn(&mut reservers[0])?;
-    /// assert_eq!(log.entries(), [Entry::Spawn(cart)]);
-    /// assert_eq!(log.refused(), 0);
-    /// # drop(shared);
-    /// # Ok::<(), Box<dyn std::error::Error + Send + Sync>>(())
-    /// ```
-    ///
-    /// # Errors
-    ///
-    /// - [`ReserveError::Memory`] if there is no room for the entry. The log is as it was, and
-    ///   nothing was reserved.
-    /// - [`ReserveError::Space`] and [`ReserveError::Quota`] as the reservation returns them. The
-    ///   log has an entry for the [refusal](Entry::Refused), which the sync point hands on in its
-    ///   turn. [`ReserveError::or_memory`] lets the system go on.
-    ///
-    /// <details><summary>Contract</summary>
-    ///
-    /// <code style="display: block; tab-size: 4; white-space: pre-wrap">// In the words of [contracts](crate::contracts):
-    /// ensures ok { [IfOk](crate::contracts::logic#IfOk) result (λ handle. self.new ≡ self.old ++ Spawn handle ∷ \[\]) }
-    /// ensures refused { [IfErr](crate::contracts::logic#IfErr) result (λ error. self.new ≡ self.old ++ [refused_by](crate::contracts::ent_log::spawning#refused_by) error) }
-    /// &#32;
-    /// // Anything but Memory is the result of one reservation.
-    /// ensures replies { (reply : [Result](crate::contracts::logic#Result) [HandleValue](crate::contracts::ent_handle::handle#Handle) Refusal) → result ≡ [returned](crate::contracts::ent_log::spawning#returned) reply
-    /// &#9;→ S.may_reserve source.old reply source.new }
-    /// ensures memory { [IsErrOf](crate::contracts::logic#IsErrOf) result ReserveError.Memory → source.new ≡ source.old }
-    /// </code>
-    ///
-    /// </details>
-    #[inline]
-    pub fn spawn<S: Reserves>(&mut self, source: &mut S) -> Result<Handle, ReserveError> {
-        self.entries.reserve_fallibly(1)?;
-        match source.reserve_one() {
-            Ok(handle) => {
-                self.entries.push_reserved(Entry::Spawn(handle));
-                Ok(handle)
-            }
-            Err(why) => {
-                self.entries.push_reserved(Entry::Refused(why));
-                Err(ReserveError::from(why))
-            }
-        }
-    }
-
-    /// Reserves a handle at once, of a source that serves this reserver, and adds its entry, or
-    /// that of the refusal. Room for the entry is allocated first, so each reservation has one.
-    ///
-    /// # Errors
-    ///
-    /// - [`ReserveError::Memory`] if there is no room for the entry. The log is as it was, and
-    ///   nothing was reserved.
-    /// - [`ReserveError::Space`] and [`ReserveError::Quota`] as the source returns them. The log
-    ///   has an entry for the [refusal](Entry::Refused), which the sync point hands on in its turn.
-    #[inline]
-    pub(crate) fn spawn_from<S: Source>(
-        &mut self,
-        source: &S,
-        reserver: &mut S::Reserver,
-    ) -> Result<Handle, ReserveError>
-        // requires { S.serves source.now reserver.old }
-        // ensures stays { S.serves source.now reserver.new }
-        // ensures ok { IfOk result (λ handle. self.new ≡ self.old ++ Spawn handle ∷ []) }
-        // ensures refused { IfErr result (λ error. self.new ≡ self.old ++ refused_by error) }
-
-        // Anything but Memory is the result of one reservation.
-        // ensures replies { (reply : Result HandleValue Refusal) → result ≡ returned reply
-        //     → S.may_reply source.now reserver.old reserver.new 1 (listed_alone reply) }
-        // ensures memory { IsErrOf result ReserveError.Memory → reserver.new ≡ reserver.old }
-    {
-        self.entries.reserve_fallibly(1)?;
-        match source.serve_one(reserver) {
-            Ok(handle) => {
-                self.entries.push_reserved(Entry::Spawn(handle));
-                Ok(handle)
-            }
-            Err(why) => {
-                self.entries.push_reserved(Entry::Refused(why));
-                Err(ReserveError::from(why))
-            }
-        }
-    }
-
+impl<C> Log<C> {
     /// The entries, to be taken out one by one.
     #[inline]
     pub(super) fn into_entries(self) -> IntoIter<Entry<C>>
@@ -292,73 +366,6 @@ impl<C> Log<C> {
             rest = behind;
         }
         None
-    }
-}
-
-impl<C> Log<C> {
-    /// Adds a command, which the sync point hands on in its turn.
-    ///
-    /// ```
-    /// use forgeni::{Handle, Log};
-    ///
-    /// enum Command {
-    ///     Heal(Handle, u32),
-    ///     Despawn(Handle),
-    /// }
-    ///
-    /// let oak = "0v1".parse()?;
-    /// let mut log = Log::new();
-    /// log.push(Command::Heal(oak, 20))?;
-    /// log.push(Command::Despawn(oak))?;
-    /// assert_eq!(log.len(), 2);
-    /// # Ok::<(), Box<dyn std::error::Error>>(())
-    /// ```
-    ///
-    /// # Errors
-    ///
-    /// [`OutOfMemory`] if there is no room for it. The log is as it was, and the command is
-    /// dropped.
-    ///
-    /// <details><summary>Contract</summary>
-    ///
-    /// <code style="display: block; tab-size: 4; white-space: pre-wrap">// In the words of [contracts](crate::contracts):
-    /// ensures ok { [OnOk](crate::contracts::logic#OnOk) result (self.new ≡ self.old ++ Command command ∷ \[\]) }
-    /// ensures err { [OnErr](crate::contracts::logic#OnErr) result (self.new ≡ self.old) }
-    /// </code>
-    ///
-    /// </details>
-    #[inline]
-    pub fn push(&mut self, command: C) -> Result<(), OutOfMemory> {
-        self.entries.reserve_fallibly(1)?;
-        self.entries.push_reserved(Entry::Command(command));
-        Ok(())
-    }
-
-    /// Drops all entries, and keeps their room. So adding as many entries again takes no memory.
-    ///
-    /// ```
-    /// use forgeni::Log;
-    ///
-    /// let mut log = Log::new();
-    /// for frame in 0..3 {
-    ///     // From the second frame on it takes no memory.
-    ///     log.clear();
-    ///     log.push(frame)?;
-    /// }
-    /// assert_eq!(log.len(), 1);
-    /// # Ok::<(), Box<dyn std::error::Error>>(())
-    /// ```
-    ///
-    /// <details><summary>Contract</summary>
-    ///
-    /// <code style="display: block; tab-size: 4; white-space: pre-wrap">// In the words of [contracts](crate::contracts):
-    /// ensures { self.new ≡ \[\] }
-    /// </code>
-    ///
-    /// </details>
-    #[inline]
-    pub fn clear(&mut self) {
-        self.entries.clear();
     }
 }
 

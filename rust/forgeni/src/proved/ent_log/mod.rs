@@ -2,13 +2,13 @@
 
 //! Commands of any type: logs that systems fill, and the sync point that hands their entries on.
 
+mod log;
+mod sync_point;
 mod begin_error;
 mod entry;
 mod handing;
-mod log;
 mod reserves;
 mod rest;
-mod sync_point;
 
 pub use begin_error::BeginError;
 pub use entry::Entry;
