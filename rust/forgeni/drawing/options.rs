@@ -93,7 +93,7 @@ mod tests {
     /// The last word names a file only where it is one too many.
     #[test]
     fn a_file_is_named_by_the_last_word() {
-        let file = concat!(env!("CARGO_MANIFEST_DIR"), "/LICENSE-MIT");
+        let file = concat!(env!("CARGO_MANIFEST_DIR"), "/Cargo.toml");
         let is_named = |words: &[&str]| {
             let is_line = |words: &[&str]| limits(words).is_some();
             named_file(HostRuntime, words, is_line).map(|file| file.is_some())

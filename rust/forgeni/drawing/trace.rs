@@ -285,12 +285,13 @@ mod tests {
 
     #[test]
     fn nothing_but_a_picture_is_written_over() {
-        let of_package = |name| format!("{}/{name}", env!("CARGO_MANIFEST_DIR"));
-        for name in ["LICENSE-MIT", "drawing/patterns.svg"] {
-            assert!(would_be_lost(&of_package(name)), "{name}");
+        // Tests run in the folder that the compiler names files from.
+        let beside = |name| format!("{}/{name}", file!().trim_end_matches("/trace.rs"));
+        for name in ["trace.rs", "patterns.svg"] {
+            assert!(would_be_lost(&beside(name)), "{name}");
         }
-        for name in ["no/such/file", "drawing"] {
-            assert!(!would_be_lost(&of_package(name)), "{name}");
+        for name in ["no/such/file", "."] {
+            assert!(!would_be_lost(&beside(name)), "{name}");
         }
         let made = std::env::temp_dir().join(format!("forgeni-{}.svg", process::id()));
         let name = made.to_str().expect("a name of letters");
