@@ -1,9 +1,10 @@
-//! Blocks: the handles that come next are [dealt](crate::Entities::open_in_blocks) to callers
-//! beforehand, so which thread is first makes no difference to them.
+//! Blocks: the handles that come next are [dealt](crate::Entities::open_in_blocks) to callers in
+//! advance, so they don't depend on which thread is first.
 //!
 //! [`run_in_blocks`](crate::run_in_blocks) runs systems that fill logs in blocks, and
-//! [`run_frame_in_blocks`](crate::run_frame_in_blocks) those of a world. A [`BlockSize`] for each
-//! system, which [adapts](BlockSize::adapt) after each frame, gives the sizes of the next one.
+//! [`run_frame_in_blocks`](crate::run_frame_in_blocks) runs the systems of a world. A [`BlockSize`]
+//! for each system, which [adapts](BlockSize::adapt) after each frame, gives the sizes for the next
+//! one.
 
 use crate::in_blocks::open_in_blocks;
 use crate::numbers::next_number;
@@ -16,14 +17,14 @@ pub use crate::in_blocks::{DealError, EndError};
 
 /// # Blocks
 impl Entities {
-    /// Deals the handles that would be given next to callers, in blocks of these sizes: each caller
-    /// gets a reserver of its own block. A block is smaller where the allocator has no more
+    /// Deals out the handles that would be given next, to callers, in blocks of these sizes: each
+    /// caller gets a reserver of its own block. A block is smaller where the allocator has no more
     /// handles.
     ///
     /// [`share`](Self::share) gives each request the next handle, so which thread gets which
     /// depends on who was first. In blocks it doesn't: the handles of a caller depend on the
     /// allocator, on the sizes, and on what this caller reserved before. So a simulation is the
-    /// same on every number of threads, if its callers are its systems. A reservation makes no
+    /// same on every number of threads, if its callers are its systems. A reservation takes no
     /// atomic step.
     ///
     /// Opening takes time and memory for each block, however large they are. [`Blocks::close`]

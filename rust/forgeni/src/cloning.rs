@@ -1,5 +1,5 @@
-//! Std's `Default` and `Clone` of what has proved calls `new` and `try_clone`, and `PartialEq` of
-//! the allocator. If memory runs out, a clone ends the process, as when a `Vec` is cloned.
+//! Std's `Default` and `Clone` for types with proved calls `new` and `try_clone`, and `PartialEq`
+//! for the allocator. If memory runs out, a clone ends the process, as when a `Vec` is cloned.
 
 use crate::entities::Entities;
 use crate::errors::OutOfMemory;
@@ -17,7 +17,7 @@ macro_rules! begins_and_clones {
             }
         }
 
-        /// By [`try_clone`](Self::try_clone) and [`try_clone_from`](Self::try_clone_from). If
+        /// Uses [`try_clone`](Self::try_clone) and [`try_clone_from`](Self::try_clone_from). If
         /// memory runs out, the process ends, as for a `Vec`.
         impl Clone for $name {
             fn clone(&self) -> Self {
@@ -36,8 +36,8 @@ begins_and_clones!(Entities);
 begins_and_clones!(World);
 begins_and_clones!(Storage);
 
-/// Two allocators are equal if they are the same to every call, whatever happened to them before:
-/// if they have the same image. The comparison looks at each slot, and takes no memory.
+/// Two allocators are equal if every call does the same on both, whatever happened to them before:
+/// that is, if they have the same image. The comparison looks at each slot, and takes no memory.
 ///
 /// ```
 /// use forgeni::Entities;
@@ -63,12 +63,12 @@ impl PartialEq for Entities {
 
 impl Eq for Entities {}
 
-/// The living and their rows, by rising slot.
+/// The living entities and their rows, in slot order.
 fn living(entities: &Entities) -> impl Iterator<Item = (Handle, Option<u32>)> {
     entities.iter().map(|one| (one, entities.row(one)))
 }
 
-/// What each slot that waits gives next, in the order of the pending list.
+/// The next handle of each waiting slot, in the order of the pending list.
 fn waiting(entities: &Entities) -> impl Iterator<Item = Option<Handle>> {
     let positions = 1..=i64::from(entities.top());
     positions.map(|cursor| entities.reply_one(cursor).ok())

@@ -5,7 +5,7 @@ use core::fmt;
 pub use crate::handles::{Birth, ComponentId};
 
 impl Birth {
-    /// The system of an entity that no system's queue lists.
+    /// The system number of an entity that no system's queue lists.
     pub const NO_SYSTEM: u32 = u32::MAX;
 }
 

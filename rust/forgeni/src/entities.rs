@@ -1,5 +1,5 @@
-//! What the source of the proved allocator can't have: impls of Rust's traits, closures, and `new`
-//! without parameters.
+//! What the source of the proved allocator can't have: impls of Rust's traits, closures, and a
+//! `new` without parameters.
 
 use crate::allocator::Limits;
 use crate::errors::OutOfMemory;

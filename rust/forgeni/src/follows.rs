@@ -1,5 +1,5 @@
-//! Maps that lose an entity's values when it is despawned. By hand: a map loses what its proved
-//! `remove` removes.
+//! Maps that lose an entity's values when it is despawned. Hand-written: a map loses what its
+//! proved `remove` removes.
 
 use crate::handle::Handle;
 use crate::{Entities, FreeError, Freed, HandleMap, SparseMap};
@@ -7,7 +7,7 @@ use crate::{Entities, FreeError, Freed, HandleMap, SparseMap};
 /// Something that keeps values for entities: a map of components, several maps, or a type of your
 /// own.
 ///
-/// Both kinds of maps implement it, and so do tuples, slices and arrays of what implements it.
+/// Both kinds of maps implement it, and so do tuples, slices and arrays of types that implement it.
 /// [`tables!`](crate::tables) implements it for a struct of maps.
 ///
 /// ```
@@ -48,7 +48,7 @@ pub trait Follows {
     /// # Panics
     ///
     /// If a value panics when it is dropped, the other maps still forget the handle, and the panic
-    /// is handed on.
+    /// is propagated.
     fn forget(&mut self, handle: Handle);
 
     /// Frees an entity, and forgets its handle.
@@ -70,7 +70,7 @@ pub trait Follows {
     ///
     /// # Panics
     ///
-    /// As [`forget`](Self::forget). The entity is freed then.
+    /// The same as [`forget`](Self::forget). The entity is freed even then.
     fn despawn(&mut self, entities: &mut Entities, handle: Handle) -> Result<Freed, FreeError> {
         let freed = entities.free(handle)?;
         self.forget(handle);
@@ -147,12 +147,12 @@ tuples_follow!(A a B b C c D d E e F f G g H h);
 
 /// A struct of maps, one for each component, which [`Follows`] the entities.
 ///
-/// Each field is a [`HandleMap`] or a [`SparseMap`], and has the attributes and the visibility that
-/// it is given. Beside what it derives, the struct has:
-/// - `forget(handle)` and `despawn(&mut entities, handle)`, those of [`Follows`], which has to be
-///   in scope;
+/// Each field is a [`HandleMap`] or a [`SparseMap`], and keeps its attributes and its visibility.
+/// Besides what it derives, the struct has:
+/// - `forget(handle)` and `despawn(&mut entities, handle)`, those of [`Follows`], which must be in
+///   scope;
 /// - `sweep(&entities)`, which drops the values of all handles that are neither alive nor reserved.
-///   Call it after entities were freed elsewhere, or a save was read: see
+///   Call it after entities have been freed elsewhere, or a save has been read: see
 ///   [`AnyMap::sweep`](crate::AnyMap::sweep);
 /// - `stale(&entities)`, which returns the name of a map and a handle of it that `sweep` would
 ///   drop, if there is one, for a program that refuses such a save;
@@ -162,9 +162,9 @@ tuples_follow!(A a B b C c D d E e F f G g H h);
 ///   way back to it. If memory runs out, `try_clone_from` has changed nothing. If a clone panics,
 ///   call it again, with this source or another;
 /// - `Default`, and with the feature `serde` `Serialize` and `Deserialize`, with the names of the
-///   maps, if the values are. A map that is left out has no values. `DeserializeSeed` of `&mut
-///   Parts` reads in place of the values that there are, and keeps the limit of each map: use it
-///   for what may be forged.
+///   maps, if the values implement them. A map that is left out has no values. `DeserializeSeed` of
+///   `&mut Parts` replaces the values, and keeps the limit of each map: use it for input that may
+///   be forged.
 ///
 /// ```
 /// use forgeni::{tables, Entities, Follows, HandleMap, SparseMap};
@@ -229,7 +229,7 @@ macro_rules! tables {
                 $($crate::AnyMap::sweep(&mut self.$map, entities);)+
             }
 
-            /// A map that has a value of a handle that is neither alive nor reserved, by its name,
+            /// The name of a map that has a value for a handle that is neither alive nor reserved,
             /// and the handle.
             $seen fn stale(
                 &self,

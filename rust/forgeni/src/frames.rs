@@ -1,5 +1,5 @@
-//! Frames: systems run on workers over one world or one allocator, and a sync point takes what they
-//! issued.
+//! Frames: systems run on workers over one world or one allocator, and a sync point applies what
+//! they issued.
 
 use crate::guarding::{caught, guarded};
 use crate::running::NoGate;
@@ -72,19 +72,19 @@ pub use crate::system::*;
 ///   memory for another one. No command was applied. What the systems that ran had reserved stays
 ///   reserved, and nothing else is: [`World::flush`] brings it to life, without components.
 /// - [`Unapplied`](FrameError::Unapplied) and [`Stopped`](FrameError::Stopped): all systems ran,
-///   and the sync point ran out of memory. It can be repeated, or go on.
+///   and the sync point ran out of memory. It can be repeated or continued.
 ///
 /// # Panics
 ///
-/// If a system panics, its panic is handed on when all workers have ended, and the world is as it
+/// If a system panics, its panic is propagated when all workers have ended, and the world is as it
 /// is after [`Lost`](FrameError::Lost). If several systems panic, the panic of the first one in the
-/// order of the systems is handed on. Without the feature `std` a panic can't be caught: the world
-/// is dropped, and an empty one is in its place.
+/// order of the systems is propagated. Without the feature `std`, a panic can't be caught: the
+/// world is dropped, and an empty one takes its place.
 ///
 /// # Aborts
 ///
 /// With more than one worker, threads are started as [`std::thread::scope`] starts them. If memory
-/// for that runs out, it ends the process. Without the feature `std`, and where no thread can be
+/// for that runs out, the process ends. Without the feature `std`, and where no thread can be
 /// started, as on `wasm32-unknown-unknown`, the caller's thread does all the work.
 pub fn run_frame<S: System + Sync>(
     world: &mut World,
@@ -94,7 +94,7 @@ pub fn run_frame<S: System + Sync>(
     run_frame_on(&StdThreads, world, systems, workers)
 }
 
-/// [`run_frame`] on the threads of a [`Join`], such as a task pool. It starts no thread by itself.
+/// [`run_frame`] on the threads of a [`Join`], such as a task pool. It starts no threads itself.
 /// With the feature `rayon`, `Rayon` and `rayon::ThreadPool` are `Join`s.
 ///
 /// Each call of the `Join` gets one worker and all others, or two halves if there are more than
@@ -129,7 +129,7 @@ pub fn run_frame<S: System + Sync>(
 ///
 /// # Panics
 ///
-/// The same as [`run_frame`]. If no system panics but the `Join` does, its panic is handed on when
+/// The same as [`run_frame`]. If no system panics but the `Join` does, its panic is propagated when
 /// all workers have ended. The frame is complete then: only its report is lost.
 pub fn run_frame_on<J: Join + Sync, S: System + Sync>(
     join: &J,
@@ -144,7 +144,7 @@ pub fn run_frame_on<J: Join + Sync, S: System + Sync>(
 
 /// Runs each system once, on that many workers side by side, 1 to 64, each with a [`Log`] of its
 /// own. The logs are in the order of the systems, whichever ended first, for a [`SyncPoint`] of the
-/// allocator. There may be 65,536 systems. If there is none, nothing takes memory.
+/// allocator. There can be up to 65,536 systems. If there are none, the call takes no memory.
 ///
 /// Each worker takes the next system that isn't taken yet, until none is left. A spawn reserves at
 /// once, so which handle it returns depends on the workers. If a thread can't be started, another
@@ -201,17 +201,17 @@ pub fn run_frame_on<J: Join + Sync, S: System + Sync>(
 ///
 /// # Panics
 ///
-/// If a system panics, its panic is handed on when all workers have ended, and the allocator is as
+/// If a system panics, its panic is propagated when all workers have ended, and the allocator is as
 /// it is after [`Lost`](LogError::Lost). If several systems panic, the panic of the first one in
-/// the order of the systems is handed on. Without the feature `std` a panic can't be caught: the
-/// allocator is dropped, and an empty one is in its place.
+/// the order of the systems is propagated. Without the feature `std`, a panic can't be caught: the
+/// allocator is dropped, and an empty one takes its place.
 ///
-/// If a command panics when the logs are dropped, and no system did, that panic is handed on. The
-/// allocator is in its place before the first command is dropped.
+/// If a command panics when the logs are dropped, and no system did, that panic is propagated. The
+/// allocator is back in its place before the first command is dropped.
 ///
 /// # Aborts
 ///
-/// As of [`run_frame`].
+/// The same as for [`run_frame`].
 pub fn run_logs<C: Send, S: LogSystem<C> + Sync>(
     entities: &mut Entities,
     systems: &[S],
@@ -220,7 +220,7 @@ pub fn run_logs<C: Send, S: LogSystem<C> + Sync>(
     run_logs_on(&StdThreads, entities, systems, workers)
 }
 
-/// [`run_logs`] on the threads of a [`Join`], as [`run_frame_on`].
+/// [`run_logs`] on the threads of a [`Join`], like [`run_frame_on`].
 ///
 /// ```
 /// use forgeni::{run_logs_on, Entities, Join, LogCommands};
@@ -247,7 +247,7 @@ pub fn run_logs<C: Send, S: LogSystem<C> + Sync>(
 ///
 /// # Panics
 ///
-/// The same as [`run_logs`]. If no system panics but the `Join` does, its panic is handed on when
+/// The same as [`run_logs`]. If no system panics but the `Join` does, its panic is propagated when
 /// all workers have ended. What they reserved stays reserved, and the logs are dropped. If a
 /// command panics then, that panic is lost.
 pub fn run_logs_on<J: Join + Sync, C: Send, S: LogSystem<C> + Sync>(
@@ -261,12 +261,12 @@ pub fn run_logs_on<J: Join + Sync, C: Send, S: LogSystem<C> + Sync>(
     })
 }
 
-/// [`run_logs_on`], and then the beginning of the sync point of these logs. It brings to life what
+/// [`run_logs_on`], followed by the start of the sync point of these logs. It brings to life what
 /// the systems reserved, and appends it to `born`, as [`Entities::flush`] does. The sync point has
 /// the entries of all logs, in the order of the systems.
 ///
-/// [`SyncPoint::begin`] has to look at each spawn of a log, since the log may be of another phase.
-/// These logs are of this one, so this looks at none.
+/// [`SyncPoint::begin`] has to look at each spawn of a log, since the log may belong to another
+/// phase. These logs belong to this one, so this call looks at none.
 ///
 /// ```
 /// use forgeni::{run_to_sync_point, Entities, Entry, LogCommands, OutOfMemory, StdThreads};
@@ -293,8 +293,7 @@ pub fn run_logs_on<J: Join + Sync, C: Send, S: LogSystem<C> + Sync>(
 ///
 /// # Errors
 ///
-/// [`HandedBack`] has the logs that the sync point did not take, and the error. `born` is as it
-/// was.
+/// [`HandedBack`] has the logs that the sync point didn't take, and the error. `born` is unchanged.
 ///
 /// - Those of [`run_logs`]. There are no logs.
 /// - [`Unborn`](LogError::Unborn): all systems ran, and there is no memory for what is born. What
@@ -302,9 +301,9 @@ pub fn run_logs_on<J: Join + Sync, C: Send, S: LogSystem<C> + Sync>(
 ///
 /// # Panics
 ///
-/// If a system panics, or a command when it is dropped: the same as [`run_logs`]. If no system
-/// panics but the `Join` does, its panic is handed on when all workers have ended. What they
-/// reserved is alive, and their logs are dropped.
+/// If a system panics, or a command panics when it is dropped: the same as [`run_logs`]. If no
+/// system panics but the `Join` does, its panic is propagated when all workers have ended. What
+/// they reserved is alive, and their logs are dropped.
 pub fn run_to_sync_point<J: Join + Sync, C: Send, S: LogSystem<C> + Sync>(
     join: &J,
     entities: &mut Entities,

@@ -1,4 +1,4 @@
-//! Systems whose panics don't leave them.
+//! Systems whose panics are caught.
 
 use crate::frames::Join;
 use crate::{LogCommands, LogSystem, OutOfMemory, Source, System, View, WorldCommands};
@@ -9,10 +9,10 @@ use core::mem;
 use std::panic::{catch_unwind, resume_unwind, AssertUnwindSafe};
 use std::sync::{Mutex, PoisonError};
 
-/// Calls `run` with a `Join` and systems whose panics don't leave them, and hands the first panic
-/// on. If there is no memory to guard the systems, it returns that error. What `run` returns may be
-/// a panic itself: that of a command which was dropped. A world or an allocator is in its place by
-/// then.
+/// Calls `run` with a `Join` and systems whose panics are caught, and propagates the first panic.
+/// If there is no memory to guard the systems, it returns that error. `run` may itself return a
+/// panic: that of a command that was dropped. By then the world or the allocator is back in its
+/// place.
 pub(crate) fn guarded<J, S, T, E>(
     join: &J,
     systems: &[S],
@@ -37,11 +37,11 @@ pub(crate) fn guarded<J, S, T, E>(
 /// What a panic was raised with.
 pub(crate) type Panic = Box<dyn Any + Send>;
 
-/// The panics of a frame, each with the number of its system. A panic may panic when it is dropped,
-/// so all are kept until the world is back.
+/// The panics of a frame, each with the number of its system. A panic can itself panic when it is
+/// dropped, so all are kept until the world is back.
 type Panics = Mutex<Vec<(usize, Panic)>>;
 
-/// The panic of the first system that had one, if one had.
+/// The panic of the first system that panicked, if any.
 fn first(panics: Panics) -> Option<Panic> {
     let mut panics = panics.into_inner().unwrap_or_else(PoisonError::into_inner);
     let first = (0..panics.len()).min_by_key(|at| panics[*at].0)?;
@@ -50,19 +50,19 @@ fn first(panics: Panics) -> Option<Panic> {
     Some(first)
 }
 
-/// What the closure returns, or its panic. Nothing that a panic leaves half done is looked at.
+/// What the closure returns, or its panic. Nothing that a panic left half done is looked at.
 pub(crate) fn caught<T>(run: impl FnOnce() -> T) -> Result<T, Panic> {
     catch_unwind(AssertUnwindSafe(run))
 }
 
-/// Drops the value. If that panics, the panic is leaked, since dropping it may panic too.
+/// Drops the value. If that panics, the panic is leaked, since dropping it can panic too.
 fn drop_quietly<T>(value: T) {
     caught(|| drop(value)).unwrap_or_else(mem::forget);
 }
 
-/// A system or a `Join` whose panics don't leave it: the proved code that calls it knows none. With
-/// it is the number of the system, where a `Join` comes after all of them, and where the panics are
-/// kept.
+/// A system or a `Join` whose panics are caught: the proved code that calls it never sees one. It
+/// comes with the number of the system (that of a `Join` comes after all of them), and the place
+/// where the panics are kept.
 pub(crate) struct Guarded<'a, T>(&'a T, usize, &'a Panics);
 
 impl<T> Guarded<'_, T> {
@@ -84,7 +84,7 @@ impl<S: Source, T: System<S>> System<S> for Guarded<'_, T> {
     }
 }
 
-/// The same of a system that fills a log.
+/// The same for a system that fills a log.
 impl<C, S: Source, T: LogSystem<C, S>> LogSystem<C, S> for Guarded<'_, T> {
     fn run(&self, commands: &mut LogCommands<'_, C, S>) -> Result<(), OutOfMemory> {
         self.run(|| self.0.run(commands), Err(OutOfMemory))

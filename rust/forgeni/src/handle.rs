@@ -1,4 +1,4 @@
-//! What the source of the proved handle can't have: a constant, and parsing by Rust's trait.
+//! What the source of the proved handle can't have: a constant, and parsing through Rust's trait.
 
 use core::num::NonZeroU64;
 use core::str::FromStr;
@@ -7,7 +7,7 @@ pub use crate::handles::{Handle, ParseHandleError};
 
 impl Handle {
     /// A handle that is never alive, for a field that is initialised before there is an entity. No
-    /// world gives it, and no allocator, except one made by
+    /// world and no allocator gives it, except one made by
     /// [`with_exact_limits`](crate::Entities::with_exact_limits). It is `4294967294v2147483647`,
     /// the greatest handle of both orders.
     ///
@@ -31,7 +31,7 @@ impl Handle {
 impl FromStr for Handle {
     type Err = ParseHandleError;
 
-    /// The handle of this text.
+    /// The handle with this text.
     ///
     /// # Errors
     ///
@@ -65,15 +65,15 @@ impl From<Handle> for NonZeroU64 {
     }
 }
 
-/// The handle of these bits.
+/// The handle with these bits.
 impl TryFrom<u64> for Handle {
     type Error = ParseHandleError;
 
-    /// The handle of these bits.
+    /// The handle with these bits.
     ///
     /// # Errors
     ///
-    /// `Range`: no handle has them.
+    /// `Range` if no handle has these bits.
     ///
     /// ```
     /// use forgeni::{Handle, ParseHandleError};
@@ -88,7 +88,7 @@ impl TryFrom<u64> for Handle {
     }
 }
 
-/// The handle of these bits, as from a `u64`.
+/// The handle with these bits, as from a `u64`.
 impl TryFrom<NonZeroU64> for Handle {
     type Error = ParseHandleError;
 

@@ -1,5 +1,5 @@
-//! Values of any type, by handle. What is proved of them is in the contracts of [`HandleMap`]; here
-//! are the traits of std, and the calls that end the process when memory runs out, as those of
+//! Values of any type, by handle. What is proved about them is in the contracts of [`HandleMap`];
+//! here are the std traits, and the calls that end the process when memory runs out, as those of
 //! `Vec` do.
 
 use crate::entities::Entities;
@@ -28,9 +28,9 @@ fn out_of_memory<T>() -> ! {
     handle_alloc_error(Layout::new::<(u32, T)>())
 }
 
-/// What both kinds of maps do, for functions that take either.
+/// The calls that both kinds of map have, for functions that take either.
 ///
-/// The types say more of each call: [`HandleMap`] and [`SparseMap`].
+/// The types say more about each call: [`HandleMap`] and [`SparseMap`].
 ///
 /// ```
 /// use forgeni::{AnyMap, Handle, HandleMap, SparseMap};
@@ -57,7 +57,7 @@ pub trait AnyMap:
     /// The value of the handle, if it has one.
     fn get(&self, handle: Handle) -> Option<&Self::Value>;
 
-    /// The value of the handle, if it has one, to be changed.
+    /// A mutable reference to the value of the handle, if it has one.
     fn get_mut(&mut self, handle: Handle) -> Option<&mut Self::Value>;
 
     /// Whether the handle has a value.
@@ -101,21 +101,21 @@ pub trait AnyMap:
     /// How many values there are.
     fn len(&self) -> usize;
 
-    /// Whether there is no value.
+    /// Whether there are no values.
     fn is_empty(&self) -> bool {
         self.len() == 0
     }
 
-    /// The handles and their values: by rising slot of a `HandleMap`, in the order of `entries` of
+    /// The handles and their values: in slot order for a `HandleMap`, in the order of `entries` for
     /// a `SparseMap`.
     fn iter(&self) -> impl DoubleEndedIterator<Item = (Handle, &Self::Value)> + Clone;
 
-    /// The handles, by rising slot. Those of a `SparseMap` are listed first: `None` if there is no
-    /// memory for that.
+    /// The handles, in slot order. Those of a `SparseMap` are collected into a list first: `None`
+    /// if there is no memory for it.
     #[doc(hidden)]
     fn by_slot(&self) -> Option<impl BySlot>;
 
-    /// The handles and their values in the same order, to be changed.
+    /// The handles and mutable references to their values, in the same order.
     ///
     /// ```
     /// use forgeni::{AnyMap, SparseMap};
@@ -149,8 +149,9 @@ pub trait AnyMap:
 
     /// Drops the values of all handles that are neither alive nor reserved.
     ///
-    /// Call it after entities were freed elsewhere, or after a map was read from a save: it drops
-    /// what a dead handle names, or a handle of another allocator. It takes time for each value.
+    /// Call it after entities have been freed elsewhere, or after a map has been read from a save:
+    /// it drops the values of dead handles, and of handles of another allocator. It takes time for
+    /// each value.
     ///
     /// ```
     /// use forgeni::{AnyMap, Entities, HandleMap};
@@ -170,7 +171,7 @@ pub trait AnyMap:
     }
 }
 
-/// What both kinds of maps have by hand. `$iter_by_slot` goes over the values by rising slot.
+/// What is hand-written for both kinds of map. `$iter_by_slot` goes over the values in slot order.
 macro_rules! traits_of_a_map {
     ($Map:ident, $($Iter:ident)::+, $iter_by_slot:ident) => {
         impl<T> AnyMap for $Map<T> {
@@ -255,14 +256,15 @@ macro_rules! traits_of_a_map {
             ///
             /// # Panics
             ///
-            /// A panic of `change` is handed on. All values stay, changed as far as `change` had
-            /// changed them.
+            /// A panic in `change` is propagated. All values stay, with the changes that `change`
+            /// had made by then.
             #[inline]
             pub fn for_each_mut(&mut self, mut change: impl FnMut(Handle, &mut T)) {
                 self.iter_mut().for_each(|(one, it)| change(one, it));
             }
 
-            /// The value of the handle. If it has none, it is given the one that `make` returns.
+            /// The value of the handle. If it has none, `make` is called, and the handle gets the
+            /// value that it returns.
             ///
             /// ```
             /// use forgeni::{Handle, HandleMap};
@@ -288,7 +290,7 @@ macro_rules! traits_of_a_map {
                 self.entry(handle).or_insert_with(make)
             }
 
-            /// The values, in the order of [`iter`](Self::iter), to be changed.
+            /// Mutable references to the values, in the order of [`iter`](Self::iter).
             ///
             /// ```
             /// use forgeni::{Handle, HandleMap};
@@ -337,7 +339,7 @@ macro_rules! traits_of_a_map {
 
         impl<T: Eq> Eq for $Map<T> {}
 
-        /// By rising slot, so that equal maps have equal hashes.
+        /// In slot order, so that equal maps have equal hashes.
         impl<T: Hash> Hash for $Map<T> {
             fn hash<H: Hasher>(&self, state: &mut H) {
                 state.write_usize(self.len());
@@ -352,7 +354,7 @@ macro_rules! traits_of_a_map {
             ///
             /// # Panics
             ///
-            /// If it has none.
+            /// If the handle has no value.
             #[inline]
             #[track_caller]
             fn index(&self, handle: Handle) -> &T {
@@ -374,9 +376,9 @@ macro_rules! traits_of_a_map {
             }
         }
 
-        /// Inserts each value, in their order, as `insert` does. A value is dropped if it is
-        /// refused: if a later occupant of its slot has a value, the slot is at or above the limit,
-        /// or the handle is the placeholder. If memory runs out, the process ends, as for a `Vec`.
+        /// Inserts the values one by one, as `insert` does. A value is dropped if it is refused: if
+        /// a later occupant of its slot has a value, the slot is at or above the limit, or the
+        /// handle is the placeholder. If memory runs out, the process ends, as for a `Vec`.
         impl<T> Extend<(Handle, T)> for $Map<T> {
             fn extend<I: IntoIterator<Item = (Handle, T)>>(&mut self, values: I) {
                 for (handle, value) in values {
@@ -388,7 +390,7 @@ macro_rules! traits_of_a_map {
             }
         }
 
-        /// As `Extend` of an empty map.
+        /// The same as `Extend` on an empty map.
         impl<T> FromIterator<(Handle, T)> for $Map<T> {
             fn from_iter<I: IntoIterator<Item = (Handle, T)>>(values: I) -> Self {
                 let mut map = Self::new();
@@ -397,7 +399,7 @@ macro_rules! traits_of_a_map {
             }
         }
 
-        /// As `Extend` of an empty map.
+        /// The same as `Extend` on an empty map.
         impl<T, const N: usize> From<[(Handle, T); N]> for $Map<T> {
             fn from(values: [(Handle, T); N]) -> Self {
                 values.into_iter().collect()

@@ -1,10 +1,10 @@
-//! Births and deaths in order. By hand: it lists what the program says, and decides nothing.
+//! Births and deaths in order. Hand-written: it lists what the program says, and decides nothing.
 
 use crate::follows::Follows;
 use crate::handle::Handle;
 use alloc::collections::VecDeque;
 
-/// That an entity was born, or died.
+/// The birth or the death of an entity.
 ///
 /// ```
 /// use forgeni::{Change, Entities, History};
@@ -25,12 +25,12 @@ pub enum Change {
     Died(Handle),
 }
 
-/// Births and deaths in their order, each with its tick, for what mirrors the living: a renderer,
-/// or a physics engine.
+/// Births and deaths in order, each with its tick, for code that mirrors the living entities: a
+/// renderer, or a physics engine.
 ///
-/// The program says what is born, by the list that a flush filled. For deaths a `History`
-/// [`Follows`] the entities, as a map does: [despawn](Follows::despawn) through a tuple that has it
-/// too. Ticks are the program's own, as those of [`Tracked`](crate::Tracked).
+/// The program reports what is born, from the list that a flush filled. For deaths, a `History`
+/// [`Follows`] the entities, as a map does: [despawn](Follows::despawn) through a tuple that
+/// includes it. Ticks are the program's own, like those of [`Tracked`](crate::Tracked).
 ///
 /// ```
 /// use forgeni::{Change, Entities, Follows, HandleMap, History};
@@ -67,7 +67,7 @@ pub struct History {
     changes: VecDeque<(u64, Change)>,
     limit: usize,
     tick: u64,
-    /// The last tick of which a change may be missing.
+    /// The last tick with a change that may be missing.
     lost: Option<u64>,
 }
 
@@ -78,7 +78,7 @@ impl History {
         Self::with_limit(usize::MAX)
     }
 
-    /// A list that keeps at most that many changes, the last ones. It takes no memory.
+    /// A list that keeps at most that many changes, the latest ones. It takes no memory.
     ///
     /// ```
     /// use forgeni::{Handle, History};
@@ -105,7 +105,7 @@ impl History {
     }
 
     /// Sets the tick of the changes that follow. Ticks don't go back: one that is less than the
-    /// present one changes nothing.
+    /// current tick changes nothing.
     ///
     /// ```
     /// use forgeni::History;
@@ -119,7 +119,7 @@ impl History {
         self.tick = self.tick.max(tick);
     }
 
-    /// The tick of what comes now.
+    /// The current tick.
     #[must_use]
     pub fn tick(&self) -> u64 {
         self.tick
@@ -156,10 +156,10 @@ impl History {
         self.changes.push_back((self.tick, change));
     }
 
-    /// The changes of this tick and later ones, in their order.
+    /// The changes of this tick and later ones, in order.
     ///
-    /// `None` if the list may lack some of them. Then mirror all that is
-    /// [alive](crate::Entities::iter) anew.
+    /// Returns `None` if the list may lack some of them. Then mirror all [living
+    /// entities](crate::Entities::iter) again.
     ///
     /// ```
     /// use forgeni::{Handle, History};
@@ -182,7 +182,7 @@ impl History {
         (Some(tick) > self.lost).then_some(changes)
     }
 
-    /// Drops the changes before this tick, which nobody needs any more. The room stays.
+    /// Drops the changes before this tick, which are no longer needed. The room stays.
     ///
     /// ```
     /// use forgeni::{Handle, History};
@@ -198,9 +198,9 @@ impl History {
         self.lost = self.lost.max(tick.checked_sub(1));
     }
 
-    /// Begins anew at this tick, for a program that went back to a snapshot or loaded a save, so
-    /// that other entities are alive than were listed. Ticks still go on: for this tick and those
-    /// before it, [`since`](Self::since) returns `None`.
+    /// Starts again at this tick, for a program that went back to a snapshot or loaded a save, so
+    /// that the living entities aren't those that were listed. Ticks still go up: for this tick and
+    /// those before it, [`since`](Self::since) returns `None`.
     ///
     /// ```
     /// use forgeni::{Entities, History};
@@ -225,7 +225,7 @@ impl History {
         self.changes.len()
     }
 
-    /// Whether it has none.
+    /// Whether it has no changes.
     #[must_use]
     pub fn is_empty(&self) -> bool {
         self.changes.is_empty()
@@ -238,7 +238,7 @@ impl Default for History {
     }
 }
 
-/// It lists the death of what it forgets.
+/// Lists the death of what it forgets.
 impl Follows for History {
     fn forget(&mut self, handle: Handle) {
         self.died(handle);

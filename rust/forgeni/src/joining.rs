@@ -1,4 +1,4 @@
-//! Walks over several maps at once. By hand: it uses the calls of each map, and changes none.
+//! Walks over several maps at once. Hand-written: it uses the calls of each map, and changes none.
 
 use crate::handle::Handle;
 use crate::several::{BySlot, SlotsMut};
@@ -23,14 +23,14 @@ pub trait JoinMaps {
     /// A handle, and its value in each of the maps.
     type Item;
 
-    /// The handles that have a value in each of the maps, with their values. The first map may be
-    /// borrowed mutably: its values may be changed.
+    /// The handles that have a value in each of the maps, with their values. The first map can be
+    /// borrowed mutably, and then its values can be changed.
     ///
     /// The walk goes over the first map, in its order, and looks each handle up in the others. If
-    /// another map has less than half as many values, the walk goes over that map instead,
-    /// by rising slot. It takes no memory, unless that map is a `SparseMap`, whose handles it
-    /// lists. If there is no memory for the list, or if the first map is a mutable `SparseMap`, the
-    /// walk goes over the first map anyway.
+    /// another map has less than half as many values, the walk goes over that map instead, in slot
+    /// order. It takes no memory, unless that map is a `SparseMap`, whose handles it lists. If
+    /// there is no memory for the list, or if the first map is a mutable `SparseMap`, the walk goes
+    /// over the first map anyway.
     ///
     /// ```
     /// use forgeni::{HandleMap, JoinMaps};
@@ -51,8 +51,8 @@ pub trait JoinMaps {
     fn join(self) -> impl Iterator<Item = Self::Item>;
 }
 
-/// A map that a walk over several begins with: either map, borrowed, and mutably if its values are
-/// to change. [`JoinMaps::join`] calls what it has.
+/// A map that a walk over several maps begins with: either kind of map, borrowed, and mutably if
+/// its values are to change. [`JoinMaps::join`] calls its methods.
 ///
 /// ```
 /// use forgeni::map::Leads;
@@ -70,7 +70,7 @@ pub trait JoinMaps {
 /// assert_eq!(named(&HandleMap::<u32>::new(), &SparseMap::new()), 0);
 /// ```
 pub trait Leads {
-    /// What the walk gives of a value.
+    /// What the walk returns for a value.
     type Lent;
 
     /// How many values a walk over this map has. A walk goes over another map only if that has less

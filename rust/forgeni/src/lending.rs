@@ -11,7 +11,7 @@ pub(crate) struct Lending<'a, T, P> {
 }
 
 impl<'a, T: Default, P> Lending<'a, T, P> {
-    /// Takes the value apart. If that is refused, the value is back at once.
+    /// Takes the value apart. If that is refused, the value is put back at once.
     pub(crate) fn begin<E>(
         home: &'a mut T,
         apart: impl FnOnce(T) -> Result<P, (T, E)>,
@@ -30,7 +30,7 @@ impl<'a, T: Default, P> Lending<'a, T, P> {
         }
     }
 
-    /// Puts the value back by this closure, and returns what else the closure makes of the parts.
+    /// Puts the value back with this closure, and returns what else the closure makes of the parts.
     pub(crate) fn end<R>(mut self, back: impl FnOnce(P) -> (T, R)) -> R {
         let parts = self.parts.take().expect("they are away until the drop");
         let (value, rest) = back(parts);

@@ -1,4 +1,4 @@
-//! A reserver that is lent, and how anything is.
+//! A reserver that is lent, and how anything is lent.
 
 use crate::threads::{OtherPhase, Reserver};
 use crate::{Handle, Refused, ReserveError};
@@ -32,7 +32,7 @@ pub struct Lent<'a> {
     reserver: &'a mut Reserver,
 }
 
-/// What is lent has these calls, as what it borrows has them, and all that can be read of that.
+/// What is lent has these calls of what it borrows, and everything that can be read from it.
 macro_rules! lends {
     (
         $Lent:ident.$field:ident: $Of:ident;
@@ -48,7 +48,7 @@ macro_rules! lends {
                 ///
                 /// # Errors
                 ///
-                /// As there.
+                /// The same as there.
                 #[inline]
                 pub fn $call(&mut self, $($name: $type),*) -> $returns {
                     self.$field.$call($($name),*)
@@ -56,7 +56,7 @@ macro_rules! lends {
             )*
         }
 
-        /// What can be read of it.
+        /// What can be read from it.
         impl core::ops::Deref for $Lent<'_> {
             type Target = $Of;
 
@@ -84,13 +84,13 @@ lends! {
 }
 
 impl Lent<'_> {
-    /// The same, for less long.
+    /// The same, for a shorter time.
     #[cfg(feature = "std")]
     pub(crate) fn again(&mut self) -> Lent<'_> {
         Lent::of(self.reserver)
     }
 
-    /// As [`Reserver::meet`].
+    /// The same as [`Reserver::meet`].
     ///
     /// ```
     /// use forgeni::{Entities, Refused};
@@ -109,7 +109,7 @@ impl Lent<'_> {
     ///
     /// # Errors
     ///
-    /// As there.
+    /// The same as there.
     #[inline]
     pub fn meet(&mut self, other: &mut Lent<'_>) -> Result<(), OtherPhase> {
         self.reserver.meet(other.reserver)

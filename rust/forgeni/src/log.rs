@@ -1,5 +1,5 @@
-//! Logs: spawns and commands of the caller's own type, which systems note, and a sync point hands
-//! to a closure in the order of the systems.
+//! Logs: spawns and commands of the caller's own type, which systems record, and which a sync point
+//! hands to a closure in the order of the systems.
 //!
 //! A system is a closure over [`LogCommands`](crate::LogCommands), or a type with `run`
 //! ([`LogSystem`](crate::LogSystem)). [`run_to_sync_point`](crate::run_to_sync_point) runs systems

@@ -1,11 +1,11 @@
 //! Maps from handles to components of any type.
 //!
-//! A [`HandleMap`] has a component that most entities have, a [`SparseMap`] one that few have, and
-//! [`tables!`] makes a struct of maps. What implements [`Follows`] drops an entity's values when
-//! the entity is despawned, and [`JoinMaps`] walks over several maps at once. [`Tracked`] values
-//! know when they changed, and a [`History`] lists births and deaths. The modules
-//! [`handle_map`](crate::handle_map) and [`sparse_map`](crate::sparse_map) have entries and
-//! iterators.
+//! A [`HandleMap`] is for a component that most entities have, a [`SparseMap`] for one that few
+//! have, and [`tables!`] makes a struct of maps. Types that implement [`Follows`] drop an entity's
+//! values when the entity is despawned, and [`JoinMaps`] walks over several maps at once.
+//! [`Tracked`] values know when they changed, and a [`History`] lists births and deaths. The
+//! modules [`handle_map`](crate::handle_map) and [`sparse_map`](crate::sparse_map) have the entries
+//! and the iterators.
 
 pub use crate::follows::Follows;
 pub use crate::handle_map::{AnyMap, HandleMap, InsertError};

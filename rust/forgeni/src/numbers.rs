@@ -1,6 +1,6 @@
 //! The numbers that distinguish phases and worlds.
 //!
-//! That no number is given twice is trusted. All that follows from it is proved.
+//! That no number is given twice is trusted. What follows from it is proved.
 
 use core::sync::atomic::{AtomicU64, Ordering};
 

@@ -1,7 +1,7 @@
 //! Frames on the threads of rayon, and walks over maps.
 //!
 //! The thread that calls `rayon::join` runs the first closure, and offers the second one to others.
-//! So the second one here, which offers more, is rayon's first.
+//! So the second closure here, which offers more, is rayon's first.
 
 use crate::frames::Join;
 use crate::handle::Handle;
@@ -118,8 +118,9 @@ pub trait ParJoinMaps {
     /// A handle, and its value in each of the maps.
     type Item: Send;
 
-    /// The handles that have a value in each of the maps, with their values. The first map may be
-    /// borrowed mutably: its values may be changed. The walk goes over the slots of the first map.
+    /// The handles that have a value in each of the maps, with their values. The first map can be
+    /// borrowed mutably, and then its values can be changed. The walk goes over the slots of the
+    /// first map.
     fn par_join(self) -> impl ParallelIterator<Item = Self::Item>;
 }
 

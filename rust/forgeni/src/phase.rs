@@ -34,7 +34,7 @@ impl Entities {
     /// # Ok::<(), Box<dyn std::error::Error + Send + Sync>>(())
     /// ```
     ///
-    /// What `run` returns is handed on, so it can end early by `?`:
+    /// The call returns what `run` returns, so `run` can end early with `?`:
     ///
     /// ```
     /// use forgeni::{Entities, ReserveError};
@@ -51,15 +51,16 @@ impl Entities {
     ///
     /// # Errors
     ///
-    /// As of [`share`](Self::share). `run` isn't called then, and the allocator is as it was.
+    /// The same as for [`share`](Self::share). `run` isn't called then, and the allocator is as it
+    /// was.
     ///
     /// # Panics
     ///
-    /// A panic of `run` is handed on. The allocator is back then too, with all that was reserved.
+    /// A panic in `run` is propagated. The allocator is back even then, with all that was reserved.
     ///
     /// # Aborts
     ///
-    /// As of `share`.
+    /// The same as for `share`.
     pub fn phase<T>(
         &mut self,
         callers: usize,

@@ -11,9 +11,9 @@ use std::sync::{Mutex, MutexGuard, PoisonError, TryLockError};
 use std::thread_local;
 
 /// A pool of reservers, which lends one for as long as a closure takes. It is for task systems,
-/// where it isn't known beforehand which thread runs a task.
+/// where it isn't known in advance which thread runs a task.
 ///
-/// It may be shared by any number of threads. It has no order, and no thread has a reserver of its
+/// It can be shared by any number of threads. It has no order, and no thread has a reserver of its
 /// own. A pool of owned reservers can be kept in an `Arc` or a `static`, and
 /// [`into_inner`](Self::into_inner) gives them back for the close:
 ///
@@ -33,7 +33,7 @@ use std::thread_local;
 /// # Ok::<(), Box<dyn std::error::Error + Send + Sync>>(())
 /// ```
 ///
-/// In a [`phase`](crate::Entities::phase) it is made of those that are lent:
+/// In a [`phase`](crate::Entities::phase), it is made of the reservers that are lent:
 ///
 /// ```
 /// use forgeni::{Entities, Reservers};
@@ -58,8 +58,8 @@ use std::thread_local;
 /// number of the thread, and takes the flag of the reserver with that number, or of the next one
 /// that is free. That is one atomic step for each flag that it looks at. Giving the reserver back
 /// is one step, a fence, and a look at whether a thread waits. The pool has no lock. So a
-/// reservation makes three atomic steps instead of one, and two of them are on a word that only few
-/// threads touch. With as many reservers as running threads, a thread mostly finds the first one
+/// reservation takes three atomic steps instead of one, and two of them are on a word that only few
+/// threads touch. With as many reservers as running threads, a thread usually finds the first one
 /// free.
 ///
 /// If no reserver is free, [`with`](Self::with) sleeps until one is. Threads that sleep are served
@@ -76,9 +76,9 @@ pub struct Reservers<R = Reserver> {
 #[repr(align(128))]
 struct Place<R>(Mutex<R>);
 
-/// What a [`Reservers`] may have: a [`Reserver`], a [`Lent`], or a `&mut` to one of them.
+/// What a [`Reservers`] can hold: a [`Reserver`], a [`Lent`], or a `&mut` to one of them.
 ///
-/// No other type can have it.
+/// No other type can implement it.
 ///
 /// ```
 /// use forgeni::{Entities, Lends, Reservers};
@@ -127,7 +127,7 @@ mod sealed {
 }
 
 impl<R: Lends> Reservers<R> {
-    /// A pool of these reservers, which may be of several phases. There must be at least one.
+    /// A pool of these reservers, which may belong to several phases. There must be at least one.
     ///
     /// ```
     /// use forgeni::{Entities, Reservers};
@@ -159,10 +159,10 @@ impl<R: Lends> Reservers<R> {
     }
 
     /// Lends a reserver to `run`, and returns what `run` returns. If no reserver is free, it waits
-    /// for one, behind the threads that wait already.
+    /// for one, behind the threads that are already waiting.
     ///
     /// A `with` within a `with` takes another reserver. If threads have all reservers and each
-    /// waits for another one, they wait for good. So use [`try_with`](Self::try_with) within a
+    /// waits for another one, they wait forever. So use [`try_with`](Self::try_with) within a
     /// `with`.
     ///
     /// ```
@@ -182,15 +182,15 @@ impl<R: Lends> Reservers<R> {
     ///
     /// # Panics
     ///
-    /// If the pool has no reservers. A panic of `run` is handed on, and the reserver is as good as
+    /// If the pool has no reservers. A panic in `run` is propagated, and the reserver is as good as
     /// before.
     pub fn with<T>(&self, run: impl FnOnce(&mut Lent<'_>) -> T) -> T {
         let mut loan = self.free().unwrap_or_else(|| self.awaited());
         run(&mut loan.reserver.lend())
     }
 
-    /// Lends a reserver to `run`, and returns what `run` returns, or `None` at once if none was
-    /// free, or if the next one is for a thread that waits.
+    /// Lends a reserver to `run`, and returns what `run` returns, or `None` at once if none is
+    /// free, or if the next one is for a waiting thread.
     ///
     /// ```
     /// use forgeni::{Entities, Reservers};
@@ -207,13 +207,13 @@ impl<R: Lends> Reservers<R> {
     ///
     /// # Panics
     ///
-    /// A panic of `run` is handed on, and the reserver is as good as before.
+    /// A panic in `run` is propagated, and the reserver is as good as before.
     pub fn try_with<T>(&self, run: impl FnOnce(&mut Lent<'_>) -> T) -> Option<T> {
         let mut loan = self.free()?;
         Some(run(&mut loan.reserver.lend()))
     }
 
-    /// A free reserver, unless it is owed to a thread that waits.
+    /// A free reserver, unless it is owed to a waiting thread.
     fn free(&self) -> Option<Loan<'_, R>> {
         (!self.waiting.is_overtaken()).then(|| self.found())?
     }
@@ -321,7 +321,7 @@ shows! {
 mod tests {
     use super::*;
 
-    /// Once a thread that waits was overtaken, the next reserver is for it.
+    /// Once a waiting thread has been overtaken, the next reserver is for it.
     #[test]
     fn a_reserver_that_is_owed() {
         let shared = crate::Entities::new().share(1);

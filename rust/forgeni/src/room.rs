@@ -1,5 +1,5 @@
-//! Room for very many things at once, which the package's own calls don't ask for: tests alone. All
-//! memory is there but where a test says so.
+//! Room for very many things at once, which only tests ask for, not the package's own calls. No
+//! allocation fails except where a test says so.
 
 use crate::allocator::{Entities, Limits};
 use crate::components::Storage;
@@ -33,7 +33,7 @@ fn a_storage_with_room_for_2_to_the_24() {
 }
 
 /// Room for 2^31 entities takes more than 100 GB, so it may be refused. Then there is as much room
-/// as before, or more, and fewer entities get theirs.
+/// as before, or more, and fewer entities fit.
 #[test]
 fn a_storage_with_room_for_2_to_the_31() {
     let mut storage = Storage::new();

@@ -1,6 +1,6 @@
 //! Several values of a map lent at once, or all moved out. No contract can say what a map is in the
-//! meantime, so this is by hand, in safe Rust. It changes no slot's generation, and keeps the count
-//! right.
+//! meantime, so this is hand-written, in safe Rust. It changes no slot's generation, and keeps the
+//! count right.
 
 use crate::components::handle_map::slot::Slot;
 use crate::errors::OutOfMemory;
@@ -11,10 +11,11 @@ use core::iter::{Enumerate, FusedIterator, Map};
 use core::ops::Range;
 use core::slice;
 
-/// Slots of a [`HandleMap`], side by side, whose values may be changed. None is added or removed.
+/// Adjacent slots of a [`HandleMap`], whose values can be changed. No value can be added or
+/// removed.
 ///
-/// [`HandleMap::split_at_mut`] makes two, so that two threads can write to one map. It has the
-/// index of the first.
+/// [`HandleMap::split_at_mut`] makes two, so that two threads can write to one map. It stores the
+/// index of the first slot.
 ///
 /// ```
 /// use forgeni::{handle_map, Entities, HandleMap};
@@ -52,8 +53,8 @@ impl<'a, T> SlotsMut<'a, T> {
         self.1..self.1 + self.0.len() as u32
     }
 
-    /// The slots below this one of the map, and the others. So a part can be split again, for more
-    /// threads.
+    /// Splits the part at this slot of the map: the slots below it, and the others. So a part can
+    /// be split again, for more threads.
     ///
     /// ```
     /// use forgeni::{Entities, HandleMap};
@@ -98,7 +99,7 @@ impl<'a, T> SlotsMut<'a, T> {
         (slot.generation() == handle.generation()).then(|| slot.value_mut())
     }
 
-    /// The handles and their values, by rising slot, to be changed.
+    /// The handles and mutable references to their values, in slot order.
     ///
     /// ```
     /// use forgeni::{Entities, HandleMap};
@@ -124,10 +125,10 @@ impl<'a, T> IntoIterator for SlotsMut<'a, T> {
     }
 }
 
-/// The handles of a [`HandleMap`], or of some slots of it, and their values, by rising slot, to be
-/// changed.
+/// The handles of a [`HandleMap`], or of some of its slots, and mutable references to their values,
+/// in slot order.
 ///
-/// [`HandleMap::iter_mut`] makes it.
+/// It is created by [`HandleMap::iter_mut`].
 ///
 /// ```
 /// use forgeni::{Entities, HandleMap};
@@ -177,7 +178,7 @@ impl<T> DoubleEndedIterator for IterMut<'_, T> {
 
 impl<T> FusedIterator for IterMut<'_, T> {}
 
-/// The value of a slot, to be changed. The slots are numbered from this first one on.
+/// The value of a slot, mutably. The slots are numbered from this first one on.
 #[inline]
 fn lent<T>(first: u32, (at, slot): (usize, &mut Slot<T>)) -> Option<(Handle, &mut T)> {
     Some((slot.handle(first + at as u32)?, slot.value_mut()))
@@ -192,14 +193,15 @@ fn seen<T>(first: u32, (at, slot): (usize, &Slot<T>)) -> Option<(Handle, &T)> {
     }
 }
 
-/// Those of these slots that there are.
+/// Those of these slots that exist.
 fn within(slots: Range<u32>, count: usize) -> Range<usize> {
     let end = count.min(slots.end as usize);
     end.min(slots.start as usize)..end
 }
 
 impl<T> HandleMap<T> {
-    /// The handles and their values, by rising slot, to be changed. It takes time for each slot.
+    /// The handles and mutable references to their values, in slot order. It takes time for each
+    /// slot.
     ///
     /// ```
     /// use forgeni::{Handle, HandleMap};
@@ -216,12 +218,12 @@ impl<T> HandleMap<T> {
         self.all_slots().into_iter()
     }
 
-    /// All slots, of which the values may be changed.
+    /// All slots, whose values can be changed.
     pub(crate) fn all_slots(&mut self) -> SlotsMut<'_, T> {
         SlotsMut(&mut self.slots, 0)
     }
 
-    /// The handles of some slots and their values, by rising slot. It takes time for each of these
+    /// The handles of some slots and their values, in slot order. It takes time for each of these
     /// slots.
     ///
     /// ```
@@ -242,7 +244,7 @@ impl<T> HandleMap<T> {
         slots.filter_map(move |it| seen(first, it))
     }
 
-    /// The handles of some slots and their values, by rising slot, to be changed.
+    /// The handles of some slots and mutable references to their values, in slot order.
     ///
     /// ```
     /// use forgeni::{Entities, HandleMap};
@@ -284,8 +286,9 @@ impl<T> HandleMap<T> {
         self.reserve(source.slots.len().saturating_sub(self.slots.len()))
     }
 
-    /// The slots below this one, and the others, so that two threads can write to one map. A part
-    /// gives its values by [`get_mut`](SlotsMut::get_mut) and [`iter_mut`](SlotsMut::iter_mut).
+    /// Splits the map into the slots below this one and the others, so that two threads can write
+    /// to one map. A part gives its values through [`get_mut`](SlotsMut::get_mut) and
+    /// [`iter_mut`](SlotsMut::iter_mut).
     ///
     /// ```
     /// use forgeni::{Handle, HandleMap};
@@ -304,7 +307,7 @@ impl<T> HandleMap<T> {
         self.all_slots().split_at_mut(slot)
     }
 
-    /// Moves all values out, by rising slot. Those that the iterator doesn't reach are dropped with
+    /// Moves all values out, in slot order. Those that the iterator doesn't reach are dropped with
     /// it. The map is empty afterwards, and keeps its room.
     ///
     /// ```
@@ -324,8 +327,8 @@ impl<T> HandleMap<T> {
         })
     }
 
-    /// The values of several handles, to be changed. `None` if one of them has none, or stands here
-    /// twice.
+    /// Mutable references to the values of several handles. Returns `None` if one of them has no
+    /// value, or is passed twice.
     ///
     /// ```
     /// use forgeni::{Handle, HandleMap};
@@ -346,7 +349,7 @@ impl<T> HandleMap<T> {
     }
 }
 
-/// The handles of a map, by rising slot, for a walk over several maps.
+/// The handles of a map, in slot order, for a walk over several maps.
 pub trait BySlot {
     /// All of them.
     fn handles(self) -> impl Iterator<Item = Handle>;
@@ -465,7 +468,7 @@ impl<T> SparseMap<T> {
         Ok(self.positions.try_reserve(slots)?)
     }
 
-    /// The handles and their values, by rising slot. It takes time for each slot.
+    /// The handles and their values, in slot order. It takes time for each slot.
     pub(crate) fn iter_by_slot(&self) -> impl Iterator<Item = (Handle, &T)> {
         let slots = self.positions.iter().zip(0..);
         slots.filter_map(|(at, slot)| {
@@ -474,7 +477,8 @@ impl<T> SparseMap<T> {
         })
     }
 
-    /// The handles and their values, in the order of [`entries`](Self::entries), to be changed.
+    /// The handles and mutable references to their values, in the order of
+    /// [`entries`](Self::entries).
     ///
     /// ```
     /// use forgeni::{Handle, SparseMap};
@@ -509,8 +513,8 @@ impl<T> SparseMap<T> {
         self.entries.drain(..)
     }
 
-    /// The values of several handles, to be changed. `None` if one of them has none, or stands here
-    /// twice.
+    /// Mutable references to the values of several handles. Returns `None` if one of them has no
+    /// value, or is passed twice.
     ///
     /// ```
     /// use forgeni::{Handle, SparseMap};

@@ -1,8 +1,8 @@
-//! What `Debug` shows of types whose fields nobody should see, and of types that have another name
-//! in the package than where they are proved. The erased tests take this file too.
+//! What `Debug` shows for types whose fields nobody should see, and for types that have another
+//! name in the package than where they are proved. The erased tests take this file too.
 
-/// `Debug` of types that show what these calls return, and say that there is more. A type parameter
-/// is in brackets.
+/// `Debug` for types that show what these calls return, and say that there is more. A type
+/// parameter is in brackets.
 macro_rules! shows {
     ($($name:ident $(<$life:lifetime>)? $([$of:ident])?: $($call:ident)*;)*) => {$(
         impl $(<$of>)? core::fmt::Debug for $name<$($life,)? $($of)?> {
@@ -15,7 +15,8 @@ macro_rules! shows {
     )*};
 }
 
-/// An iterator that is shown as what it has left, by this call, and gives nothing after its end.
+/// An iterator whose `Debug` shows what it has left, as this call returns it, and which gives
+/// nothing after its end.
 macro_rules! walks {
     ($shown_by:ident: $name:ty $(, $of:ident $(: $bound:path)?)?) => {
         impl $(<$of>)? core::iter::FusedIterator for $name {}

@@ -1,6 +1,6 @@
-//! Values of any type, for maps in which few handles have one. What is proved of them is in the
-//! contracts of [`SparseMap`]; here are traits of std, and `handle_map` has those that both kinds
-//! of maps have.
+//! Values of any type, for maps in which few handles have one. What is proved about them is in the
+//! contracts of [`SparseMap`]; here are std traits, and `handle_map` has those that both kinds of
+//! map have.
 
 use crate::handle::Handle;
 use crate::shown::shows;
@@ -39,7 +39,7 @@ impl<T> SparseMap<T> {
         self.entries().iter().map(|(_, it)| it)
     }
 
-    /// The handles that have a value, by rising slot, if there is memory for a list of them.
+    /// The handles that have a value, in slot order, if there is memory for a list of them.
     pub(crate) fn sorted(&self) -> Option<vec::IntoIter<Handle>> {
         let mut handles = Vec::new();
         handles.try_reserve_exact(self.len()).ok()?;
@@ -49,7 +49,7 @@ impl<T> SparseMap<T> {
     }
 
     /// Calls `keep` on each value once, from the last entry to the first, and drops the values for
-    /// which it returns `false`. It may change those that stay. The room stays.
+    /// which it returns `false`. It can change those that stay. The room stays.
     ///
     /// ```
     /// use forgeni::{Entities, SparseMap};
@@ -69,8 +69,9 @@ impl<T> SparseMap<T> {
     ///
     /// # Panics
     ///
-    /// A panic of `keep` is handed on. The map then has the values that were kept, those that
-    /// `keep` wasn't called on, and the one on which it panicked, as far as `keep` had changed it.
+    /// A panic in `keep` is propagated. The map then has the values that were kept, those that
+    /// `keep` wasn't called on, and the one on which it panicked, with the changes that `keep` had
+    /// made to it.
     #[inline]
     pub fn retain(&mut self, mut keep: impl FnMut(Handle, &mut T) -> bool) {
         // The last entry takes the place of one that goes. `keep` was called on it before.

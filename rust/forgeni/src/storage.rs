@@ -1,4 +1,4 @@
-//! A storage beside an allocator, and the bundles that entities are given.
+//! A storage next to an allocator, and the bundles that entities are given.
 
 use crate::shown::{shows, walks};
 use alloc::alloc::handle_alloc_error;

@@ -9,10 +9,10 @@ use alloc::sync::Arc;
 use std::sync::{Mutex, PoisonError};
 
 /// Where the handles of a system come from: [`SharedSource`] or [`Blocks`]. As a bound, it lets one
-/// function or system serve both, as at [`LogCommands`].
+/// function or system serve both: see [`LogCommands`].
 pub use crate::allocator::Source;
 pub use crate::commands::{IssuedCommands, SystemCommands};
-/// The source of the systems of [`run_frame`](crate::run_frame) and [`run_logs`](crate::run_logs).
+/// The source for systems of [`run_frame`](crate::run_frame) and [`run_logs`](crate::run_logs).
 pub use crate::reserving::SharedSource;
 pub use crate::running::{LogSystem, System};
 
@@ -128,8 +128,8 @@ pub fn system<F: Fn(&View<'_>, &mut SystemCommands<'_>) -> Ran>(run: F) -> F {
     run
 }
 
-/// Systems of a kind: closures, those in a `Mutex`, which change what they borrow, and systems
-/// behind pointers, so that several types go into one list.
+/// Several kinds of systems: closures, those in a `Mutex`, which change what they borrow, and
+/// systems behind pointers, so that several types go into one list.
 macro_rules! systems {
     ([$($of:tt)*] $kind:path, $($with:ident: $type:ty),*) => {
         impl<$($of)*, F: Fn($($type),*) -> Ran> $kind for F {

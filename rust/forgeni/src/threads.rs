@@ -1,7 +1,7 @@
 //! Threads that reserve at once: an allocator is [shared](crate::Entities::share) among
-//! [`Reserver`]s, each of which may go to a thread of its own, and [`Shared::close`] gives it back.
-//! [`Entities::phase`](crate::Entities::phase) lends them to a closure, and a pool of [`Reservers`]
-//! serves threads that come and go.
+//! [`Reserver`]s, each of which can go to a thread of its own, and [`Shared::close`] gives the
+//! allocator back. [`Entities::phase`](crate::Entities::phase) lends them to a closure, and a pool
+//! of [`Reservers`] serves threads that come and go.
 
 use crate::numbers::next_number;
 use crate::phase::closed;

@@ -1,9 +1,9 @@
-//! Whether another allocator answers as the proved one does.
+//! Checks whether another allocator answers as the proved one does.
 //!
 //! If you already have an allocator of this kind, you can keep it and check it: record its calls
 //! and answers, and feed them to a [`Checker`]. Calls that don't overlap others go in one by one.
 //! Reservations of threads go in as a *run*, each caller's in its own order: the checker finds an
-//! order in which the allocator may have given these answers, or reports that there is none.
+//! order in which the allocator could have given these answers, or reports that there is none.
 //!
 //! ```
 //! use forgeni::trace::{Checker, FreeReply, Reservation};
@@ -35,10 +35,10 @@
 //! # What is proved
 //!
 //! The checker is sound and complete. If no call fails and the end doesn't either, the trace
-//! agrees: a sequential allocator may have given these answers, in an order that keeps each
+//! agrees: a sequential allocator could have given these answers, in an order that keeps each
 //! caller's own. If a call differs, no trace that begins like this agrees, in whatever order its
-//! reservations came. The contracts of [`Checker::call`] and [`Checker::finish`] say so, call by
-//! call.
+//! reservations came. The contracts of [`Checker::call`] and [`Checker::finish`] state this, call
+//! by call.
 
 use crate::errors::OutOfMemory;
 use crate::handle::Handle;

@@ -1,15 +1,15 @@
-//! Values that know when they were last changed. By hand: a value and a number.
+//! Values that know when they were last changed. Hand-written: a value and a number.
 
 use crate::handle::Handle;
 use crate::{HandleMap, SparseMap};
 use core::fmt;
 use core::ops::Deref;
 
-/// A value, and the tick at which it was last lent to be changed.
+/// A value, and the tick at which it was last lent mutably.
 ///
-/// A *tick* is a number of the program's own, as that of its frame, and goes up. A system that
-/// keeps the first tick that it hasn't seen walks over what changed since: Bevy's `Changed`. A map
-/// of other values pays nothing for it, and a `Tracked` is read as its value.
+/// A *tick* is a number of the program's own, such as that of its frame, and goes up. A system that
+/// keeps the first tick that it hasn't seen walks over what has changed since, as with Bevy's
+/// `Changed`. A map of other values pays nothing for it, and a `Tracked` is read as its value.
 ///
 /// ```
 /// use forgeni::{Handle, HandleMap, Tracked};
@@ -23,14 +23,14 @@ use core::ops::Deref;
 /// assert_eq!(*places[ball] + *places[cart], 8);
 /// ```
 ///
-/// A tick has 64 bits and doesn't wrap around: one each nanosecond is enough for 584 years. If the
+/// A tick has 64 bits and doesn't wrap around: one every nanosecond lasts for 584 years. If the
 /// program goes back to a snapshot, the values have the ticks that they had then. The program's
-/// ticks go on, and whatever was kept up to date by `changed_since` has to be made anew, once, from
-/// all values, as after [`History::restart`](crate::History::restart).
+/// ticks go on, and whatever was kept up to date by `changed_since` has to be rebuilt once from all
+/// values, as after [`History::restart`](crate::History::restart).
 #[derive(Clone, Copy, Default, PartialEq, Eq, Hash)]
 pub struct Tracked<T> {
     value: T,
-    /// In bytes, so that the whole is aligned as the value is, and takes no more room.
+    /// In bytes, so that the whole has the alignment of the value, and takes no more room.
     tick: [u8; 8],
 }
 
@@ -42,8 +42,7 @@ impl<T> Tracked<T> {
         Self { value, tick }
     }
 
-    /// Lends the value to be changed, at this tick. It counts as changed even if nothing is
-    /// written.
+    /// Lends the value mutably, at this tick. It counts as changed even if nothing is written.
     ///
     /// ```
     /// use forgeni::Tracked;
@@ -58,7 +57,7 @@ impl<T> Tracked<T> {
         &mut self.value
     }
 
-    /// Writes a value at this tick if it differs from the present one, and returns whether it did:
+    /// Writes a value at this tick if it differs from the current one, and returns whether it did:
     /// Bevy's `set_if_neq`.
     ///
     /// ```
@@ -71,7 +70,7 @@ impl<T> Tracked<T> {
     ///
     /// # Panics
     ///
-    /// A panic of the comparison is handed on, and nothing has changed.
+    /// A panic in the comparison is propagated, and nothing has changed.
     #[inline]
     pub fn set_if_neq(&mut self, value: T, tick: u64) -> bool
     where
@@ -84,7 +83,7 @@ impl<T> Tracked<T> {
         differs
     }
 
-    /// Lends the value to be changed, and keeps the tick: Bevy's `bypass_change_detection`.
+    /// Lends the value mutably, and keeps the tick: Bevy's `bypass_change_detection`.
     ///
     /// ```
     /// use forgeni::Tracked;
@@ -98,7 +97,7 @@ impl<T> Tracked<T> {
         &mut self.value
     }
 
-    /// The tick at which the value was made, or last lent to be changed.
+    /// The tick at which the value was made, or last lent mutably.
     #[inline]
     #[must_use]
     pub fn tick(&self) -> u64 {
@@ -140,8 +139,7 @@ macro_rules! lists_changes {
     ($Map:ident) => {
         impl<T> $Map<Tracked<T>> {
             /// The handles and their values, in the order of [`iter`](Self::iter), for each value
-            /// that is new or was lent to be changed at this tick or later. It takes time for each
-            /// value.
+            /// that was made or lent mutably at this tick or later. It takes time for each value.
             ///
             /// ```
             /// use forgeni::{Handle, HandleMap, Tracked};

@@ -1,4 +1,4 @@
-//! Without the standard library nothing catches a panic, so systems run as they are.
+//! Without the standard library, nothing catches a panic, so systems run as they are.
 
 use core::convert::Infallible;
 

@@ -18,8 +18,8 @@ pub(crate) struct Waiting {
 
 const ROOMS: usize = 16;
 
-/// The numbers of the thread that is served next, and of the one that comes next. They never begin
-/// again: no machine counts to 2^64.
+/// The numbers of the thread that is served next, and of the one that comes next. They never wrap
+/// around: no machine counts to 2^64.
 struct Queue {
     first: u64,
     next: u64,
@@ -36,15 +36,15 @@ impl Waiting {
         }
     }
 
-    /// Whether the first thread that waits was woken and found nothing, since a thread that didn't
-    /// wait was faster. Then whoever comes has to wait too.
+    /// Whether the first waiting thread was woken and found nothing, since a thread that didn't
+    /// wait was faster. Then every thread that comes has to wait too.
     #[inline]
     pub(crate) fn is_overtaken(&self) -> bool {
         self.overtaken.load(Ordering::Relaxed)
     }
 
-    /// Returns what `look` finds, when all threads that came before have found something. Sleeps as
-    /// long as `look` finds nothing, and looks again whenever it is woken.
+    /// Returns what `look` finds, once all threads that came before have found something. Sleeps
+    /// while `look` finds nothing, and looks again whenever it is woken.
     pub(crate) fn until<T>(&self, look: impl Fn() -> Option<T>) -> T {
         let mut queue = self.queue();
         let own = queue.next;
@@ -74,7 +74,7 @@ impl Waiting {
         found
     }
 
-    /// Something was given back: wakes the first thread that waits, which looks again.
+    /// Something was given back: wakes the first waiting thread, which looks again.
     #[inline]
     pub(crate) fn wake_one(&self) {
         // One of the two fences comes first. So this thread sees the count, or the waiting thread

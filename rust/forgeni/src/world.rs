@@ -1,9 +1,9 @@
-//! Worlds: entities with numbered components of 64 bits, the birth of each, and the commands that
+//! Worlds: entities with numbered 64-bit components, the birth of each, and the commands that
 //! systems issue.
 //!
-//! A [`World`] has it all. Its systems run in [`frames`](crate::frames), or on threads of the
-//! caller's own, by [`World::phase`] or [`World::open`]. A [`Storage`] keeps such components beside
-//! an allocator of the caller's.
+//! A [`World`] has all of these. Its systems run in [`frames`](crate::frames), or on threads of the
+//! caller's own, with [`World::phase`] or [`World::open`]. A [`Storage`] keeps such components
+//! beside an allocator of the caller's.
 
 use crate::numbers::next_number;
 use crate::phases::new_world;

@@ -33,16 +33,16 @@ impl World {
     ///
     /// # Errors
     ///
-    /// As of [`open`](Self::open). `run` isn't called then, and the world is as it was.
+    /// The same as for [`open`](Self::open). `run` isn't called then, and the world is as it was.
     ///
     /// # Panics
     ///
-    /// A panic of `run` is handed on. The world is back then too, with all that was reserved, and
+    /// A panic in `run` is propagated. The world is back even then, with all that was reserved, and
     /// no command takes effect.
     ///
     /// # Aborts
     ///
-    /// As of `open`.
+    /// The same as for `open`.
     pub fn phase<T>(
         &mut self,
         count: usize,

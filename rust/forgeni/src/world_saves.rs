@@ -1,5 +1,5 @@
-//! Worlds: snapshots, saves and phases. A page of a type has its `impl` blocks in the order of the
-//! modules, and these come after what a world does every day.
+//! Worlds: snapshots, saves and phases. The page of a type has its `impl` blocks in the order of
+//! the modules, and these come after the everyday calls of a world.
 
 use crate::numbers::next_number;
 use crate::phases::{clone_world, clone_world_from};
@@ -12,10 +12,10 @@ use alloc::vec::Vec;
 /// # Snapshots
 impl World {
     /// Another world in the same state: the same entities are alive, with the same births and
-    /// components, the same handles are reserved, and the same calls return the same. From then on
-    /// the two are independent.
+    /// components, the same handles are reserved, and the same calls return the same results. From
+    /// then on the two are independent.
     ///
-    /// Neither takes the queues of the other's phases: [`SyncError::OtherWorld`].
+    /// Neither accepts queues from the other's phases: [`SyncError::OtherWorld`].
     ///
     /// ```
     /// use forgeni::World;
@@ -30,7 +30,7 @@ impl World {
     ///
     /// # Errors
     ///
-    /// [`OutOfMemory`], but never if no entity was ever alive.
+    /// [`OutOfMemory`], but not if no entity was ever alive.
     ///
     /// [`SyncError::OtherWorld`]: crate::SyncError::OtherWorld
     pub fn try_clone(&self) -> Result<Self, OutOfMemory> {
@@ -70,17 +70,17 @@ impl World {
 
 /// # Saves
 impl World {
-    /// The world whose image these bytes are, all of them.
+    /// The world whose image is all of these bytes.
     ///
-    /// The bytes may come from anywhere. Each image that [`write_image`](Self::write_image) writes
-    /// is read as the same world, which gives no handle that was given before. It refuses the
-    /// queues of phases that were opened before: [`SyncError::OtherWorld`]. Bytes that are the
-    /// image of no world are refused. The call takes at most eight bytes of memory for each byte,
-    /// and 16 KiB. It takes none before it has compared the number of slots with the length of the
-    /// allocator's part.
+    /// The bytes may come from anywhere. An image that [`write_image`](Self::write_image) wrote is
+    /// read as the same world, which gives no handle that was given before. It refuses the queues
+    /// of phases that were opened before: [`SyncError::OtherWorld`]. Bytes that are the image of no
+    /// world are refused. The call takes at most eight bytes of memory for each byte, plus 16 KiB.
+    /// It takes none before it has compared the number of slots with the length of the allocator's
+    /// part.
     ///
-    /// A forged image can make the next [`flush`](Self::flush) take all memory, since it may say
-    /// that each of 2^32 - 1 slots is reserved. For bytes from a stranger there is
+    /// A forged image can make the next [`flush`](Self::flush) take all memory, since it can say
+    /// that each of 2^32 - 1 slots is reserved. For untrusted bytes, use
     /// [`read_image_within`](Self::read_image_within).
     ///
     /// ```
@@ -96,21 +96,21 @@ impl World {
     ///
     /// # Errors
     ///
-    /// Each but [`Memory`](WorldImageFault::Memory) means that these bytes are not the image of any
-    /// world, and names the first fault in them.
+    /// Each error except [`Memory`](WorldImageFault::Memory) means that these bytes aren't the
+    /// image of any world, and names the first fault in them.
     ///
     /// [`SyncError::OtherWorld`]: crate::SyncError::OtherWorld
     pub fn read_image(bytes: &[u8]) -> Result<Self, WorldImageFault> {
         read_world(bytes, next_number())
     }
 
-    /// The world whose image these bytes are, if it has at most `most` slots after its next
+    /// The world whose image is these bytes, if it has at most `most` slots after its next
     /// [`flush`](Self::flush).
     ///
-    /// The image of a world may say that 4,294,967,295 handles are reserved. `read_image` reads it,
-    /// and the next flush brings them to life. So this is the call for bytes from a stranger: it
-    /// takes no more memory than `read_image`, and the next flush no more than `most` slots and
-    /// `most` entities do.
+    /// The image of a world can say that 4,294,967,295 handles are reserved. `read_image` reads it,
+    /// and the next flush brings them to life. So this is the call for untrusted bytes: it takes no
+    /// more memory than `read_image`, and the next flush no more than `most` slots and `most`
+    /// entities do.
     ///
     /// ```
     /// use forgeni::{World, WorldImageFault};
@@ -137,7 +137,7 @@ impl World {
 
 /// # Opening it
 impl World {
-    /// Opens the world for `count` systems, 1 to 1,024, each with its [`Commands`]. They may go to
+    /// Opens the world for `count` systems, 1 to 1,024, each with its [`Commands`]. They can go to
     /// other threads. [`OpenWorld::close`] gives the world back, with the queues of the systems.
     ///
     /// ```
@@ -163,7 +163,7 @@ impl World {
     ///
     /// # Errors
     ///
-    /// [`HandedBack`] has the world as it was, and the first of these errors that holds:
+    /// [`HandedBack`] has the world as it was, and the first of these errors that applies:
     /// [`ShareError::NeedsFlush`], [`ShareError::Count`], [`ShareError::Memory`].
     ///
     /// # Aborts
@@ -184,7 +184,7 @@ impl World {
     /// its handles depend on no other caller, and on no thread. A block is smaller where the world
     /// has no more handles. [`WorldInBlocks::close`] gives the world back.
     ///
-    /// Callers may be systems: with the feature `std`, `run_frame_in_blocks` runs them, and
+    /// Callers can be systems: with the feature `std`, `run_frame_in_blocks` runs them, and
     /// `fill_in_blocks` runs them and says how much of its block each used.
     ///
     /// ```
