@@ -619,7 +619,7 @@ ghost     = -('pub'? 'ghost' ('use' UNTIL_SEMICOLON | NAME (':' CLAUSE)? ('=' CL
 use       = visible? 'use' PREFIX ('{' leaf% '}' | leaf) ';'
 leaf      = NAME ('as' NAME)?
 module    = visible? 'mod' DECLARED ';'
-constant  = visible? ('const' CONSTANT ':' type ('=' expression)? | 'type' CONSTANT generics ('=' type)?) ';'
+constant  = visible? ('const' CONSTANT ':' type ('=' expression)? | 'type' CONSTANT generics bounds ('=' type)?) ';'
 attribute = -('#' '[' (('tactic' | 'cycle') group | 'error' '(' ERROR ')') ']') | '#' '[' kept ']'
 kept      = 'derive' '(' derived% ')' | 'inline' ('(' ('always' | 'never') ')')? | 'cold' | 'must_use' ('=' STR)? | 'non_exhaustive'
 derived   = 'Clone' | 'Copy' | 'Debug' | 'Default' | 'Eq' | 'Hash' | 'PartialEq' | -NO_DERIVE

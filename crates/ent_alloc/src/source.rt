@@ -1,4 +1,5 @@
-ghost use Rattle.std.specs.Prelude.{◌≡◌, ℕ, Result, List, IfOk, IfErr, OnSome, length, true};
+ghost use Rattle.std.specs.Prelude.{◌≡◌, ◌↔◌, ℕ, Result, List};
+ghost use Rattle.std.specs.Prelude.{IfOk, IfErr, OnOk, OnSome, IsTrue, length, true};
 ghost use Rattle.std.specs.FinSet as set;
 ghost use Rattle.std.specs.FinMap as map;
 ghost use Rattle.ent_handle.specs.Handle.{Handle as HandleValue, handle_cmp};
@@ -16,7 +17,7 @@ use ent_handle::Handle;
 /// source it is, it is one type of systems.
 pub trait Source {
     /// With what a caller reserves.
-    type Reserver;
+    type Reserver: Drop;
 
     /// Whether it serves a reserver: the reserver is of this phase.
     ghost serves: { Self → Self.Reserver → Type 0 };
@@ -24,6 +25,9 @@ pub trait Source {
     /// The reserver before and after a request for so many handles, and the reply.
     ghost may_reply: { Self → Self.Reserver → Self.Reserver → ℕ
         → Result (List HandleValue) Refusal → Type 0 };
+
+    /// Whether a request for so many handles may be served.
+    ghost may_give: { Self → Self.Reserver → ℕ → Type 0 };
 
     /// The allocator as the phase was opened.
     ghost start: { Self → Allocator };
@@ -40,6 +44,11 @@ pub trait Source {
     fn had_row(&self, handle: Handle) -> Option<u32>
         ensures value { result ≡ map.get (rows self.now) handle }
         ensures alive { OnSome result (set.contains (start self.now).live handle ≡ true) };
+
+    /// Whether a request for `n` handles may be served. If not, it is refused. It takes constant
+    /// time.
+    fn may_serve(&self, reserver: &Self::Reserver, n: u32) -> bool
+        ensures { IsTrue result ↔ may_give self.now reserver.now n };
 
     /// Reserves one handle.
     ///
@@ -62,5 +71,6 @@ pub trait Source {
         ensures stays { serves self.now reserver.new }
         ensures replies { may_reply self.now reserver.old reserver.new n result }
         ensures length { IfOk result (λ handles. length handles ≡ n) }
+        ensures enough { OnOk result (may_give self.now reserver.old n) }
         ensures wanted { IfErr result (SaysWanted n) };
 }

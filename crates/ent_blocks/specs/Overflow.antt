@@ -1,6 +1,6 @@
 -- Blocks whose callers may go past them: what is requested past a block comes from one cursor that
 -- all share, and that begins behind the last block.
-use Rattle.std.specs.Prelude.{◌≡◌, ℕ, zero, suc, ◌+◌, ◌<◌, ◌≤◌, pos, ◌-ℤ◌, ◌≤ℤ◌, ◌==◌}
+use Rattle.std.specs.Prelude.{◌≡◌, ℕ, zero, suc, ◌+◌, ◌<◌, ◌≤◌, pos, ◌-ℤ◌, ◌≤ℤ◌, ◌==◌, ◌⊎◌}
 use Rattle.std.specs.Prelude.{if◌then◌else◌, List, [], ◌∷◌, length, map, take, drop, refl}
 use Rattle.std.specs.Prelude.{Result, Ok, Err}
 use Rattle.std.specs.List.{All, Contains}
@@ -79,6 +79,12 @@ pub record IsServed (phase : Overflow) (before after : Caller) (n : ℕ)
       → (reply ≡ Err (Quota before.past.own.left)) × (after ≡ before)
   pub past : left_of before.block < n → n ≤ before.past.own.left
       → (after.block ≡ before.block) × Reserves phase.shared before.past after.past n reply
+
+-- A request for n handles may be served: the block has so many left, or the quota and the pool, as it
+-- was when the phase was opened.
+abbrev pub MayBeServed : Overflow → Caller → ℕ → Type 0
+MayBeServed phase c n = (n ≤ left_of c.block)
+    ⊎ ((n ≤ c.past.own.left) × (n ≤ length phase.shared.start.pool))
 
 -- what lies behind all blocks
 abbrev pub behind_blocks : Overflow → List Handle

@@ -482,6 +482,7 @@ pub fn reserve_iter<'b, J: BlockNumbering>(
     ensures given { IfOk result (λ handles. handles ≡ listed blocks.now.phase.start.made
         (take n (rest_of blocks.now.phase.start.pool reserver.old.block))) }
     ensures length { IfOk result (λ handles. length handles ≡ n) }
+    ensures enough { OnOk result (n ≤ reserver.old.block.size - reserver.old.block.used) }
     ensures ok { OnOk result (reserver.new ≡ record reserver.old {
       block = after_use reserver.old.block n;
     }) }

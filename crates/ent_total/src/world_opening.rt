@@ -9,7 +9,7 @@ ghost use Rattle.ent_total.specs.declared.share_error.ShareError.TheVariants.{Ne
 use crate::commands::Commands;
 use crate::numbering::Numbering;
 use crate::open_world::OpenWorld;
-use crate::opening::CALLERS;
+use crate::sharing::CALLERS;
 use crate::share_error::ShareError;
 use crate::world::World;
 use ent_handle::HandedBack;

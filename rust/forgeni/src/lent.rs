@@ -1,7 +1,7 @@
 //! A reserver that is lent, and how anything is.
 
-use crate::sharing::{OtherPhase, Reserver};
-use crate::{Handle, Refused, ReserveError};
+use crate::sharing::{OtherPhase, Phased, Reserver};
+use crate::{Handle, Refused, ReserveError, SharedSource};
 use alloc::vec::Vec;
 
 /// A [`Reserver`] that is lent by a [`phase`](crate::Entities::phase) or by a pool of reservers. It
@@ -9,15 +9,18 @@ use alloc::vec::Vec;
 ///
 /// The borrower can neither keep the reserver nor replace it. So the phase has all of them at its
 /// end, even if a `Lent` is dropped or forgotten.
-pub struct Lent<'a> {
-    reserver: &'a mut Reserver,
+pub struct Lent<'a, S: Phased = SharedSource> {
+    reserver: &'a mut Reserver<S>,
 }
 
 /// What is lent has these calls, as what it borrows has them, and all that can be read of that.
 macro_rules! lends {
-    ($Lent:ident.$field:ident: $Of:ident; $($call:ident($($name:ident: $type:ty),*) -> $returns:ty;)*) => {
-        impl<'a> $Lent<'a> {
-            pub(crate) fn of($field: &'a mut $Of) -> Self {
+    (
+        $Lent:ident.$field:ident: $Of:ident $([$S:ident: $Bound:path])?;
+        $($call:ident($($name:ident: $type:ty),*) -> $returns:ty;)*
+    ) => {
+        impl<'a $(, $S: $Bound)?> $Lent<'a $(, $S)?> {
+            pub(crate) fn of($field: &'a mut $Of $(<$S>)?) -> Self {
                 Self { $field }
             }
 
@@ -35,16 +38,19 @@ macro_rules! lends {
         }
 
         /// What can be read of it.
-        impl core::ops::Deref for $Lent<'_> {
-            type Target = $Of;
+        impl $(<$S: $Bound>)? core::ops::Deref for $Lent<'_ $(, $S)?> {
+            type Target = $Of $(<$S>)?;
 
             #[inline]
-            fn deref(&self) -> &$Of {
+            fn deref(&self) -> &Self::Target {
                 self.$field
             }
         }
 
-        impl core::fmt::Debug for $Lent<'_> {
+        impl $(<$S: $Bound>)? core::fmt::Debug for $Lent<'_ $(, $S)?>
+        where
+            $Of $(<$S>)?: core::fmt::Debug,
+        {
             fn fmt(&self, out: &mut core::fmt::Formatter<'_>) -> core::fmt::Result {
                 self.$field.fmt(out)
             }
@@ -55,19 +61,21 @@ macro_rules! lends {
 pub(crate) use lends;
 
 lends! {
-    Lent.reserver: Reserver;
+    Lent.reserver: Reserver[S: Phased];
     reserve() -> Result<Handle, Refused>;
     reserve_many(n: u32) -> Result<Vec<Handle>, ReserveError>;
     reserve_into(handles: &mut Vec<Handle>, n: u32) -> Result<(), ReserveError>;
 }
 
-impl Lent<'_> {
+impl<S: Phased> Lent<'_, S> {
     /// The same, for less long.
     #[cfg(feature = "std")]
-    pub(crate) fn again(&mut self) -> Lent<'_> {
+    pub(crate) fn again(&mut self) -> Lent<'_, S> {
         Lent::of(self.reserver)
     }
+}
 
+impl Lent<'_> {
     /// As [`Reserver::meet`].
     ///
     /// # Errors

@@ -84,7 +84,7 @@ pub use reservers::{Lends, Reservers};
 #[cfg(feature = "serde")]
 #[doc(hidden)]
 pub use serde_impls::for_tables;
-pub use sharing::{CloseError, OtherPhase, Reserver, ShareError, Shared};
+pub use sharing::*;
 pub use sparse_map::SparseMap;
 pub use storage::{Bundle, Items, Storage, StorageError};
 pub use sync::{Fault, FaultKind, GoOnError, Queues, Report, Stop, Stopped, SyncError};

@@ -1,12 +1,13 @@
 //! Logs and their sync points: what their proved sources can't have.
 
 use crate::lent::Lent;
+use crate::sharing::Phased;
 use crate::{Handle, Refused};
 use core::fmt;
 
 pub use crate::proved::ent_log::{BeginError, Entry, Log, Reserves, SyncPoint};
 
-impl Reserves for Lent<'_> {
+impl<S: Phased> Reserves for Lent<'_, S> {
     #[inline]
     fn reserve_one(&mut self) -> Result<Handle, Refused> {
         self.reserve()

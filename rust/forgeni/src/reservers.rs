@@ -1,7 +1,7 @@
 //! A pool of reservers, for threads that come and go.
 
 use crate::lent::Lent;
-use crate::sharing::Reserver;
+use crate::sharing::{Phased, Reserver};
 use crate::shown::shows;
 use crate::waiting::Waiting;
 use crate::{HandedBack, OutOfMemory};
@@ -74,7 +74,8 @@ pub struct Reservers<R = Reserver> {
 #[repr(align(128))]
 struct Place<R>(Mutex<R>);
 
-/// What a [`Reservers`] may have: a [`Reserver`], a [`Lent`], or a `&mut` to one of them.
+/// What a [`Reservers`] may have: a [`Reserver`], a [`Lent`], or a `&mut` to one of them, of any
+/// [source](Phased).
 ///
 /// No other type can have it.
 pub trait Lends: sealed::Lends {}
@@ -82,29 +83,37 @@ pub trait Lends: sealed::Lends {}
 impl<R: sealed::Lends> Lends for R {}
 
 mod sealed {
-    use super::{Lent, Reserver};
+    use super::{Lent, Phased, Reserver};
 
     pub trait Lends {
-        fn lend(&mut self) -> Lent<'_>;
+        type Source: Phased;
+
+        fn lend(&mut self) -> Lent<'_, Self::Source>;
     }
 
-    impl Lends for Reserver {
+    impl<S: Phased> Lends for Reserver<S> {
+        type Source = S;
+
         #[inline]
-        fn lend(&mut self) -> Lent<'_> {
+        fn lend(&mut self) -> Lent<'_, S> {
             Lent::of(self)
         }
     }
 
-    impl Lends for Lent<'_> {
+    impl<S: Phased> Lends for Lent<'_, S> {
+        type Source = S;
+
         #[inline]
-        fn lend(&mut self) -> Lent<'_> {
+        fn lend(&mut self) -> Lent<'_, S> {
             self.again()
         }
     }
 
     impl<R: Lends> Lends for &mut R {
+        type Source = R::Source;
+
         #[inline]
-        fn lend(&mut self) -> Lent<'_> {
+        fn lend(&mut self) -> Lent<'_, R::Source> {
             (**self).lend()
         }
     }
@@ -141,7 +150,7 @@ impl<R: Lends> Reservers<R> {
     ///
     /// If the pool has no reservers. A panic of `run` is handed on, and the reserver is as good as
     /// before.
-    pub fn with<T>(&self, run: impl FnOnce(&mut Lent<'_>) -> T) -> T {
+    pub fn with<T>(&self, run: impl FnOnce(&mut Lent<'_, R::Source>) -> T) -> T {
         let mut loan = self.free().unwrap_or_else(|| self.awaited());
         run(&mut loan.reserver.lend())
     }
@@ -152,7 +161,7 @@ impl<R: Lends> Reservers<R> {
     /// # Panics
     ///
     /// A panic of `run` is handed on, and the reserver is as good as before.
-    pub fn try_with<T>(&self, run: impl FnOnce(&mut Lent<'_>) -> T) -> Option<T> {
+    pub fn try_with<T>(&self, run: impl FnOnce(&mut Lent<'_, R::Source>) -> T) -> Option<T> {
         let mut loan = self.free()?;
         Some(run(&mut loan.reserver.lend()))
     }

@@ -21,10 +21,10 @@ impl fmt::Debug for Report {
 }
 
 /// `Debug` of types that show what these calls return, and say that there is more. A type parameter is in
-/// brackets.
+/// brackets, and a type for one in parentheses.
 macro_rules! shows {
-    ($($name:ident $(<$life:lifetime>)? $([$of:ident])?: $($call:ident)*;)*) => {$(
-        impl $(<$of>)? core::fmt::Debug for $name<$($life,)? $($of)?> {
+    ($($name:ident $(<$life:lifetime>)? $([$of:ident $(: $bound:path)?])? $(($is:ty))?: $($call:ident)*;)*) => {$(
+        impl $(<$of $(: $bound)?>)? core::fmt::Debug for $name<$($life,)? $($of)? $($is)?> {
             fn fmt(&self, out: &mut core::fmt::Formatter<'_>) -> core::fmt::Result {
                 out.debug_struct(stringify!($name))
                     $(.field(stringify!($call), &self.$call()))*

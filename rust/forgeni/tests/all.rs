@@ -5,6 +5,7 @@
 mod common;
 mod worlds;
 
+mod behind_blocks;
 #[cfg(feature = "std")]
 mod block_frames;
 mod blocks;

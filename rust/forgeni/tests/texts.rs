@@ -205,10 +205,7 @@ fn values_of_an_allocator() {
     reservers[1].reserve_many(3).expect("handles");
     let text = "Reserver { number: 1, quota_left: 1099511627773, .. }";
     debugs([
-        (
-            &shared as &dyn Debug,
-            "Shared { count: 2, returned: 0, .. }",
-        ),
+        (&shared as &dyn Debug, "Phase { count: 2, returned: 0, .. }"),
         (&reservers[1], text),
     ]);
     let phase = Entities::new().phase(2, |_, lent| {

@@ -10,6 +10,7 @@ ghost use Rattle.ent_blocks.specs.Overflow.{AreUsedOf};
 use crate::closing::take_used;
 use crate::part::Part;
 use ent_alloc::Entities;
+use ent_handle::{HandedBack, Memory};
 use std::alloc::Global;
 use std::marker::Model;
 
@@ -75,6 +76,14 @@ impl Ended {
         self.requested
     }
 
+    /// The allocator as the phase was opened: nothing is reserved.
+    pub fn cancel(self) -> Entities
+        ensures allocator { result.allocator ≡ self.phase.start }
+        ensures rows { result.rows ≡ self.phase.rows }
+    {
+        self.entities
+    }
+
     /// The allocator, in which what was used is reserved: a flush brings it to life. What is left of
     /// the blocks can be given again, and comes before all that nobody got.
     ///
@@ -82,9 +91,9 @@ impl Ended {
     ///
     /// # Errors
     ///
-    /// The same phase, if an allocation fails, and for no other reason. It can be tried again. A
-    /// phase without blocks in which nothing came from the shared cursor takes no memory.
-    pub fn into_entities(self, alloc: Global) -> Result<Entities, Self>
+    /// [`HandedBack`] has the same, if an allocation fails, and for no other reason. It can be tried
+    /// again. A phase without blocks in which nothing came from the shared cursor takes no memory.
+    pub fn into_entities(self, alloc: Global) -> Result<Entities, HandedBack<Self, Memory>>
         ensures after { IfOk result (λ entities. entities.allocator
             ≡ after_blocks self.phase.start self.phase.blocks) }
         ensures rows { IfOk result (λ entities. entities.rows ≡ self.phase.rows) }
@@ -100,7 +109,7 @@ impl Ended {
         ensures brings_to_life { IfOk result (λ entities. (h : HandleValue) →
             IsLive (after_flush entities.allocator) h
             ↔ (IsLive self.phase.start h ⊎ Contains entities.allocator.taken h)) }
-        ensures handed_back { IfErr result (λ ended. ended ≡ self) }
+        ensures handed_back { IfErr result (λ h. h.value ≡ self) }
 
         // Without a block there is nothing to allocate. If there is one, only a test shows that
         // ending succeeds.
@@ -112,7 +121,8 @@ impl Ended {
             requested,
         } = self;
         let Ok(()) = take_used(alloc, &mut entities, &parts) else {
-            return Err(Ended::new(entities, parts, requested));
+            let ended = Ended::new(entities, parts, requested);
+            return Err(HandedBack::new(ended, Memory));
         };
         Ok(entities)
     }

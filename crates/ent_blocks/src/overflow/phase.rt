@@ -1,6 +1,6 @@
 ghost use Rattle.std.specs.Prelude.{◌≡◌, ◌≢◌, ◌+◌, ◌-◌, ◌*◌, ◌<◌, ◌≤◌, ◌<ℤ◌, ◌↔◌, ◌++◌, [], true};
 ghost use Rattle.std.specs.Prelude.{length, take, map, sum, sum_by, All, AllPairs, Contains};
-ghost use Rattle.std.specs.Prelude.{IfOk, IsTrue, OnSome, vec_len};
+ghost use Rattle.std.specs.Prelude.{IfOk, IsTrue, OnOk, OnSome, vec_len};
 ghost use Rattle.std.specs.FinSet as set;
 ghost use Rattle.std.specs.FinMap as maps;
 ghost use Rattle.std.specs.Vec.{vec_capacity};
@@ -13,9 +13,9 @@ ghost use Rattle.ent_shared.specs.Record.{requested_by};
 ghost use Rattle.ent_blocks.specs.Blocks.{unused, dealt, lesser, are_among, accounted};
 ghost use Rattle.ent_blocks.specs.Overflow.{IsCallerOf, IsPhase, IsServed, own_blocks, past_of};
 ghost use Rattle.ent_blocks.specs.Overflow.{past_records, past_history, past_block, behind_blocks};
-ghost use Rattle.ent_blocks.specs.Overflow.{IsInOrder, AreUsedOf};
+ghost use Rattle.ent_blocks.specs.Overflow.{IsInOrder, AreUsedOf, MayBeServed};
 
-use crate::accounting::account;
+use crate::accounting::{account, missing};
 use crate::overflow::dealing::dealt;
 use crate::overflow::ended::Ended;
 use crate::overflow::reserver::OverflowReserver;
@@ -109,6 +109,30 @@ impl Overflow {
         self.shared.row(handle)
     }
 
+    /// The allocator as it was when the phase was opened. It stays so until the close.
+    pub fn opened(&self) -> &Entities
+        ensures start { result.now.allocator ≡ self.now.shared.start }
+        ensures rows { result.now.rows ≡ self.now.shared.rows }
+    {
+        self.shared.opened()
+    }
+
+    /// Whether these callers are in the order in which they were made.
+    pub(super) fn has_in_order(&self, callers: &[OverflowReserver]) -> bool
+        ensures { IsTrue result ↔ IsTrue (are_among self.now.blocks (own_blocks callers.now)) }
+    {
+        missing(&self.parts, callers).is_some()
+    }
+
+    /// Whether a request for `n` handles past the caller's block may be served.
+    pub(super) fn may_be_served_past(&self, caller: &OverflowReserver, n: u32) -> bool
+        ensures { IsTrue result ↔ ((n ≤ caller.now.past.own.left)
+            × (n ≤ length self.now.shared.start.pool)) }
+    {
+        let n = u64::from(n);
+        n <= caller.past.left() && n <= self.shared.pool()
+    }
+
     /// Reserves one handle: the next one of the caller's block, and if the block is used up, one
     /// that all callers share, by one atomic step. It takes no memory and waits for nobody.
     ///
@@ -152,6 +176,7 @@ impl Overflow {
         ensures stays { IsCallerOf self.now caller.new }
         ensures served { IsServed self.now caller.old caller.new n result }
         ensures length { IfOk result (λ handles. length handles ≡ n) }
+        ensures enough { OnOk result (MayBeServed self.now caller.old n) }
     {
         if n > caller.part.left() {
             return self.shared.reserve_many(&mut caller.past, n);
@@ -163,7 +188,9 @@ impl Overflow {
     /// memory. [`Ended::into_entities`] then gives the allocator.
     pub fn close(self, callers: Vec<OverflowReserver>) -> Ended
         requires own { All (IsCallerOf self) callers.items }
-        requires all { map unused (own_blocks callers.items) ≡ self.blocks }
+        requires among { IsTrue (are_among self.blocks (own_blocks callers.items)) }
+        requires all { length callers.items ≡ length self.blocks }
+        ensures all { map unused (own_blocks callers.items) ≡ self.blocks }
         ensures start { result.phase.start ≡ self.shared.start }
         ensures rows { result.phase.rows ≡ self.shared.rows }
 

@@ -40,6 +40,20 @@ pub trait Source {
     /// </details>
     fn had_row(&self, handle: Handle) -> Option<u32>;
 
+    /// Whether a request for `n` handles may be served. If not, it is refused. It takes constant
+    /// time.
+    ///
+    /// <details><summary>Contract</summary>
+    ///
+    /// In the words of the folder `specs/` of crate `ent_alloc`:
+    ///
+    /// ```text
+    /// ensures { IsTrue result ↔ may_give self.now reserver.now n }
+    /// ```
+    ///
+    /// </details>
+    fn may_serve(&self, reserver: &Self::Reserver, n: u32) -> bool;
+
     /// Reserves one handle.
     ///
     /// # Errors
@@ -75,6 +89,7 @@ pub trait Source {
     /// ensures stays { serves self.now reserver.new }
     /// ensures replies { may_reply self.now reserver.old reserver.new n result }
     /// ensures length { IfOk result (λ handles. length handles ≡ n) }
+    /// ensures enough { OnOk result (may_give self.now reserver.old n) }
     /// ensures wanted { IfErr result (SaysWanted n) }
     /// ```
     ///

@@ -19,6 +19,11 @@ impl Source for Blocks {
         self.row(handle)
     }
 
+    #[inline]
+    fn may_serve(&self, reserver: &BlockReserver, n: u32) -> bool {
+        n <= reserver.left()
+    }
+
     #[inline(always)]
     fn serve_one(&self, reserver: &mut BlockReserver) -> Result<Handle, Refused> {
         // The reserver is of the phase, so the block is used up if it gives none.

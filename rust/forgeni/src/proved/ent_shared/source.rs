@@ -1,8 +1,9 @@
 // Made of crates/ent_shared/src/source.rt by rust/erase. It isn't edited by hand.
 
+use alloc::vec::Vec;
 use crate::proved::ent_shared::reserver::Reserver;
 use crate::proved::ent_shared::shared::Shared;
-use crate::proved::ent_alloc::{Refused, Reserved, Source};
+use crate::proved::ent_alloc::{Entities, Phased, Refused, Reserved, Source};
 use crate::proved::ent_handle::Handle;
 
 /// Each reservation is an atomic step of all reservers' one cursor.
@@ -19,6 +20,12 @@ impl Source for Shared {
         self.row(handle)
     }
 
+    #[inline]
+    fn may_serve(&self, reserver: &Reserver, n: u32) -> bool {
+        let n = u64::from(n);
+        n <= reserver.left() && n <= self.pool()
+    }
+
     #[inline(always)]
     fn serve_one(&self, reserver: &mut Reserver) -> Result<Handle, Refused> {
         self.reserve(reserver)
@@ -27,5 +34,35 @@ impl Source for Shared {
     #[inline(always)]
     fn serve_many(&self, reserver: &mut Reserver, n: u32) -> Result<Reserved<'_>, Refused> {
         self.reserve_many(reserver, n)
+    }
+}
+
+/// It ends with the allocator, and takes its reservers back in any order.
+impl Phased for Shared {
+    type Closed = Entities;
+
+    #[inline]
+    fn callers(&self) -> usize {
+        self.count()
+    }
+
+    #[inline]
+    fn as_opened(&self) -> &Entities {
+        self.opened()
+    }
+
+    #[inline]
+    fn may_take(&self, _reservers: &[Reserver]) -> bool {
+        true
+    }
+
+    #[inline]
+    fn end_with_all(self, reservers: Vec<Reserver>) -> Entities {
+        self.close(reservers)
+    }
+
+    #[inline]
+    fn end_with_some(self, reservers: Vec<Reserver>) -> Entities {
+        self.close_lost(reservers)
     }
 }

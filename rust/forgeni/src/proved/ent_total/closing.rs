@@ -1,19 +1,21 @@
 // Made of crates/ent_total/src/closing.rt by rust/erase. It isn't edited by hand.
 
-//! A phase ends, and gives the allocator back.
+//! A phase ends.
 
 use alloc::vec::Vec;
 use crate::proved::ent_total::close_error::CloseError;
+use crate::proved::ent_total::phase::Phase;
 use crate::proved::ent_total::reserver::Reserver;
 use crate::proved::ent_total::returning::are_of;
-use crate::proved::ent_total::shared::Shared;
-use crate::proved::ent_alloc::Entities;
+use crate::proved::ent_alloc::Phased;
 use crate::proved::ent_handle::HandedBack;
 
-impl Shared {
-    /// Ends the phase with all its reservers: those that are returned, and these. The allocator is as
-    /// if their reservations had been made one by one, in the order of their atomic steps, and
-    /// [`flush`](Entities::flush) brings to life what they were given. It takes no memory.
+impl<S: Phased> Phase<S> {
+    /// Ends the phase with all its reservers: those that are returned, and these. It takes no memory.
+    ///
+    /// A shared allocator is then as if their reservations had been made one by one, in the order of
+    /// their atomic steps, and [`flush`](crate::Entities::flush) brings to life what they were
+    /// given.
     ///
     /// ```
     /// use forgeni::Entities;
@@ -35,33 +37,35 @@ impl Shared {
     ///
     /// # Errors
     ///
-    /// [`HandedBack`] has the `Shared`, which goes on, the reservers that are handed back, and the
-    /// first of these errors that holds: [`CloseError::OtherPhase`] and [`CloseError::Missing`], with all reservers
-    /// handed back; [`CloseError::InUse`], and then those that came are returned.
+    /// [`HandedBack`] has the phase, which goes on, the reservers that are handed back, and the first of
+    /// these errors that holds: [`CloseError::OtherPhase`] and [`CloseError::Missing`], with all
+    /// reservers handed back; [`CloseError::Order`], never in a shared allocator, and
+    /// [`CloseError::InUse`], and then those that came are returned.
     ///
     /// <details><summary>Contract</summary>
     ///
     /// In the words of the folder `specs/` of crate `ent_total`:
     ///
     /// ```text
-    /// ensures ended { IfOk result (λ entities. EndsWithAll
-    ///     self.shared (all_returned self reservers.items) entities.allocator) }
-    /// ensures rows { IfOk result (λ entities.
-    ///     (entities.rows ≡ self.shared.rows) × HasRowsOfLiving entities) }
+    /// ensures ended { IfOk result (λ closed.
+    ///     S.closes self.source (all_returned self reservers.items) closed) }
     ///
     /// // When it succeeds, when it is refused, and what holds then.
-    /// ensures all { OnOk result (MayReturn self reservers.items
-    ///     × (length (all_returned self reservers.items) ≡ self.shared.count)) }
+    /// ensures all { OnOk result (MayReturn (S.count self.source) self reservers.items
+    ///     × (length (all_returned self reservers.items) ≡ S.count self.source)) }
     /// ensures other_phase { IsErrAnd result (λ h. h.error ≡ OtherPhase)
-    ///     ↔ ¬ (MayReturn self reservers.items) }
+    ///     ↔ ¬ (MayReturn (S.count self.source) self reservers.items) }
     /// ensures missing { IsErrAnd result (λ h. IsMissing h.error)
-    ///     ↔ (MayReturn self reservers.items
-    ///     × (length (all_returned self reservers.items) < self.shared.count)) }
+    ///     ↔ (MayReturn (S.count self.source) self reservers.items
+    ///     × (length (all_returned self reservers.items) < S.count self.source)) }
+    /// ensures order { IsErrAnd result (λ h. h.error ≡ Order)
+    ///     → ¬ (S.takes self.source (all_returned self reservers.items)) }
     /// ensures how_many { IfErr result (λ h. IsMissing h.error
-    ///     → length (all_returned self reservers.items) + count_missing h.error ≡ self.shared.count) }
-    /// ensures handed_back { IfErr result (λ h. h.error ≢ InUse
+    ///     → length (all_returned self reservers.items) + count_missing h.error
+    ///     ≡ S.count self.source) }
+    /// ensures handed_back { IfErr result (λ h. h.error ≢ InUse → h.error ≢ Order
     ///     → (h.value.0 ≡ self) × (h.value.1.items ≡ reservers.items)) }
-    /// ensures returned { IfErr result (λ h. h.error ≡ InUse
+    /// ensures returned { IfErr result (λ h. (h.error ≡ InUse) ⊎ (h.error ≡ Order)
     ///     → (h.value.0 ≡ record self { returned = all_returned self reservers.items })
     ///     × (h.value.1.items ≡ [])) }
     /// ```
@@ -70,8 +74,8 @@ impl Shared {
     #[inline]
     pub fn close(
         mut self,
-        reservers: Vec<Reserver>,
-    ) -> Result<Entities, HandedBack<(Self, Vec<Reserver>), CloseError>> {
+        reservers: Vec<Reserver<S>>,
+    ) -> Result<S::Closed, HandedBack<(Self, Vec<Reserver<S>>), CloseError>> {
         let Some(missing) = self.missing(&reservers) else {
             return Err(HandedBack::new((self, reservers), CloseError::OtherPhase));
         };
@@ -80,18 +84,21 @@ impl Shared {
             return Err(HandedBack::new((self, reservers), error));
         }
         self.take_back(reservers);
+        if !self.may_take() {
+            return Err(self.with_none(CloseError::Order));
+        }
         match self.end() {
-            Ok((shared, returned)) => Ok(shared.close(returned)),
-            Err(shared) => Err(shared.in_use()),
+            Ok((source, returned)) => Ok(source.end_with_all(returned)),
+            Err(phase) => Err(phase.with_none(CloseError::InUse)),
         }
     }
 
     /// Ends the phase although some reservers are lost: they were dropped, as by a thread that
     /// panicked. It takes no memory.
     ///
-    /// Which of their requests were refused is lost too. So the front of the pool counts as
-    /// reserved, as far as requests went, and [`flush`](Entities::flush) also brings to life those
-    /// handles that nobody got.
+    /// Which of their requests were refused is lost too. So the front of a shared allocator's pool
+    /// counts as reserved, as far as requests went, and [`flush`](crate::Entities::flush) also
+    /// brings to life those handles that nobody got.
     ///
     /// ```
     /// use forgeni::{CloseError, Entities};
@@ -107,30 +114,30 @@ impl Shared {
     ///
     /// # Errors
     ///
-    /// [`HandedBack`] has the `Shared`, which goes on, the reservers that are handed back, and the
-    /// first of these errors that holds: [`CloseError::OtherPhase`], with all reservers handed back;
-    /// [`CloseError::InUse`], and then those that came are returned. As long as a reserver that
-    /// wasn't handed in exists, it is `InUse`. One that was given to [`core::mem::forget`] exists
-    /// for good.
+    /// [`HandedBack`] has the phase, which goes on, the reservers that are handed back, and the first of
+    /// these errors that holds: [`CloseError::OtherPhase`], with all reservers handed back;
+    /// [`CloseError::Order`], never in a shared allocator, and [`CloseError::InUse`], and then those
+    /// that came are returned. As long as a reserver that wasn't handed in exists, it is `InUse`. One
+    /// that was given to [`core::mem::forget`] exists for good.
     ///
     /// <details><summary>Contract</summary>
     ///
     /// In the words of the folder `specs/` of crate `ent_total`:
     ///
     /// ```text
-    /// ensures ended { IfOk result (λ entities. EndsWithSome
-    ///     self.shared (all_returned self reservers.items) entities.allocator) }
-    /// ensures rows { IfOk result (λ entities.
-    ///     (entities.rows ≡ self.shared.rows) × HasRowsOfLiving entities) }
+    /// ensures ended { IfOk result (λ closed.
+    ///     S.closes_lost self.source (all_returned self reservers.items) closed) }
     ///
     /// // When it succeeds, when it is refused, and what holds then.
-    /// ensures may_return { OnOk result (MayReturn self reservers.items) }
+    /// ensures may_return { OnOk result (MayReturn (S.count self.source) self reservers.items) }
     /// ensures other_phase { IsErrAnd result (λ h. h.error ≡ OtherPhase)
-    ///     ↔ ¬ (MayReturn self reservers.items) }
+    ///     ↔ ¬ (MayReturn (S.count self.source) self reservers.items) }
     /// ensures no_missing { IfErr result (λ h. ¬ (IsMissing h.error)) }
-    /// ensures handed_back { IfErr result (λ h. h.error ≢ InUse
+    /// ensures order { IsErrAnd result (λ h. h.error ≡ Order)
+    ///     → ¬ (S.takes self.source (all_returned self reservers.items)) }
+    /// ensures handed_back { IfErr result (λ h. h.error ≢ InUse → h.error ≢ Order
     ///     → (h.value.0 ≡ self) × (h.value.1.items ≡ reservers.items)) }
-    /// ensures returned { IfErr result (λ h. h.error ≡ InUse
+    /// ensures returned { IfErr result (λ h. (h.error ≡ InUse) ⊎ (h.error ≡ Order)
     ///     → (h.value.0 ≡ record self { returned = all_returned self reservers.items })
     ///     × (h.value.1.items ≡ [])) }
     /// ```
@@ -139,24 +146,27 @@ impl Shared {
     #[inline]
     pub fn close_lost(
         mut self,
-        reservers: Vec<Reserver>,
-    ) -> Result<Entities, HandedBack<(Self, Vec<Reserver>), CloseError>> {
+        reservers: Vec<Reserver<S>>,
+    ) -> Result<S::Closed, HandedBack<(Self, Vec<Reserver<S>>), CloseError>> {
         if self.missing(&reservers).is_none() {
             return Err(HandedBack::new((self, reservers), CloseError::OtherPhase));
         }
         self.take_back(reservers);
+        if !self.may_take() {
+            return Err(self.with_none(CloseError::Order));
+        }
         match self.end() {
-            Ok((shared, returned)) => Ok(shared.close_lost(returned)),
-            Err(shared) => Err(shared.in_use()),
+            Ok((source, returned)) => Ok(source.end_with_some(returned)),
+            Err(phase) => Err(phase.with_none(CloseError::InUse)),
         }
     }
 
     /// How many reservers are missing beside those returned and these, if these may come back.
     #[inline]
-    fn missing(&self, reservers: &[Reserver]) -> Option<usize>
-        // ensures may_return { IsSome result ↔ MayReturn self.now reservers.now }
+    fn missing(&self, reservers: &[Reserver<S>]) -> Option<usize>
+        // ensures may_return { IsSome result ↔ MayReturn (S.count self.now.source) self.now reservers.now }
         // ensures count { IfSome result (λ missing.
-        //     length (all_returned self.now reservers.now) + missing ≡ self.now.shared.count) }
+        //     length (all_returned self.now reservers.now) + missing ≡ S.count self.now.source) }
     {
         if !are_of(self.number(), reservers) {
             return None;
@@ -169,14 +179,14 @@ impl Shared {
         Some(most - returned - reservers.len())
     }
 
-    /// Somebody else owns a part of the phase.
+    /// It goes on, and no reserver is handed back.
     #[inline]
-    fn in_use(self) -> HandedBack<(Self, Vec<Reserver>), CloseError>
-        // ensures shared { result.value.0 ≡ self }
+    fn with_none(self, error: CloseError) -> HandedBack<(Self, Vec<Reserver<S>>), CloseError>
+        // ensures phase { result.value.0 ≡ self }
         // ensures reservers { result.value.1.items ≡ [] }
-        // ensures error { result.error ≡ InUse }
+        // ensures error { result.error ≡ error }
     {
         let none = self.no_reservers();
-        HandedBack::new((self, none), CloseError::InUse)
+        HandedBack::new((self, none), error)
     }
 }

@@ -1,83 +1,50 @@
 // Made of crates/ent_total/src/opening.rt by rust/erase. It isn't edited by hand.
 
-//! An allocator is shared.
+//! A phase is opened.
 use alloc::vec::Vec;
-use crate::kit::vec::FallibleVec;
+use crate::proved::ent_total::phase::Phase;
 use crate::proved::ent_total::reserver::Reserver;
-use crate::proved::ent_total::share_error::ShareError;
-use crate::proved::ent_total::shared::Shared;
-use crate::proved::ent_alloc::Entities;
-use crate::proved::ent_handle::HandedBack;
+use crate::proved::ent_alloc::Phased;
 use crate::kit::sync::Arc;
 
-/// How many callers a phase may have.
-pub(super) const CALLERS: usize = 1024;
-
 /// A phase that has no number yet, with all its reservers.
-pub struct Opening {
-    shared: Arc<crate::proved::ent_shared::Shared>,
-    returned: Vec<crate::proved::ent_shared::Reserver>,
-    reservers: Vec<Reserver>,
+pub struct Opening<S: Phased> {
+    source: Arc<S>,
+    returned: Vec<S::Reserver>,
+    reservers: Vec<Reserver<S>>,
 }
 
-/// Shares an allocator among `count` callers, 1 to 1,024.
+/// A phase of a source, whose reservers are these. The lists have room for all of them.
 ///
 /// # Errors
 ///
-/// [`HandedBack`] has the allocator as it was, and the first of these errors that holds:
-/// [`ShareError::NeedsFlush`], [`ShareError::Count`], [`ShareError::Memory`].
-///
-/// <details><summary>Contract</summary>
-///
-/// In the words of the folder `specs/` of crate `ent_total`:
-///
-/// ```text
-/// ensures start { IfOk result (λ o. o.shared.start ≡ entities.allocator) }
-/// ensures rows { IfOk result (λ o. o.shared.rows ≡ entities.rows) }
-/// ensures count { IfOk result (λ o. o.shared.count ≡ count) }
-/// ensures may_return { IfOk result (λ o. records_of o.returned ≡ opened_records entities.allocator 0 count) }
-/// ensures needs_flush { IsErrAnd result (λ h. h.error ≡ NeedsFlush)
-///     ↔ (0 < entities.allocator.asked) }
-/// ensures no_count { IsErrAnd result (λ h. h.error ≡ Count)
-///     ↔ ((entities.allocator.asked ≡ 0) × ((count ≡ 0) ⊎ (1024 < count))) }
-/// ensures handed_back { IfErr result (λ h. h.value ≡ entities) }
-/// ```
-///
-/// </details>
+/// Both as they were, if an allocation fails.
 #[inline]
-pub fn share(
-    entities: Entities,
-    count: usize,
-) -> Result<Opening, HandedBack<Entities, ShareError>> {
-    if entities.needs_flush() {
-        return Err(HandedBack::new(entities, ShareError::NeedsFlush));
-    }
-    if count == 0 || count > CALLERS {
-        return Err(HandedBack::new(entities, ShareError::Count));
-    }
-    let Ok(reservers) = Vec::with_capacity_fallibly(count) else {
-        return Err(HandedBack::new(entities, ShareError::Memory));
-    };
-    let (shared, returned) = match crate::proved::ent_shared::share(entities, count) {
-        Ok(made) => made,
-        Err((entities, _)) => return Err(HandedBack::new(entities, ShareError::Memory)),
-    };
-    match Arc::new(shared) {
-        Ok(shared) => Ok(Opening {
-            shared,
+pub(crate) fn begin<S: Phased>(
+    source: S,
+    returned: Vec<S::Reserver>,
+    reservers: Vec<Reserver<S>>,
+) -> Result<Opening<S>, (S, Vec<S::Reserver>)>
+    // requires own { All (S.serves source) returned.items }
+    // requires count { S.count source ≤ vec_capacity returned }
+    // requires none { reservers.items ≡ [] }
+    // requires room { length returned.items ≤ vec_capacity reservers }
+    // ensures opening { IfOk result (λ o. o ≡ record { source = source; returned = returned.items }) }
+    // ensures err { IfErr result (λ back. (back.0 ≡ source) × (back.1 ≡ returned)) }
+{
+    match Arc::new(source) {
+        Ok(source) => Ok(Opening {
+            source,
             returned,
             reservers,
         }),
-        Err(refused) => {
-            let entities = refused.value.close(returned);
-            Err(HandedBack::new(entities, ShareError::Memory))
-        }
+        Err(refused) => Err((refused.value, returned)),
     }
 }
 
-impl Opening {
-    /// The phase under this number, which no other phase has, and all its reservers, in the order of
-    /// their numbers. It takes no memory.
+impl<S: Phased> Opening<S> {
+    /// The phase under this number, which no other phase has, and all its reservers, in the order in
+    /// which they were made. It takes no memory.
     ///
     /// # Errors
     ///
@@ -87,33 +54,33 @@ impl Opening {
     pub(crate) fn numbered(
         self,
         number: u64,
-    ) -> Result<(Shared, Vec<Reserver>), (Shared, Vec<Reserver>)>
-        // requires stands_for { J.shared_of number ≡ self.shared }
+    ) -> Result<(Phase<S>, Vec<Reserver<S>>), (Phase<S>, Vec<Reserver<S>>)>
+        // requires stands_for { J.phase_of S number ≡ Some self.source }
         // ensures phase { IfOk result (λ made.
-        //     made.0 ≡ record { number = number; shared = self.shared; returned = [] }) }
+        //     made.0 ≡ record { number = number; source = self.source; returned = [] }) }
         // ensures reservers { IfOk result (λ made. reservers_of made.1.items ≡ self.returned) }
         // ensures of { IfOk result (λ made. AreOf number made.1.items) }
-        // ensures same { IfOk result (λ made. All (λ r. r.shared ≡ self.shared) made.1.items) }
+        // ensures same { IfOk result (λ made. All (λ r. r.source ≡ self.source) made.1.items) }
 
         // What holds if not all could be given out.
         // ensures err_phase { IfErr result (λ made.
-        //     made.0 ≡ record { number = number; shared = self.shared; returned = made.0.returned }) }
+        //     made.0 ≡ record { number = number; source = self.source; returned = made.0.returned }) }
         // ensures err_some_returned { IfErr result (λ made. made.0.returned ≢ []) }
         // ensures err_reservers { IfErr result (λ made.
         //     reservers_of made.1.items ++ reverse made.0.returned ≡ self.returned) }
         // ensures err_of { IfErr result (λ made. AreOf number made.1.items) }
     {
         let Opening {
-            shared,
+            source,
             mut returned,
             mut reservers,
         } = self;
         returned.reverse();
-        let mut shared = Shared::new(shared, returned, number);
-        shared.give_out(&mut reservers);
-        if shared.returned() > 0 {
-            return Err((shared, reservers));
+        let mut phase = Phase::new(source, returned, number);
+        phase.give_out(&mut reservers);
+        if phase.returned() > 0 {
+            return Err((phase, reservers));
         }
-        Ok((shared, reservers))
+        Ok((phase, reservers))
     }
 }

@@ -1,16 +1,17 @@
 // Made of crates/ent_total/src/reserver.rt by rust/erase. It isn't edited by hand.
 
-use crate::proved::ent_total::other_phase::OtherPhase;
-use crate::proved::ent_total::shared::Shared;
-use crate::proved::ent_alloc::Living;
+use crate::proved::ent_total::phase::Phase;
+use crate::proved::ent_alloc::{Living, Phased};
 use crate::proved::ent_handle::Handle;
+use crate::proved::ent_shared::Shared;
 use crate::kit::sync::Arc;
 
-/// The right of one caller to reserve from a shared allocator.
+/// The right of one caller to reserve in a phase of an allocator. `S` is where its handles come from.
 ///
-/// It may go to a thread of its own. A reservation makes one atomic step and waits for nobody. The
-/// handle is what the allocator would have given to one caller at that moment, so no two callers
-/// are given the same one. It comes to life after the phase, by the next flush.
+/// It may go to a thread of its own. A reservation waits for nobody, and in a shared allocator it
+/// makes one atomic step: the handle is what the allocator would have given to one caller at that
+/// moment. No two callers are given the same one. It comes to life after the phase, by the next
+/// flush.
 ///
 /// Two threads can't reserve by one reserver at once:
 ///
@@ -23,100 +24,13 @@ use crate::kit::sync::Arc;
 /// });
 /// ```
 #[repr(align(128))]
-pub struct Reserver {
-    pub(super) shared: Arc<crate::proved::ent_shared::Shared>,
-    pub(super) reserver: crate::proved::ent_shared::Reserver,
+pub struct Reserver<S: Phased = Shared> {
+    pub(super) source: Arc<S>,
+    pub(super) reserver: S::Reserver,
     pub(super) number: u64,
 }
 
-impl Reserver {
-    /// Each later reservation of this one comes after everything that the other one has reserved or
-    /// learned of so far. Without a meeting nothing is promised on the order of two reservers. It
-    /// takes no memory and waits for nobody.
-    ///
-    /// ```
-    /// use forgeni::Entities;
-    ///
-    /// let (shared, mut reservers) = Entities::new().share(2)?;
-    /// let [one, other] = &mut reservers[..] else { unreachable!() };
-    /// let first = other.reserve()?;
-    /// one.meet(other)?;
-    /// let second = one.reserve()?;
-    /// assert_eq!((first.index(), second.index()), (0, 1));
-    /// let _entities = shared.close(reservers)?;
-    /// # Ok::<(), Box<dyn std::error::Error + Send + Sync>>(())
-    /// ```
-    ///
-    /// # Errors
-    ///
-    /// [`OtherPhase`] if they are not of one phase. Nothing has changed then.
-    ///
-    /// <details><summary>Contract</summary>
-    ///
-    /// In the words of the folder `specs/` of crate `ent_total`:
-    ///
-    /// ```text
-    /// ensures same_phase { OnOk result (self.old.number ≡ other.old.number) }
-    /// ensures other_phase { OnErr result (self.old.number ≢ other.old.number) }
-    /// ensures meets { OnOk result (self.new ≡ record self.old {
-    ///   reserver = record self.old.reserver {
-    ///     own = after_meeting self.old.reserver.own other.old.reserver.own;
-    ///   };
-    /// }) }
-    /// ensures met { other.new ≡ other.old }
-    /// ensures unchanged { OnErr result (self.new ≡ self.old) }
-    ///
-    /// // Every reservation that the other one has made or learned of ends above where the next
-    /// // one of this one may begin.
-    /// ensures mark { OnOk result
-    ///     (IsBelow self.new.reserver.own.mark other.old.reserver.own.entries) }
-    /// ```
-    ///
-    /// </details>
-    #[inline]
-    pub fn meet(&mut self, other: &mut Reserver) -> Result<(), OtherPhase> {
-        if self.number != other.number {
-            return Err(OtherPhase);
-        }
-        self.shared.meet(&mut self.reserver, &mut other.reserver);
-        Ok(())
-    }
-
-    /// Which of the reservers it is: its position in the list in which they were given out, from 0.
-    ///
-    /// <details><summary>Contract</summary>
-    ///
-    /// In the words of the folder `specs/` of crate `ent_total`:
-    ///
-    /// ```text
-    /// ensures { result ≡ self.now.reserver.own.number }
-    /// ```
-    ///
-    /// </details>
-    #[must_use]
-    #[inline]
-    pub fn number(&self) -> usize {
-        self.reserver.number()
-    }
-
-    /// How many handles it may still request in this phase: 2^40 less what it has requested, served
-    /// or not.
-    ///
-    /// <details><summary>Contract</summary>
-    ///
-    /// In the words of the folder `specs/` of crate `ent_total`:
-    ///
-    /// ```text
-    /// ensures { result ≡ self.now.reserver.own.left }
-    /// ```
-    ///
-    /// </details>
-    #[must_use]
-    #[inline]
-    pub fn quota_left(&self) -> u64 {
-        self.reserver.left()
-    }
-
+impl<S: Phased> Reserver<S> {
     /// How many reservers the phase has.
     ///
     /// <details><summary>Contract</summary>
@@ -124,14 +38,14 @@ impl Reserver {
     /// In the words of the folder `specs/` of crate `ent_total`:
     ///
     /// ```text
-    /// ensures { result ≡ self.now.shared.count }
+    /// ensures { result ≡ S.count self.now.source }
     /// ```
     ///
     /// </details>
     #[must_use]
     #[inline]
     pub fn count(&self) -> usize {
-        self.shared.count()
+        self.source.callers()
     }
 
     /// Whether it is of this phase.
@@ -141,68 +55,68 @@ impl Reserver {
     /// In the words of the folder `specs/` of crate `ent_total`:
     ///
     /// ```text
-    /// ensures number { IsTrue result ↔ (self.now.number ≡ shared.now.number) }
-    /// ensures shared { IsTrue result → self.now.shared ≡ shared.now.shared }
+    /// ensures number { IsTrue result ↔ (self.now.number ≡ phase.now.number) }
+    /// ensures source { IsTrue result → self.now.source ≡ phase.now.source }
     /// ```
     ///
     /// </details>
     #[must_use]
     #[inline]
-    pub fn is_of(&self, shared: &Shared) -> bool {
-        self.number == shared.number()
+    pub fn is_of(&self, phase: &Phase<S>) -> bool {
+        self.number == phase.number()
     }
 
-    /// Whether the entity was alive when the phase was opened, as [`Shared::is_alive`] says it.
+    /// Whether the entity was alive when the phase was opened, as [`Phase::is_alive`] says it.
     ///
     /// <details><summary>Contract</summary>
     ///
     /// In the words of the folder `specs/` of crate `ent_total`:
     ///
     /// ```text
-    /// ensures { result ≡ set.contains self.now.shared.start.live handle }
+    /// ensures { result ≡ set.contains (S.start self.now.source).live handle }
     /// ```
     ///
     /// </details>
     #[must_use]
     #[inline]
     pub fn is_alive(&self, handle: Handle) -> bool {
-        self.shared.is_alive(handle)
+        self.source.as_opened().is_alive(handle)
     }
 
-    /// The row of the entity when the phase was opened, as [`Shared::row`] says it.
+    /// The row of the entity when the phase was opened, as [`Phase::row`] says it.
     ///
     /// <details><summary>Contract</summary>
     ///
     /// In the words of the folder `specs/` of crate `ent_total`:
     ///
     /// ```text
-    /// ensures value { result ≡ map.get self.now.shared.rows handle }
-    /// ensures alive { OnSome result (set.contains self.now.shared.start.live handle ≡ true) }
+    /// ensures value { result ≡ map.get (S.rows self.now.source) handle }
+    /// ensures alive { OnSome result (set.contains (S.start self.now.source).live handle ≡ true) }
     /// ```
     ///
     /// </details>
     #[must_use]
     #[inline]
     pub fn row(&self, handle: Handle) -> Option<u32> {
-        self.shared.row(handle)
+        self.source.as_opened().row(handle)
     }
 
-    /// The entities that were alive when the phase was opened, as [`Shared::iter`] has them.
+    /// The entities that were alive when the phase was opened, as [`Phase::iter`] has them.
     ///
     /// <details><summary>Contract</summary>
     ///
     /// In the words of the folder `specs/` of crate `ent_total`:
     ///
     /// ```text
-    /// ensures living { set.from_list result ≡ self.now.shared.start.live }
+    /// ensures living { set.from_list result ≡ (S.start self.now.source).live }
     /// ensures rising { AllPairs (λ g h. g.index < h.index) result }
-    /// ensures count { length result ≡ set.len self.now.shared.start.live }
+    /// ensures count { length result ≡ set.len (S.start self.now.source).live }
     /// ```
     ///
     /// </details>
     #[must_use]
     #[inline]
     pub fn iter(&self) -> Living<'_> {
-        self.shared.iter()
+        self.source.as_opened().iter()
     }
 }

@@ -6,7 +6,7 @@ use alloc::vec::Vec;
 use crate::kit::vec::FallibleVec;
 use crate::proved::ent_total::commands::Commands;
 use crate::proved::ent_total::open_world::OpenWorld;
-use crate::proved::ent_total::opening::CALLERS;
+use crate::proved::ent_total::sharing::CALLERS;
 use crate::proved::ent_total::share_error::ShareError;
 use crate::proved::ent_total::world::World;
 use crate::proved::ent_handle::HandedBack;

@@ -4,6 +4,7 @@ use alloc::vec::Vec;
 use crate::proved::ent_blocks::closing::take_used;
 use crate::proved::ent_blocks::part::Part;
 use crate::proved::ent_alloc::Entities;
+use crate::proved::ent_handle::{HandedBack, Memory};
 
 /// A phase that has ended: the allocator, in which what was used is not yet reserved.
 pub struct Ended {
@@ -53,6 +54,23 @@ impl Ended {
         self.requested
     }
 
+    /// The allocator as the phase was opened: nothing is reserved.
+    ///
+    /// <details><summary>Contract</summary>
+    ///
+    /// In the words of the folder `specs/` of crate `ent_blocks`:
+    ///
+    /// ```text
+    /// ensures allocator { result.allocator ≡ self.phase.start }
+    /// ensures rows { result.rows ≡ self.phase.rows }
+    /// ```
+    ///
+    /// </details>
+    #[inline]
+    pub fn cancel(self) -> Entities {
+        self.entities
+    }
+
     /// The allocator, in which what was used is reserved: a flush brings it to life. What is left of
     /// the blocks can be given again, and comes before all that nobody got.
     ///
@@ -60,8 +78,8 @@ impl Ended {
     ///
     /// # Errors
     ///
-    /// The same phase, if an allocation fails, and for no other reason. It can be tried again. A
-    /// phase without blocks in which nothing came from the shared cursor takes no memory.
+    /// [`HandedBack`] has the same, if an allocation fails, and for no other reason. It can be tried
+    /// again. A phase without blocks in which nothing came from the shared cursor takes no memory.
     ///
     /// <details><summary>Contract</summary>
     ///
@@ -83,7 +101,7 @@ impl Ended {
     /// ensures brings_to_life { IfOk result (λ entities. (h : HandleValue) →
     ///     IsLive (after_flush entities.allocator) h
     ///     ↔ (IsLive self.phase.start h ⊎ Contains entities.allocator.taken h)) }
-    /// ensures handed_back { IfErr result (λ ended. ended ≡ self) }
+    /// ensures handed_back { IfErr result (λ h. h.value ≡ self) }
     ///
     /// // Without a block there is nothing to allocate. If there is one, only a test shows that
     /// // ending succeeds.
@@ -92,14 +110,15 @@ impl Ended {
     ///
     /// </details>
     #[inline]
-    pub fn into_entities(self) -> Result<Entities, Self> {
+    pub fn into_entities(self) -> Result<Entities, HandedBack<Self, Memory>> {
         let Ended {
             mut entities,
             parts,
             requested,
         } = self;
         let Ok(()) = take_used(&mut entities, &parts) else {
-            return Err(Ended::new(entities, parts, requested));
+            let ended = Ended::new(entities, parts, requested);
+            return Err(HandedBack::new(ended, Memory));
         };
         Ok(entities)
     }

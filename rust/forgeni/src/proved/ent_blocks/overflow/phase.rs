@@ -2,7 +2,7 @@
 
 use alloc::vec::Vec;
 use crate::kit::vec::FallibleVec;
-use crate::proved::ent_blocks::accounting::account;
+use crate::proved::ent_blocks::accounting::{account, missing};
 use crate::proved::ent_blocks::overflow::dealing::dealt;
 use crate::proved::ent_blocks::overflow::ended::Ended;
 use crate::proved::ent_blocks::overflow::reserver::OverflowReserver;
@@ -102,6 +102,41 @@ impl Overflow {
         self.shared.row(handle)
     }
 
+    /// The allocator as it was when the phase was opened. It stays so until the close.
+    ///
+    /// <details><summary>Contract</summary>
+    ///
+    /// In the words of the folder `specs/` of crate `ent_blocks`:
+    ///
+    /// ```text
+    /// ensures start { result.now.allocator ≡ self.now.shared.start }
+    /// ensures rows { result.now.rows ≡ self.now.shared.rows }
+    /// ```
+    ///
+    /// </details>
+    #[inline]
+    pub fn opened(&self) -> &Entities {
+        self.shared.opened()
+    }
+
+    /// Whether these callers are in the order in which they were made.
+    #[inline]
+    pub(super) fn has_in_order(&self, callers: &[OverflowReserver]) -> bool
+        // ensures { IsTrue result ↔ IsTrue (are_among self.now.blocks (own_blocks callers.now)) }
+    {
+        missing(&self.parts, callers).is_some()
+    }
+
+    /// Whether a request for `n` handles past the caller's block may be served.
+    #[inline]
+    pub(super) fn may_be_served_past(&self, caller: &OverflowReserver, n: u32) -> bool
+        // ensures { IsTrue result ↔ ((n ≤ caller.now.past.own.left)
+        //     × (n ≤ length self.now.shared.start.pool)) }
+    {
+        let n = u64::from(n);
+        n <= caller.past.left() && n <= self.shared.pool()
+    }
+
     /// Reserves one handle: the next one of the caller's block, and if the block is used up, one
     /// that all callers share, by one atomic step. It takes no memory and waits for nobody.
     ///
@@ -147,6 +182,7 @@ impl Overflow {
         // ensures stays { IsCallerOf self.now caller.new }
         // ensures served { IsServed self.now caller.old caller.new n result }
         // ensures length { IfOk result (λ handles. length handles ≡ n) }
+        // ensures enough { OnOk result (MayBeServed self.now caller.old n) }
     {
         if n > caller.part.left() {
             return self.shared.reserve_many(&mut caller.past, n);
@@ -159,7 +195,9 @@ impl Overflow {
     #[inline]
     pub(crate) fn close(self, callers: Vec<OverflowReserver>) -> Ended
         // requires own { All (IsCallerOf self) callers.items }
-        // requires all { map unused (own_blocks callers.items) ≡ self.blocks }
+        // requires among { IsTrue (are_among self.blocks (own_blocks callers.items)) }
+        // requires all { length callers.items ≡ length self.blocks }
+        // ensures all { map unused (own_blocks callers.items) ≡ self.blocks }
         // ensures start { result.phase.start ≡ self.shared.start }
         // ensures rows { result.phase.rows ≡ self.shared.rows }
 

@@ -1,8 +1,10 @@
 // Made of crates/ent_blocks/src/overflow/source.rt by rust/erase. It isn't edited by hand.
 
+use alloc::vec::Vec;
+use crate::proved::ent_blocks::overflow::ended::Ended;
 use crate::proved::ent_blocks::overflow::phase::Overflow;
 use crate::proved::ent_blocks::overflow::reserver::OverflowReserver;
-use crate::proved::ent_alloc::{Refused, Reserved, Source};
+use crate::proved::ent_alloc::{Entities, Phased, Refused, Reserved, Source};
 use crate::proved::ent_handle::Handle;
 
 /// Each reservation is of the next handles of the reserver's own block, as long as that lasts, and
@@ -20,6 +22,11 @@ impl Source for Overflow {
         self.row(handle)
     }
 
+    #[inline]
+    fn may_serve(&self, caller: &OverflowReserver, n: u32) -> bool {
+        n <= caller.left() || self.may_be_served_past(caller, n)
+    }
+
     #[inline(always)]
     fn serve_one(&self, caller: &mut OverflowReserver) -> Result<Handle, Refused> {
         self.reserve(caller)
@@ -28,5 +35,35 @@ impl Source for Overflow {
     #[inline(always)]
     fn serve_many(&self, caller: &mut OverflowReserver, n: u32) -> Result<Reserved<'_>, Refused> {
         self.reserve_many(caller, n)
+    }
+}
+
+/// It [ends](Ended) without memory, and takes its callers back in the order in which they were made.
+impl Phased for Overflow {
+    type Closed = Ended;
+
+    #[inline]
+    fn callers(&self) -> usize {
+        self.count()
+    }
+
+    #[inline]
+    fn as_opened(&self) -> &Entities {
+        self.opened()
+    }
+
+    #[inline]
+    fn may_take(&self, callers: &[OverflowReserver]) -> bool {
+        self.has_in_order(callers)
+    }
+
+    #[inline]
+    fn end_with_all(self, callers: Vec<OverflowReserver>) -> Ended {
+        self.close(callers)
+    }
+
+    #[inline]
+    fn end_with_some(self, callers: Vec<OverflowReserver>) -> Ended {
+        self.close_lost(callers)
     }
 }

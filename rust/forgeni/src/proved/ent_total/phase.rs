@@ -1,42 +1,44 @@
-// Made of crates/ent_total/src/shared.rt by rust/erase. It isn't edited by hand.
+// Made of crates/ent_total/src/phase.rt by rust/erase. It isn't edited by hand.
 
 use alloc::vec::Vec;
 use crate::kit::vec::FallibleVec;
 use crate::proved::ent_total::reserver::Reserver;
 use crate::proved::ent_total::returning::bring_back;
-use crate::proved::ent_alloc::Living;
+use crate::proved::ent_alloc::{Living, Phased};
 use crate::proved::ent_handle::{Handle, Memory};
+use crate::proved::ent_shared::Shared;
 use crate::kit::sync::Arc;
 
-/// An allocator while it is shared. [`Entities::share`](crate::Entities::share) makes it, with its
-/// reservers.
+/// An allocator in a phase: its reservers reserve, and the phase ends when they come back.
+/// [`Entities::share`](crate::Entities::share) opens it, with its reservers. `S` is where their
+/// handles come from.
 ///
 /// The allocator is inside, so nothing but reservations happens until [`close`](Self::close) gives
-/// it back. If the `Shared` is dropped, the allocator goes with the last of the reservers.
+/// it back. If the `Phase` is dropped, the allocator goes with the last of the reservers.
 ///
 /// It is `Send` and `Sync`: any thread may read it.
 #[must_use]
-pub struct Shared {
-    shared: Arc<crate::proved::ent_shared::Shared>,
-    returned: Vec<crate::proved::ent_shared::Reserver>,
+pub struct Phase<S: Phased = Shared> {
+    source: Arc<S>,
+    returned: Vec<S::Reserver>,
     number: u64,
 }
 
-impl Shared {
+impl<S: Phased> Phase<S> {
     #[inline]
     pub(super) fn new(
-        shared: Arc<crate::proved::ent_shared::Shared>,
-        returned: Vec<crate::proved::ent_shared::Reserver>,
+        source: Arc<S>,
+        returned: Vec<S::Reserver>,
         number: u64,
     ) -> Self
-        // requires stands_for { J.shared_of number ≡ arc_value shared }
-        // requires own { All (IsOf (arc_value shared)) returned.items }
-        // requires room { (arc_value shared).count ≤ vec_capacity returned }
+        // requires stands_for { J.phase_of S number ≡ Some (arc_value source) }
+        // requires own { All (S.serves (arc_value source)) returned.items }
+        // requires room { S.count (arc_value source) ≤ vec_capacity returned }
         // ensures { result
-        //     ≡ record { number = number; shared = arc_value shared; returned = returned.items } }
+        //     ≡ record { number = number; source = arc_value source; returned = returned.items } }
     {
-        Shared {
-            shared,
+        Phase {
+            source,
             returned,
             number,
         }
@@ -49,14 +51,14 @@ impl Shared {
     /// In the words of the folder `specs/` of crate `ent_total`:
     ///
     /// ```text
-    /// ensures { result ≡ self.now.shared.count }
+    /// ensures { result ≡ S.count self.now.source }
     /// ```
     ///
     /// </details>
     #[must_use]
     #[inline]
     pub fn count(&self) -> usize {
-        self.shared.count()
+        self.source.callers()
     }
 
     /// How many reservers are returned: a close that was refused took them.
@@ -99,14 +101,14 @@ impl Shared {
     /// In the words of the folder `specs/` of crate `ent_total`:
     ///
     /// ```text
-    /// ensures { result ≡ set.contains self.now.shared.start.live handle }
+    /// ensures { result ≡ set.contains (S.start self.now.source).live handle }
     /// ```
     ///
     /// </details>
     #[must_use]
     #[inline]
     pub fn is_alive(&self, handle: Handle) -> bool {
-        self.shared.is_alive(handle)
+        self.source.as_opened().is_alive(handle)
     }
 
     /// The row that was set with the entity ([`try_set_row`](crate::Entities::try_set_row)), when the
@@ -118,15 +120,15 @@ impl Shared {
     /// In the words of the folder `specs/` of crate `ent_total`:
     ///
     /// ```text
-    /// ensures value { result ≡ map.get self.now.shared.rows handle }
-    /// ensures alive { OnSome result (set.contains self.now.shared.start.live handle ≡ true) }
+    /// ensures value { result ≡ map.get (S.rows self.now.source) handle }
+    /// ensures alive { OnSome result (set.contains (S.start self.now.source).live handle ≡ true) }
     /// ```
     ///
     /// </details>
     #[must_use]
     #[inline]
     pub fn row(&self, handle: Handle) -> Option<u32> {
-        self.shared.row(handle)
+        self.source.as_opened().row(handle)
     }
 
     /// How many entities were alive when the phase was opened.
@@ -136,14 +138,14 @@ impl Shared {
     /// In the words of the folder `specs/` of crate `ent_total`:
     ///
     /// ```text
-    /// ensures { result ≡ set.len self.now.shared.start.live }
+    /// ensures { result ≡ set.len (S.start self.now.source).live }
     /// ```
     ///
     /// </details>
     #[must_use]
     #[inline]
     pub fn len(&self) -> u32 {
-        self.shared.len()
+        self.source.as_opened().len()
     }
 
     /// Whether no entity was alive when the phase was opened.
@@ -153,14 +155,14 @@ impl Shared {
     /// In the words of the folder `specs/` of crate `ent_total`:
     ///
     /// ```text
-    /// ensures { IsTrue result ↔ (set.len self.now.shared.start.live ≡ 0) }
+    /// ensures { IsTrue result ↔ (set.len (S.start self.now.source).live ≡ 0) }
     /// ```
     ///
     /// </details>
     #[must_use]
     #[inline]
     pub fn is_empty(&self) -> bool {
-        self.shared.is_empty()
+        self.source.as_opened().is_empty()
     }
 
     /// The entities that were alive when the phase was opened, by rising slot.
@@ -181,22 +183,22 @@ impl Shared {
     /// In the words of the folder `specs/` of crate `ent_total`:
     ///
     /// ```text
-    /// ensures living { set.from_list result ≡ self.now.shared.start.live }
+    /// ensures living { set.from_list result ≡ (S.start self.now.source).live }
     /// ensures rising { AllPairs (λ g h. g.index < h.index) result }
-    /// ensures count { length result ≡ set.len self.now.shared.start.live }
+    /// ensures count { length result ≡ set.len (S.start self.now.source).live }
     /// ```
     ///
     /// </details>
     #[must_use]
     #[inline]
     pub fn iter(&self) -> Living<'_> {
-        self.shared.iter()
+        self.source.as_opened().iter()
     }
 
     #[inline]
     pub(super) fn number(&self) -> u64
         // ensures number { result ≡ self.now.number }
-        // ensures stands_for { J.shared_of result ≡ self.now.shared }
+        // ensures stands_for { J.phase_of S result ≡ Some self.now.source }
     {
         self.number
     }
@@ -213,7 +215,7 @@ impl Shared {
     ///
     /// ```text
     /// ensures given { IfOk result (λ found. IfSome found (λ r.
-    ///     (r.number ≡ self.old.number) × (r.shared ≡ self.old.shared)
+    ///     (r.number ≡ self.old.number) × (r.source ≡ self.old.source)
     ///     × (self.old ≡ record self.new { returned = self.new.returned ++ r.reserver ∷ [] }))) }
     /// ensures none { IfOk result (λ found. IfNone found
     ///     ((self.old.returned ≡ []) × (self.new ≡ self.old))) }
@@ -223,18 +225,18 @@ impl Shared {
     ///
     /// </details>
     #[inline]
-    pub fn reserver(&mut self) -> Result<Option<Reserver>, Memory> {
+    pub fn reserver(&mut self) -> Result<Option<Reserver<S>>, Memory> {
         if self.returned.is_empty() {
             return Ok(None);
         }
-        let Ok(shared) = Arc::try_clone(&self.shared) else {
+        let Ok(source) = Arc::try_clone(&self.source) else {
             return Err(Memory);
         };
         let Some(reserver) = self.returned.pop() else {
             unreachable!()
         };
         Ok(Some(Reserver {
-            shared,
+            source,
             reserver,
             number: self.number,
         }))
@@ -243,12 +245,12 @@ impl Shared {
     /// Gives out those returned, the last one first, to a list that has room for them. One whose
     /// owner can't be counted stays with the phase, and so do the others.
     #[inline]
-    pub(super) fn give_out(&mut self, reservers: &mut Vec<Reserver>)
+    pub(super) fn give_out(&mut self, reservers: &mut Vec<Reserver<S>>)
         // requires room { vec_len reservers.old + length self.old.returned ≤ vec_capacity reservers.old }
         // requires of { AreOf self.old.number reservers.old.items }
-        // requires same { All (λ r. r.shared ≡ self.old.shared) reservers.old.items }
+        // requires same { All (λ r. r.source ≡ self.old.source) reservers.old.items }
         // ensures of { AreOf self.old.number reservers.new.items }
-        // ensures same { All (λ r. r.shared ≡ self.old.shared) reservers.new.items }
+        // ensures same { All (λ r. r.source ≡ self.old.source) reservers.new.items }
         // ensures given { reservers_of reservers.new.items ++ reverse self.new.returned
         //     ≡ reservers_of reservers.old.items ++ reverse self.old.returned }
         // ensures phase { self.new ≡ record self.old { returned = self.new.returned } }
@@ -260,34 +262,43 @@ impl Shared {
 
     /// Takes reservers returned, which needs no memory.
     #[inline]
-    pub(super) fn take_back(&mut self, reservers: Vec<Reserver>)
-        // requires { MayReturn self.old reservers.items }
+    pub(super) fn take_back(&mut self, reservers: Vec<Reserver<S>>)
+        // requires { MayReturn (S.count self.old.source) self.old reservers.items }
         // ensures { self.new ≡ record self.old { returned = all_returned self.old reservers.items } }
     {
-        bring_back(&mut self.returned, &self.shared, self.number, reservers);
+        let source: &S = &self.source;
+        bring_back(&mut self.returned, source, self.number, reservers);
     }
 
-    /// The allocator with the reservers that are returned, if no other reserver owns it too.
+    /// Whether those returned come in an order in which the source takes them back.
     #[inline]
-    pub(super) fn end(self) -> Result<(crate::proved::ent_shared::Shared, Vec<crate::proved::ent_shared::Reserver>), Self>
-        // ensures ok { IfOk result (λ parts. (parts.0 ≡ self.shared) × (parts.1.items ≡ self.returned)) }
-        // ensures own { IfOk result (λ parts. All (IsOf parts.0) parts.1.items) }
-        // ensures err { IfErr result (λ shared. shared ≡ self) }
+    pub(super) fn may_take(&self) -> bool
+        // ensures { IsTrue result ↔ S.takes self.now.source self.now.returned }
     {
-        let Shared {
-            shared,
+        self.source.may_take(&self.returned)
+    }
+
+    /// The source with the reservers that are returned, if no other reserver owns it too.
+    #[inline]
+    pub(super) fn end(self) -> Result<(S, Vec<S::Reserver>), Self>
+        // ensures ok { IfOk result (λ parts. (parts.0 ≡ self.source) × (parts.1.items ≡ self.returned)) }
+        // ensures own { IfOk result (λ parts. All (S.serves parts.0) parts.1.items) }
+        // ensures err { IfErr result (λ phase. phase ≡ self) }
+    {
+        let Phase {
+            source,
             returned,
             number,
         } = self;
-        match Arc::try_unwrap(shared) {
-            Ok(shared) => Ok((shared, returned)),
-            Err(shared) => Err(Shared::new(shared, returned, number)),
+        match Arc::try_unwrap(source) {
+            Ok(source) => Ok((source, returned)),
+            Err(source) => Err(Phase::new(source, returned, number)),
         }
     }
 
     /// A list without reservers.
     #[inline]
-    pub(super) fn no_reservers(&self) -> Vec<Reserver>
+    pub(super) fn no_reservers(&self) -> Vec<Reserver<S>>
         // ensures { result.items ≡ [] }
     {
         Vec::new()

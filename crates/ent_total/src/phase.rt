@@ -1,79 +1,79 @@
 ghost use Rattle.std.specs.Prelude.{◌≡◌, ◌↔◌, ◌+◌, ◌≤◌, ◌∷◌, [], ◌++◌, All, AllPairs};
 ghost use Rattle.std.specs.Prelude.{IfOk, IfErr, OnErr, IsTrue, length, reverse};
-ghost use Rattle.std.specs.Prelude.{IfSome, IfNone, OnSome, Ok, None, true, ◌<◌};
+ghost use Rattle.std.specs.Prelude.{IfSome, IfNone, OnSome, Ok, None, Some, true, ◌<◌};
 ghost use Rattle.std.specs.FinSet as set;
 ghost use Rattle.std.specs.FinMap as map;
 ghost use Rattle.std.specs.Vec.{vec_capacity, vec_len};
 ghost use Rattle.std.specs.Arc.{arc_value};
-ghost use Rattle.ent_shared.specs.Phase.{IsOf};
-ghost use Rattle.ent_total.specs.Sharing.{AreOf, MayReturn, all_returned, reservers_of};
+ghost use Rattle.ent_total.specs.Phases.{AreOf, MayReturn, all_returned, reservers_of};
 
 use crate::numbering::Numbering;
 use crate::reserver::Reserver;
 use crate::returning::bring_back;
-use ent_alloc::Living;
+use ent_alloc::{Living, Phased};
 use ent_handle::{Handle, Memory};
+use ent_shared::Shared;
 use std::alloc::Global;
 use std::marker::{Model, PhantomData};
 use std::sync::Arc;
 
-/// An allocator while it is shared. [`Entities::share`](forgeni::Entities::share) makes it, with its
-/// reservers.
+/// An allocator in a phase: its reservers reserve, and the phase ends when they come back.
+/// [`Entities::share`](forgeni::Entities::share) opens it, with its reservers. `S` is where their
+/// handles come from.
 ///
 /// The allocator is inside, so nothing but reservations happens until [`close`](Self::close) gives
-/// it back. If the `Shared` is dropped, the allocator goes with the last of the reservers.
+/// it back. If the `Phase` is dropped, the allocator goes with the last of the reservers.
 ///
 /// It is `Send` and `Sync`: any thread may read it.
 #[must_use]
 #[derive(Drop)]
-pub struct Shared<J: Numbering> {
+pub struct Phase<J: Numbering, S: Phased = Shared> {
     alloc: Global,
-    shared: Arc<ent_shared::Shared, Global>,
-    returned: Vec<ent_shared::Reserver>,
+    source: Arc<S, Global>,
+    returned: Vec<S::Reserver>,
     number: u64,
     of: PhantomData<J>,
 }
 
-impl<J: Numbering> Model for Shared<J> {
-    ghost use Rattle.std.specs.Prelude.{All, ◌≤◌, ◌≡◌};
+impl<J: Numbering, S: Phased> Model for Phase<J, S> {
+    ghost use Rattle.std.specs.Prelude.{All, ◌≤◌, ◌≡◌, Some};
     ghost use Rattle.std.specs.Vec.{vec_capacity};
     ghost use Rattle.std.specs.Arc.{arc_value};
-    ghost use Rattle.ent_shared.specs.Phase.{IsOf};
-    ghost use Rattle.ent_total.specs.Sharing.{Shared, shared_code};
+    ghost use Rattle.ent_total.specs.Phases.{Phase, phase_code};
 
-    ghost Value = { Shared };
+    ghost Value = { Phase S S.Reserver };
 
-    ghost coded = { shared_code };
+    ghost coded = { phase_code S.code S.Reserver.code };
 
     ghost view = { λ s. record {
       number = s.number;
-      shared = arc_value s.shared;
+      source = arc_value s.source;
       returned = s.returned.items;
     } };
 
-    // The number means this allocator, the reservers returned came with it, and there is room
-    // for all of them.
-    ghost invariant = { λ s. (J.shared_of s.number ≡ arc_value s.shared)
-        × All (IsOf (arc_value s.shared)) s.returned.items
-        × ((arc_value s.shared).count ≤ vec_capacity s.returned) };
+    // The number means this source, the reservers returned came with it, and there is room for all
+    // of them.
+    ghost invariant = { λ s. (J.phase_of S s.number ≡ Some (arc_value s.source))
+        × All (S.serves (arc_value s.source)) s.returned.items
+        × (S.count (arc_value s.source) ≤ vec_capacity s.returned) };
 }
 
-impl<J: Numbering> Shared<J> {
+impl<J: Numbering, S: Phased> Phase<J, S> {
     pub(crate) fn new(
         alloc: Global,
-        shared: Arc<ent_shared::Shared, Global>,
-        returned: Vec<ent_shared::Reserver>,
+        source: Arc<S, Global>,
+        returned: Vec<S::Reserver>,
         number: u64,
     ) -> Self
-        requires stands_for { J.shared_of number ≡ arc_value shared }
-        requires own { All (IsOf (arc_value shared)) returned.items }
-        requires room { (arc_value shared).count ≤ vec_capacity returned }
+        requires stands_for { J.phase_of S number ≡ Some (arc_value source) }
+        requires own { All (S.serves (arc_value source)) returned.items }
+        requires room { S.count (arc_value source) ≤ vec_capacity returned }
         ensures { result
-            ≡ record { number = number; shared = arc_value shared; returned = returned.items } }
+            ≡ record { number = number; source = arc_value source; returned = returned.items } }
     {
-        Shared {
+        Phase {
             alloc,
-            shared,
+            source,
             returned,
             number,
             of: PhantomData,
@@ -83,9 +83,9 @@ impl<J: Numbering> Shared<J> {
     /// How many reservers it has, whether they exist, are returned or were lost.
     #[must_use]
     pub fn count(&self) -> usize
-        ensures { result ≡ self.now.shared.count }
+        ensures { result ≡ S.count self.now.source }
     {
-        self.shared.count()
+        self.source.callers()
     }
 
     /// How many reservers are returned: a close that was refused took them.
@@ -115,9 +115,9 @@ impl<J: Numbering> Shared<J> {
     /// ```
     #[must_use]
     pub fn is_alive(&self, handle: Handle) -> bool
-        ensures { result ≡ set.contains self.now.shared.start.live handle }
+        ensures { result ≡ set.contains (S.start self.now.source).live handle }
     {
-        self.shared.is_alive(handle)
+        self.source.as_opened().is_alive(handle)
     }
 
     /// The row that was set with the entity ([`try_set_row`](forgeni::Entities::try_set_row)), when the
@@ -125,26 +125,26 @@ impl<J: Numbering> Shared<J> {
     /// and it takes constant time.
     #[must_use]
     pub fn row(&self, handle: Handle) -> Option<u32>
-        ensures value { result ≡ map.get self.now.shared.rows handle }
-        ensures alive { OnSome result (set.contains self.now.shared.start.live handle ≡ true) }
+        ensures value { result ≡ map.get (S.rows self.now.source) handle }
+        ensures alive { OnSome result (set.contains (S.start self.now.source).live handle ≡ true) }
     {
-        self.shared.row(handle)
+        self.source.as_opened().row(handle)
     }
 
     /// How many entities were alive when the phase was opened.
     #[must_use]
     pub fn len(&self) -> u32
-        ensures { result ≡ set.len self.now.shared.start.live }
+        ensures { result ≡ set.len (S.start self.now.source).live }
     {
-        self.shared.len()
+        self.source.as_opened().len()
     }
 
     /// Whether no entity was alive when the phase was opened.
     #[must_use]
     pub fn is_empty(&self) -> bool
-        ensures { IsTrue result ↔ (set.len self.now.shared.start.live ≡ 0) }
+        ensures { IsTrue result ↔ (set.len (S.start self.now.source).live ≡ 0) }
     {
-        self.shared.is_empty()
+        self.source.as_opened().is_empty()
     }
 
     /// The entities that were alive when the phase was opened, by rising slot.
@@ -161,16 +161,16 @@ impl<J: Numbering> Shared<J> {
     /// ```
     #[must_use]
     pub fn iter(&self) -> Living<'_>
-        ensures living { set.from_list result ≡ self.now.shared.start.live }
+        ensures living { set.from_list result ≡ (S.start self.now.source).live }
         ensures rising { AllPairs (λ g h. g.index < h.index) result }
-        ensures count { length result ≡ set.len self.now.shared.start.live }
+        ensures count { length result ≡ set.len (S.start self.now.source).live }
     {
-        self.shared.iter()
+        self.source.as_opened().iter()
     }
 
     pub(crate) fn number(&self) -> u64
         ensures number { result ≡ self.now.number }
-        ensures stands_for { J.shared_of result ≡ self.now.shared }
+        ensures stands_for { J.phase_of S result ≡ Some self.now.source }
     {
         self.number
     }
@@ -180,9 +180,9 @@ impl<J: Numbering> Shared<J> {
     /// # Errors
     ///
     /// `OutOfMemory` if the owners of the phase can't be counted any more. Then nothing has changed.
-    pub fn reserver(&mut self) -> Result<Option<Reserver<J>>, Memory>
+    pub fn reserver(&mut self) -> Result<Option<Reserver<J, S>>, Memory>
         ensures given { IfOk result (λ found. IfSome found (λ r.
-            (r.number ≡ self.old.number) × (r.shared ≡ self.old.shared)
+            (r.number ≡ self.old.number) × (r.source ≡ self.old.source)
             × (self.old ≡ record self.new { returned = self.new.returned ++ r.reserver ∷ [] }))) }
         ensures none { IfOk result (λ found. IfNone found
             ((self.old.returned ≡ []) × (self.new ≡ self.old))) }
@@ -192,7 +192,7 @@ impl<J: Numbering> Shared<J> {
         if self.returned.is_empty() {
             return Ok(None);
         }
-        let Ok(shared) = Arc::try_clone(&self.shared) else {
+        let Ok(source) = Arc::try_clone(&self.source) else {
             return Err(Memory);
         };
         let Some(reserver) = self.returned.pop() else {
@@ -200,7 +200,7 @@ impl<J: Numbering> Shared<J> {
         };
         Ok(Some(Reserver {
             alloc: self.alloc,
-            shared,
+            source,
             reserver,
             number: self.number,
             of: PhantomData,
@@ -209,12 +209,12 @@ impl<J: Numbering> Shared<J> {
 
     /// Gives out those returned, the last one first, to a list that has room for them. One whose
     /// owner can't be counted stays with the phase, and so do the others.
-    pub(crate) fn give_out(&mut self, reservers: &mut Vec<Reserver<J>>)
+    pub(crate) fn give_out(&mut self, reservers: &mut Vec<Reserver<J, S>>)
         requires room { vec_len reservers.old + length self.old.returned ≤ vec_capacity reservers.old }
         requires of { AreOf self.old.number reservers.old.items }
-        requires same { All (λ r. r.shared ≡ self.old.shared) reservers.old.items }
+        requires same { All (λ r. r.source ≡ self.old.source) reservers.old.items }
         ensures of { AreOf self.old.number reservers.new.items }
-        ensures same { All (λ r. r.shared ≡ self.old.shared) reservers.new.items }
+        ensures same { All (λ r. r.source ≡ self.old.source) reservers.new.items }
         ensures given { reservers_of reservers.new.items ++ reverse self.new.returned
             ≡ reservers_of reservers.old.items ++ reverse self.old.returned }
         ensures phase { self.new ≡ record self.old { returned = self.new.returned } }
@@ -225,34 +225,42 @@ impl<J: Numbering> Shared<J> {
     }
 
     /// Takes reservers returned, which needs no memory.
-    pub(crate) fn take_back(&mut self, reservers: Vec<Reserver<J>>)
-        requires { MayReturn self.old reservers.items }
+    pub(crate) fn take_back(&mut self, reservers: Vec<Reserver<J, S>>)
+        requires { MayReturn (S.count self.old.source) self.old reservers.items }
         ensures { self.new ≡ record self.old { returned = all_returned self.old reservers.items } }
     {
-        bring_back(&mut self.returned, &self.shared, self.number, reservers);
+        let source: &S = &self.source;
+        bring_back(&mut self.returned, source, self.number, reservers);
     }
 
-    /// The allocator with the reservers that are returned, if no other reserver owns it too.
-    pub(crate) fn end(self) -> Result<(ent_shared::Shared, Vec<ent_shared::Reserver>), Self>
-        ensures ok { IfOk result (λ parts. (parts.0 ≡ self.shared) × (parts.1.items ≡ self.returned)) }
-        ensures own { IfOk result (λ parts. All (IsOf parts.0) parts.1.items) }
-        ensures err { IfErr result (λ shared. shared ≡ self) }
+    /// Whether those returned come in an order in which the source takes them back.
+    pub(crate) fn may_take(&self) -> bool
+        ensures { IsTrue result ↔ S.takes self.now.source self.now.returned }
     {
-        let Shared {
+        self.source.may_take(&self.returned)
+    }
+
+    /// The source with the reservers that are returned, if no other reserver owns it too.
+    pub(crate) fn end(self) -> Result<(S, Vec<S::Reserver>), Self>
+        ensures ok { IfOk result (λ parts. (parts.0 ≡ self.source) × (parts.1.items ≡ self.returned)) }
+        ensures own { IfOk result (λ parts. All (S.serves parts.0) parts.1.items) }
+        ensures err { IfErr result (λ phase. phase ≡ self) }
+    {
+        let Phase {
             alloc,
-            shared,
+            source,
             returned,
             number,
             of: _,
         } = self;
-        match Arc::try_unwrap(shared) {
-            Ok(shared) => Ok((shared, returned)),
-            Err(shared) => Err(Shared::new(alloc, shared, returned, number)),
+        match Arc::try_unwrap(source) {
+            Ok(source) => Ok((source, returned)),
+            Err(source) => Err(Phase::new(alloc, source, returned, number)),
         }
     }
 
     /// A list without reservers.
-    pub(crate) fn no_reservers(&self) -> Vec<Reserver<J>>
+    pub(crate) fn no_reservers(&self) -> Vec<Reserver<J, S>>
         ensures { result.items ≡ [] }
     {
         Vec::new(self.alloc)

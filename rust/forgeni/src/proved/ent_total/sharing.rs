@@ -1,0 +1,155 @@
+// Made of crates/ent_total/src/sharing.rt by rust/erase. It isn't edited by hand.
+
+//! An allocator is shared: its reservers reserve from one cursor, each by one atomic step.
+use alloc::vec::Vec;
+use crate::kit::vec::FallibleVec;
+use crate::proved::ent_total::opening::{Opening, begin};
+use crate::proved::ent_total::other_phase::OtherPhase;
+use crate::proved::ent_total::reserver::Reserver;
+use crate::proved::ent_total::share_error::ShareError;
+use crate::proved::ent_alloc::Entities;
+use crate::proved::ent_handle::HandedBack;
+use crate::proved::ent_shared::Shared;
+
+/// How many callers a phase may have.
+pub(super) const CALLERS: usize = 1024;
+
+/// Shares an allocator among `count` callers, 1 to 1,024.
+///
+/// # Errors
+///
+/// [`HandedBack`] has the allocator as it was, and the first of these errors that holds:
+/// [`ShareError::NeedsFlush`], [`ShareError::Count`], [`ShareError::Memory`].
+///
+/// <details><summary>Contract</summary>
+///
+/// In the words of the folder `specs/` of crate `ent_total`:
+///
+/// ```text
+/// ensures start { IfOk result (λ o. o.source.start ≡ entities.allocator) }
+/// ensures rows { IfOk result (λ o. o.source.rows ≡ entities.rows) }
+/// ensures count { IfOk result (λ o. o.source.count ≡ count) }
+/// ensures may_return { IfOk result (λ o. records_of o.returned ≡ opened_records entities.allocator 0 count) }
+/// ensures needs_flush { IsErrAnd result (λ h. h.error ≡ NeedsFlush)
+///     ↔ (0 < entities.allocator.asked) }
+/// ensures no_count { IsErrAnd result (λ h. h.error ≡ Count)
+///     ↔ ((entities.allocator.asked ≡ 0) × ((count ≡ 0) ⊎ (1024 < count))) }
+/// ensures handed_back { IfErr result (λ h. h.value ≡ entities) }
+/// ```
+///
+/// </details>
+#[inline]
+pub fn share(
+    entities: Entities,
+    count: usize,
+) -> Result<Opening<Shared>, HandedBack<Entities, ShareError>> {
+    if entities.needs_flush() {
+        return Err(HandedBack::new(entities, ShareError::NeedsFlush));
+    }
+    if count == 0 || count > CALLERS {
+        return Err(HandedBack::new(entities, ShareError::Count));
+    }
+    let Ok(reservers) = Vec::with_capacity_fallibly(count) else {
+        return Err(HandedBack::new(entities, ShareError::Memory));
+    };
+    let (shared, returned) = match crate::proved::ent_shared::share(entities, count) {
+        Ok(made) => made,
+        Err((entities, _)) => return Err(HandedBack::new(entities, ShareError::Memory)),
+    };
+    match begin(shared, returned, reservers) {
+        Ok(opening) => Ok(opening),
+        Err((shared, returned)) => {
+            let entities = shared.close(returned);
+            Err(HandedBack::new(entities, ShareError::Memory))
+        }
+    }
+}
+
+impl Reserver<Shared> {
+    /// Each later reservation of this one comes after everything that the other one has reserved or
+    /// learned of so far. Without a meeting nothing is promised on the order of two reservers. It
+    /// takes no memory and waits for nobody.
+    ///
+    /// ```
+    /// use forgeni::Entities;
+    ///
+    /// let (shared, mut reservers) = Entities::new().share(2)?;
+    /// let [one, other] = &mut reservers[..] else { unreachable!() };
+    /// let first = other.reserve()?;
+    /// one.meet(other)?;
+    /// let second = one.reserve()?;
+    /// assert_eq!((first.index(), second.index()), (0, 1));
+    /// let _entities = shared.close(reservers)?;
+    /// # Ok::<(), Box<dyn std::error::Error + Send + Sync>>(())
+    /// ```
+    ///
+    /// # Errors
+    ///
+    /// [`OtherPhase`] if they are not of one phase. Nothing has changed then.
+    ///
+    /// <details><summary>Contract</summary>
+    ///
+    /// In the words of the folder `specs/` of crate `ent_total`:
+    ///
+    /// ```text
+    /// ensures same_phase { OnOk result (self.old.number ≡ other.old.number) }
+    /// ensures other_phase { OnErr result (self.old.number ≢ other.old.number) }
+    /// ensures meets { OnOk result (self.new ≡ record self.old {
+    ///   reserver = record self.old.reserver {
+    ///     own = after_meeting self.old.reserver.own other.old.reserver.own;
+    ///   };
+    /// }) }
+    /// ensures met { other.new ≡ other.old }
+    /// ensures unchanged { OnErr result (self.new ≡ self.old) }
+    ///
+    /// // Every reservation that the other one has made or learned of ends above where the next
+    /// // one of this one may begin.
+    /// ensures mark { OnOk result
+    ///     (IsBelow self.new.reserver.own.mark other.old.reserver.own.entries) }
+    /// ```
+    ///
+    /// </details>
+    #[inline]
+    pub fn meet(&mut self, other: &mut Reserver<Shared>) -> Result<(), OtherPhase> {
+        if self.number != other.number {
+            return Err(OtherPhase);
+        }
+        self.source.meet(&mut self.reserver, &mut other.reserver);
+        Ok(())
+    }
+
+    /// Which of the reservers it is: its position in the list in which they were given out, from 0.
+    ///
+    /// <details><summary>Contract</summary>
+    ///
+    /// In the words of the folder `specs/` of crate `ent_total`:
+    ///
+    /// ```text
+    /// ensures { result ≡ self.now.reserver.own.number }
+    /// ```
+    ///
+    /// </details>
+    #[must_use]
+    #[inline]
+    pub fn number(&self) -> usize {
+        self.reserver.number()
+    }
+
+    /// How many handles it may still request in this phase: 2^40 less what it has requested, served
+    /// or not.
+    ///
+    /// <details><summary>Contract</summary>
+    ///
+    /// In the words of the folder `specs/` of crate `ent_total`:
+    ///
+    /// ```text
+    /// ensures { result ≡ self.now.reserver.own.left }
+    /// ```
+    ///
+    /// </details>
+    #[must_use]
+    #[inline]
+    pub fn quota_left(&self) -> u64 {
+        self.reserver.left()
+    }
+}
