@@ -7,7 +7,7 @@ use crate::shown::shows;
 use crate::{Entities, HandedBack, SharedSource};
 use alloc::vec::Vec;
 
-/// A source whose phase ends with what it has [closed](Phased::Closed) to: of a [`Phase`] of it.
+/// Where the handles of a [`Phase`] come from: [`SharedSource`] or [`Overflow`].
 pub use crate::proved::ent_alloc::Phased;
 pub use crate::proved::ent_blocks::{Ended, Overflow};
 pub use crate::proved::ent_total::{CloseError, OtherPhase, Phase, Reserver, ShareError};

@@ -57,12 +57,21 @@ impl Phased for Shared {
     }
 
     #[inline]
-    fn end_with_all(self, reservers: Vec<Reserver>) -> Entities {
+    fn end_with_all(self, reservers: Vec<Reserver>) -> Entities
+        // requires own { All (IsOf self) reservers.items }
+        // requires all { length reservers.items ≡ self.count }
+        // ensures { EndsWithAll self reservers.items result.allocator
+        //     × (result.rows ≡ self.rows) × HasRowsOfLiving result }
+    {
         self.close(reservers)
     }
 
     #[inline]
-    fn end_with_some(self, reservers: Vec<Reserver>) -> Entities {
+    fn end_with_some(self, reservers: Vec<Reserver>) -> Entities
+        // requires { All (IsOf self) reservers.items }
+        // ensures { EndsWithSome self reservers.items result.allocator
+        //     × (result.rows ≡ self.rows) × HasRowsOfLiving result }
+    {
         self.close_lost(reservers)
     }
 }

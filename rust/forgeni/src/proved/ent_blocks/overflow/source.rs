@@ -58,12 +58,21 @@ impl Phased for Overflow {
     }
 
     #[inline]
-    fn end_with_all(self, callers: Vec<OverflowReserver>) -> Ended {
+    fn end_with_all(self, callers: Vec<OverflowReserver>) -> Ended
+        // requires own { All (IsCallerOf self) callers.items }
+        // requires among { IsTrue (are_among self.blocks (own_blocks callers.items)) }
+        // requires all { length callers.items ≡ length self.blocks }
+        // ensures { EndsWithAll self callers.items result }
+    {
         self.close(callers)
     }
 
     #[inline]
-    fn end_with_some(self, callers: Vec<OverflowReserver>) -> Ended {
+    fn end_with_some(self, callers: Vec<OverflowReserver>) -> Ended
+        // requires own { All (IsCallerOf self) callers.items }
+        // requires among { IsTrue (are_among self.blocks (own_blocks callers.items)) }
+        // ensures { EndsWithSome self callers.items result }
+    {
         self.close_lost(callers)
     }
 }
