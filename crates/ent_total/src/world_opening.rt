@@ -9,8 +9,8 @@ ghost use Rattle.ent_total.specs.declared.share_error.ShareError.TheVariants.{Ne
 use crate::commands::Commands;
 use crate::numbering::Numbering;
 use crate::open_world::OpenWorld;
-use crate::sharing::CALLERS;
 use crate::share_error::ShareError;
+use crate::sharing::CALLERS;
 use crate::world::World;
 use ent_handle::HandedBack;
 use ent_shared::Reserver;
