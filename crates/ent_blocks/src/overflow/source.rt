@@ -5,7 +5,7 @@ use ent_alloc::{Entities, Phased, Refused, Reserved, Source};
 use ent_handle::Handle;
 
 /// Each reservation is of the next handles of the reserver's own block, as long as that lasts, and
-/// past it an [atomic step](Overflow::reserve) of the cursor that all share.
+/// past it an atomic step of the cursor that all share.
 impl Source for Overflow {
     ghost use Rattle.ent_blocks.specs.Overflow.{IsCallerOf, IsServed, MayBeServed};
 

@@ -8,7 +8,7 @@ use crate::proved::ent_alloc::{Entities, Phased, Refused, Reserved, Source};
 use crate::proved::ent_handle::Handle;
 
 /// Each reservation is of the next handles of the reserver's own block, as long as that lasts, and
-/// past it an [atomic step](Overflow::reserve) of the cursor that all share.
+/// past it an atomic step of the cursor that all share.
 impl Source for Overflow {
     type Reserver = OverflowReserver;
 
