@@ -5,6 +5,7 @@
 mod common;
 mod worlds;
 
+#[cfg(feature = "std")]
 mod behind_blocks;
 #[cfg(feature = "std")]
 mod block_frames;

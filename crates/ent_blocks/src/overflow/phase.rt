@@ -26,8 +26,9 @@ use ent_handle::Handle;
 use ent_shared::{Reserver, Shared};
 use std::marker::Model;
 
-/// An allocator whose pool's front is dealt in blocks, one to each caller, and whose rest all of them
-/// share. [`Entities::share_behind_blocks`](forgeni::Entities::share_behind_blocks) opens a phase of it.
+/// An allocator whose pool's front is dealt in blocks, one to each caller, and whose rest all of
+/// them share. [`Entities::share_behind_blocks`](forgeni::Entities::share_behind_blocks) opens a phase
+/// of it.
 ///
 /// As long as no caller goes past its block, which handles it gets depends on the allocator, on the
 /// sizes, and on what it has reserved before: on no other caller, and on no thread. What it gets
