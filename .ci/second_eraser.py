@@ -86,8 +86,9 @@ READS, WITHOUT_METHODS = {"beyond", "cursor"}, {"", "either::Either"}
 LAYOUTS = dict.fromkeys(named("ent_blocks: BlockReserver; ent_replay: Log; ent_total: Commands Reserver"), "#[repr(align(128))]")
 LAYOUTS |= {"ent_handle::Handle": "#[repr(transparent)]"}
 WORD_TYPE, DATA = "ent_handle::Handle", named("ent_replay: Call CheckError Difference FlushReply Log Reservation ReserveReply")
-# Traits whose parameter `S` has a default in the results, and the default.
-DEFAULTED, DEFAULT = named("ent_runner: LogSystem System"), "= crate::proved::ent_shared::Shared"
+# Traits whose last two parameters have defaults in the results, how those parameters end, and the default after so many of these words.
+DEFAULTED, LAST_TWO = named("ent_runner: LogSystem System"), ["S", ":", "Source", ",", "E", ">"]
+DEFAULTS = {3: "= crate::proved::ent_shared::Shared", 5: "= crate::proved::ent_handle::Memory"}
 # What a type derives in the results, if nothing is left of its derive: errors that hand back queues, and reports.
 DERIVES = {"ent_world::SyncReport": "Clone, PartialEq, Eq"}
 # Types whose `Debug` the package has by hand.
@@ -408,9 +409,12 @@ class Reader:
 
         if f"{self.crate}::{self.declared}" in DEFAULTED:
             words = self.texts(mark)
-            at = words.index("{") - 1
-            fits = words[at - 3 : at + 1] == ["S", ":", "Source", ">"]
-            self.insert(mark + at, DEFAULT, "default") if fits else self.use("refused", "a trait whose last parameter isn't the source")
+            first = words.index("{") - len(LAST_TWO)
+            if words[first : first + len(LAST_TWO)] != LAST_TWO:
+                self.use("refused", "a trait whose last parameters aren't the source and the error")
+                return
+            for at in sorted(DEFAULTS, reverse=True):
+                self.insert(mark + first + at, DEFAULTS[at], "default")
 
     def after_module(self, mark, _):
         inside = self.result.removesuffix("/mod") + "/" + self.declared

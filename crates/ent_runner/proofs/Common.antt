@@ -20,7 +20,8 @@ pub use Rattle.std.proofs.lemmas.Option.{get_or_from_slice_get, none-some, slice
 pub use Rattle.std.proofs.lemmas.Result.{IfErr-weaker, IfOk-weaker}
 pub use Rattle.std.specs.List.{All, AllPairs, Contains, flat_map, position_from, range_with_len, sum_by}
 pub use Rattle.std.specs.List.Sorted.{IsPermutation}
-pub use Rattle.std.specs.Option.{option_map}
+pub use Rattle.std.specs.Option.{is_some, option_map}
+pub use Rattle.std.specs.Result.{result_err}
 pub use Rattle.std.specs.Ordering.{eq_by_cmp}
 pub use Rattle.std.specs.Prelude.{Any, Err, IfErr, IfNone, IfOk, IfSome, IsErr, IsErrOf, IsOk, IsSome, IsTrue, Ok, OnErr, OnOk, filter, if◌then◌else◌, replicate, slice_get, slice_set, true, vec_capacity, ◌==◌, ◌↔◌}
 pub use Rattle.atomic_table.specs.Seated.{TableId}
@@ -85,15 +86,15 @@ pub use Rattle.ent_runner.specs.Blocks.{HaveFilled, blocks_after}
 pub use Rattle.ent_runner.specs.Blocks.Filling.{Draws, FitBlock}
 pub use Rattle.ent_runner.specs.Blocks.Queues.{HaveIssued, HaveStopped, blocks_after_queues}
 pub use Rattle.ent_runner.specs.Blocks.Unframed.{IsWhyUnended}
-pub use Rattle.ent_runner.specs.Crew.{AreBrokenOff, AreDone, Crew, DidAll, DidUntil, DoesAt, OfEach}
+pub use Rattle.ent_runner.specs.Crew.{AreBrokenOff, AreDone, Crew, DidAll, DidUntil, DoesAt, Ended, OfEach, Stopped}
 pub use Rattle.ent_runner.specs.Crew.Claims.{AreFirst, Claimer, Claims, IsClaimedBy, IsClaimerHolding, IsClaimerOf}
-pub use Rattle.ent_runner.specs.Crew.Collecting.{outputs_put}
+pub use Rattle.ent_runner.specs.Crew.Collecting.{AreCollected, error_in, first_error, outputs_put}
 pub use Rattle.ent_runner.specs.Crew.Record.{after_claim, claims_of, nothing_claimed}
 pub use Rattle.ent_runner.specs.Crew.Rule.{AfterClaim, AreClaimsClosed, AreClaimsRuled, ClaimTells, IsClaimKept, ended_in}
 pub use Rattle.ent_runner.specs.Crew.Worker.{HasClaimed, HasStoppedAt, HasWorked, HaveAllWorked, HaveDoneFirst, HaveEnded, IsLostFor, IsNewWorker, IsRoom, IsRoomForOne, IsUnused, all_done, numbers_of}
-pub use Rattle.ent_runner.specs.Frame.{Ends, EndsInOrder, IsBrokenOff, IsFrame, IsLost, IsWork, StopsAt, SystemMayIssue, calls_in_order, commands_of, first_call, queue_at, requests_by, reserved_by, view_of}
+pub use Rattle.ent_runner.specs.Frame.{Ends, EndsInOrder, IsBrokenOff, IsFrame, IsLost, IsWork, StopsAt, SystemMayIssue, SystemMayLeave, calls_in_order, commands_of, first_call, queue_at, requests_by, reserved_by, view_of}
 pub use Rattle.ent_runner.specs.Logs.{HaveLogged, HaveRun, SystemMayLog, entries_by, given_to, log_at, requests_in}
-pub use Rattle.ent_runner.specs.Runs.{AreRun, StopShort}
+pub use Rattle.ent_runner.specs.Runs.{AreRun, StopShort, first_some}
 pub use Rattle.ent_runner.specs.Stage.{AreReady, IsDealt, IsFilled}
 pub use Rattle.ent_runner.specs.declared.crew.record.ClaimRecord.{ClaimRecord, ClaimRecord as Claimed}
 pub use Rattle.ent_runner.specs.declared.crew.worker.Done.{Done}

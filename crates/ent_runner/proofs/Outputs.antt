@@ -1,5 +1,5 @@
 -- Outputs put at the numbers of their jobs, which were done once each: each is there at its number.
-use Rattle.ent_runner.proofs.Common.{common_steps, rules, append_assoc, ◌≡◌, ℕ, ◌+◌, ◌<◌, ◌≤◌, List, [], ◌∷◌, ◌++◌, length, map, get_or, refl, ap, arith, Option, Some, cond, eq-eqb, suc, slice_set, ◌==◌, All, sum_by, All-nil, All-cons, All-rest, sum_by-cons, get_or-set_same, get_or-set_other, length-set, map-append, Done, outputs_put, None, inl, inr, ne_eqb, slice_get, replicate, IsSome, range_with_len, IsPermutation, cases_eq, slice_get-get_or, length-replicate, replicate-append-replicate, set-append_left, ◌-◌, length-map, get_or-replicate, All-head, All-right, All-tail, sym, sum_by-IsPermutation, All-permutation, IsPermutation-sym, DidAll, numbers_of, HaveEnded}
+use Rattle.ent_runner.proofs.Common.{common_steps, rules, append_assoc, ◌≡◌, ℕ, ◌+◌, ◌<◌, ◌≤◌, List, [], ◌∷◌, ◌++◌, length, map, get_or, refl, ap, ◌∙◌, arith, Option, Some, cond, eq-eqb, suc, slice_set, ◌==◌, All, sum_by, All-nil, All-cons, All-rest, sum_by-cons, get_or-set_same, get_or-set_other, length-set, map-append, Done, outputs_put, AreCollected, None, inl, inr, ne_eqb, slice_get, replicate, IsSome, range_with_len, IsPermutation, cases_eq, slice_get-get_or, length-replicate, replicate-append-replicate, set-append_left, ◌-◌, length-map, get_or-replicate, All-head, All-right, All-tail, sym, sum_by-IsPermutation, All-permutation, IsPermutation-sym, DidAll, numbers_of, HaveEnded}
 use Rattle.ent_runner.proofs.Lists.{each_of_all, sum_map, mapped_at, of_mapped, all_below}
 use Rattle.ent_runner.proofs.Counting.{is, in_range}
 
@@ -65,10 +65,14 @@ module _ {O : Type 0} where
       search (rules, length-set, All-rest (λ (f : Done O). f.number < length by_number) d new rest front inside)
 
 -- one more output is moved out
-pub collected_on : {O : Type 0} (rest new : List (Option O)) (q : O) (before after : List O) (all : List (Option O))
-    → rest ≡ Some q ∷ new → after ≡ before ++ q ∷ [] → map Some before ++ rest ≡ all
-    → (map Some after ++ new ≡ all) × (length rest ≡ length new + 1)
-collected_on rest new q before after all front push same = search (rules, map-append, append_assoc)
+pub collected_on : {O E : Type 0} (rest new : List (Option (O × Option E))) (q : O × Option E) (before after : List O)
+    (all : List (Option (O × Option E))) → rest ≡ Some q ∷ new → after ≡ before ++ q.0 ∷ []
+    → AreCollected all rest before → AreCollected all new after × (length rest ≡ length new + 1)
+collected_on rest new q before after all front push same = (record {
+  made = same.made ++ q ∷ [];
+  all = search (rules, same.all, front, map-append, append_assoc);
+  outputs_are = search (rules, same.outputs_are, push, map-append);
+}, ap length front ∙ omega arith)
 
 -- the next one is there, if all are
 pub next_there : {O : Type 0} (before : List O) (rest new all : List (Option O)) (front : Option O)

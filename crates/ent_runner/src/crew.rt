@@ -3,7 +3,7 @@ ghost use Rattle.std.specs.Prelude.{◌≡◌, ◌<◌, ◌≤◌, ◌^◌, ◌-
 ghost use Rattle.std.specs.Prelude.{All, Any, IfOk, IfErr, OnErr, None, true, false, flat_map};
 ghost use Rattle.std.specs.Prelude.{vec_capacity};
 ghost use Rattle.ent_runner.specs.Crew.Collecting.{outputs_put};
-ghost use Rattle.ent_runner.specs.Crew.{AreDone, AreBrokenOff};
+ghost use Rattle.ent_runner.specs.Crew.{AreDone, AreBrokenOff, Ended, Stopped};
 ghost use Rattle.ent_runner.specs.Crew.Worker.{IsRoomForOne};
 
 mod claimer;
@@ -17,6 +17,7 @@ mod worker;
 
 pub use crate::crew::claimer::Claimer;
 pub use crate::crew::claims::Claims;
+pub(crate) use crate::crew::collecting::first_error;
 use crate::crew::collecting::{collect, put_all};
 pub use crate::crew::jobs::Jobs;
 pub use crate::crew::record::ClaimRecord;
@@ -29,20 +30,21 @@ use std::thread::Threads;
 /// Workers that do jobs side by side, and the room that they need for it.
 ///
 /// A worker does the next job that nobody has claimed yet, until none is left. Each job has one
-/// output of type `O`, and the outputs come back in the order of the jobs.
+/// output of type `O`, and the outputs come back in the order of the jobs. A job that stops returns an
+/// error of type `E`.
 #[derive(Drop)]
-pub struct Crew<O> {
+pub struct Crew<O, E> {
     claims: Claims,
     /// Each has room for its first output, so that only a worker that has done a job may stop. If
     /// all workers do as many jobs, no list of outputs grows.
-    workers: Vec<Worker<O>>,
+    workers: Vec<Worker<(O, Option<E>)>>,
     /// Room for the claimers when the work is over.
     claimers: Vec<Claimer>,
-    by_number: Vec<Option<O>>,
+    by_number: Vec<Option<(O, Option<E>)>>,
     outputs: Vec<O>,
 }
 
-impl<O> Model for Crew<O> {
+impl<O, E> Model for Crew<O, E> {
     ghost use Rattle.ent_runner.specs.Crew.{Crew};
     ghost use Rattle.ent_runner.specs.Crew.Worker.{IsRoom};
 
@@ -54,7 +56,7 @@ impl<O> Model for Crew<O> {
         IsRoom c.claims c.workers.items c.claimers c.by_number.items c.outputs };
 }
 
-impl<O: Drop> Crew<O> {
+impl<O: Drop, E: Drop> Crew<O, E> {
     /// A crew of that many workers, 1 to 64, with room for the outputs of that many jobs, at most
     /// 65,536. Both limits are this project's own.
     ///
@@ -86,16 +88,22 @@ impl<O: Drop> Crew<O> {
     ///
     /// # Errors
     ///
-    /// The outputs that were made, each at the number of its job. Memory ran out: a job returned
-    /// `Memory`, or jobs are left and no worker has memory for the output of another one. All
-    /// workers have ended then. What the jobs did to what was lent stays done. The caller drops the
-    /// outputs when it is ready for what their drop may do.
-    pub fn work<R, L, J>(self, rt: &R, lent: &mut [L], jobs: &J) -> Result<Vec<O>, Vec<Option<O>>>
+    /// The outputs that were made, each at the number of its job, with the error that it returned, if
+    /// it did. If no job returned one, jobs are left and no worker has memory for the output of another
+    /// one. All workers have ended then. What the jobs did to what was lent stays done. The caller
+    /// drops the outputs when it is ready for what their drop may do.
+    pub fn work<R, L, J>(
+        self,
+        rt: &R,
+        lent: &mut [L],
+        jobs: &J,
+    ) -> Result<Vec<O>, Vec<Option<(O, Option<E>)>>>
     where
         R: Threads + Sync,
         O: Send,
+        E: Send,
         L: Send,
-        J: Jobs<O, L> + Sync,
+        J: Jobs<O, L, E> + Sync,
         requires jobs { J.count jobs.now ≡ self.jobs }
         requires workers { length lent.old ≡ self.workers }
         requires lent { All (J.may_have jobs.now) lent.old }
@@ -103,8 +111,8 @@ impl<O: Drop> Crew<O> {
         ensures lent { All (J.may_have jobs.now) lent.new }
         ensures done { IfOk result (λ outputs. AreDone (J.may_do jobs.now) self.jobs
             lent.old outputs.items lent.new) }
-        ensures broken_off { IfErr result (λ left. AreBrokenOff (J.may_do jobs.now)
-            (J.may_leave jobs.now) self.jobs lent.old left.items lent.new) }
+        ensures broken_off { IfErr result (λ left. AreBrokenOff (Ended (J.may_do jobs.now))
+            (Stopped (J.may_leave jobs.now)) self.jobs lent.old left.items lent.new) }
 
         // So late, memory runs out only in a job, or in workers that have done one.
         ensures some { OnErr result (0 < self.jobs) }
@@ -168,7 +176,7 @@ fn without_outputs<O>(alloc: Global, count: usize) -> Result<Vec<Option<O>>, All
     Ok(by_number)
 }
 
-/// Whether a job of a worker has stopped because memory ran out.
+/// Whether a job of a worker has stopped.
 fn some_stopped<O>(workers: &[Worker<O>]) -> bool
     ensures going { result ≡ false → All (λ w. w.stopped ≡ false) workers.now }
     ensures some { result ≡ true → Any (λ w. w.stopped ≡ true) workers.now }

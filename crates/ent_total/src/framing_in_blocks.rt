@@ -64,25 +64,26 @@ use std::thread::Threads;
 /// - [`RunError::Workers`], [`RunError::Systems`] if there are more than 65,536, [`RunError::Reservers`],
 ///   [`RunError::OtherPhase`], [`RunError::Memory`]: no system ran, and the reservers are handed back as
 ///   they were. No systems take no memory.
-/// - [`RunError::Lost`]: a system returned an error, or systems are left and
-///   no worker has memory for another one. All queues and reservers are dropped:
-///   [`WorldInBlocks::close_lost`] ends the phase.
+/// - [`RunError::Lost`]: a system returned an error, and this has that of the first one in the order of
+///   the systems. Or systems are left and no worker has memory for another one: then it has none. All
+///   queues and reservers are dropped: [`WorldInBlocks::close_lost`] ends the phase.
 ///
 /// # Panics
 ///
 /// A panic of a system is handed on when all workers have ended. Queues and reservers are dropped then
 /// too, and [`WorldInBlocks::close_lost`] ends the phase.
-pub fn fill_in_blocks<R, J: BlockNumbering + Send + Sync, S>(
+pub fn fill_in_blocks<R, J: BlockNumbering + Send + Sync, S, E>(
     rt: &R,
     alloc: Global,
     opened: &WorldInBlocks<J>,
     reservers: Vec<BlockReserver<J>>,
     systems: &[S],
     workers: usize,
-) -> Result<(Queues, Vec<BlockReserver<J>>), HandedBack<Vec<BlockReserver<J>>, RunError>>
+) -> Result<(Queues, Vec<BlockReserver<J>>), HandedBack<Vec<BlockReserver<J>>, RunError<E>>>
 where
     R: Threads + Sync,
-    S: System<Blocks<J>> + Sync,
+    S: System<Blocks<J>, E> + Sync,
+    E: Drop + Send,
     ensures ok { IfOk result (λ ran. HaveIssued S.may_issue systems.now
         (view_in_blocks opened.now.world) opened.now.world.blocks.phase.start
         (blocks_of reservers.items) ran.0.queues (blocks_of ran.1.items)) }
@@ -151,17 +152,18 @@ where
 ///
 /// A panic of a system is handed on when all workers have ended. The world is dropped then too:
 /// [`fill_in_blocks`] leaves it.
-pub fn run_frame_in_blocks<R, J: BlockNumbering + Send + Sync, S>(
+pub fn run_frame_in_blocks<R, J: BlockNumbering + Send + Sync, S, E>(
     rt: &R,
     alloc: Global,
     opened: WorldInBlocks<J>,
     reservers: Vec<BlockReserver<J>>,
     systems: &[S],
     workers: usize,
-) -> Result<(World, FrameReport), Unframed<J>>
+) -> Result<(World, FrameReport), Unframed<J, E>>
 where
     R: Threads + Sync,
-    S: System<Blocks<J>> + Sync,
+    S: System<Blocks<J>, E> + Sync,
+    E: Drop + Send,
     ensures ok { IfOk result (λ ended. EndsInBlocks S.may_issue systems.now opened.world
         (blocks_of reservers.items) ended.1.queues.items ended.0.world ended.1.sync.born.items
         ended.1.sync.faults.items) }

@@ -4,14 +4,14 @@ use crate::stopped::Stopped;
 use crate::world::World;
 use crate::world_in_blocks::WorldInBlocks;
 use ent_blocks::{BlockReserver, EndError};
-use ent_handle::HandedBack;
+use ent_handle::{HandedBack, Memory};
 use ent_runner::RunError;
 use std::error::Error;
 use std::fmt;
 
 /// A frame in blocks that didn't end. It hands everything back.
 #[derive(Drop)]
-pub enum Unframed<J: BlockNumbering> {
+pub enum Unframed<J: BlockNumbering, E = Memory> {
     /// The systems filled no queues. The world is as it was opened, and no command was applied.
     Unrun {
         /// The world as it was opened.
@@ -20,7 +20,7 @@ pub enum Unframed<J: BlockNumbering> {
         /// ([`RunError::Lost`]): [`WorldInBlocks::close_lost`] ends the phase without them.
         reservers: Vec<BlockReserver<J>>,
         /// Why there are no queues.
-        error: RunError,
+        error: RunError<E>,
     },
     /// All systems ran, and the world was not closed. [`WorldInBlocks::close`] closes it, and
     /// [`World::apply`] does the sync point.
@@ -49,7 +49,7 @@ pub enum Unframed<J: BlockNumbering> {
 }
 
 /// It says why.
-impl<J: BlockNumbering> fmt::Display for Unframed<J> {
+impl<J: BlockNumbering, E: fmt::Display> fmt::Display for Unframed<J, E> {
     fn fmt<W: fmt::Write>(&self, f: &mut fmt::Formatter<W>) -> fmt::Result {
         match self {
             Unframed::Unrun { error, .. } => write!(f, "{error}"),
@@ -61,7 +61,7 @@ impl<J: BlockNumbering> fmt::Display for Unframed<J> {
 }
 
 /// It shows why, and says that there is more.
-impl<J: BlockNumbering> fmt::Debug for Unframed<J> {
+impl<J: BlockNumbering, E: fmt::Debug> fmt::Debug for Unframed<J, E> {
     fn fmt<W: fmt::Write>(&self, f: &mut fmt::Formatter<W>) -> fmt::Result {
         match self {
             Unframed::Unrun { error, .. } => write!(f, "Unrun {{ error: {error:?}, .. }}"),
@@ -78,4 +78,4 @@ impl<J: BlockNumbering> fmt::Debug for Unframed<J> {
     }
 }
 
-impl<J: BlockNumbering> Error for Unframed<J> {}
+impl<J: BlockNumbering, E: fmt::Debug + fmt::Display + Drop> Error for Unframed<J, E> {}

@@ -34,10 +34,10 @@ impl<'a> ScriptSystem<'a> {
     }
 }
 
-impl<S: Source> System<S> for ScriptSystem<'_> {
+impl<S: Source> System<S, Memory> for ScriptSystem<'_> {
     ghost may_issue = { MayIssue };
 
-    ghost may_leave = { MayStop };
+    ghost may_leave = { λ system view queue _. MayStop system view queue };
 
     /// # Errors
     ///

@@ -1,9 +1,10 @@
 //! Frames: systems run on workers over one world or one allocator, and a sync point takes what they issued.
 
-use crate::guarding::{caught, guarded};
+use crate::guarding::{caught, guarded, of_frame, of_logs};
 use crate::proved::ent_runner::NoGate;
 use crate::proved::{ent_runner, ent_total};
-use crate::{Entities, HandedBack, Handle, Log, LogSystem, Report, SyncPoint, System, World};
+use crate::{Entities, HandedBack, Handle, Log, LogSystem, Report, SharedSource, SyncPoint};
+use crate::{System, World};
 use alloc::vec::Vec;
 
 pub use crate::kit::thread::{StdThreads, Threads as Join};
@@ -82,11 +83,11 @@ pub use crate::proved::ent_total::{FrameError, Unframed};
 /// With more than one worker, threads are started as [`std::thread::scope`] starts them. If memory
 /// for that runs out, it ends the process. Without the feature `std`, and where no thread can be started,
 /// as on `wasm32-unknown-unknown`, the caller's thread does all the work.
-pub fn run_frame<S: System + Sync>(
+pub fn run_frame<S: System<SharedSource, E> + Sync, E: Send>(
     world: &mut World,
     systems: &[S],
     workers: usize,
-) -> Result<Report, FrameError> {
+) -> Result<Report, FrameError<E>> {
     run_frame_on(&StdThreads, world, systems, workers)
 }
 
@@ -126,14 +127,15 @@ pub fn run_frame<S: System + Sync>(
 ///
 /// The same as [`run_frame`]. If no system panics but the `Join` does, its panic is handed on when all
 /// workers have ended. The frame is complete then: only its report is lost.
-pub fn run_frame_on<J: Join + Sync, S: System + Sync>(
+pub fn run_frame_on<J: Join + Sync, S: System<SharedSource, E> + Sync, E: Send>(
     join: &J,
     world: &mut World,
     systems: &[S],
     workers: usize,
-) -> Result<Report, FrameError> {
+) -> Result<Report, FrameError<E>> {
     guarded(join, systems, FrameError::Memory, |join, systems| {
-        Ok(ent_total::run_frame(join, world, systems, workers, &NoGate).map(|frame| frame.sync))
+        let ran = ent_total::run_frame(join, world, systems, workers, &NoGate);
+        Ok(ran.map(|frame| frame.sync).map_err(of_frame))
     })
 }
 
@@ -207,11 +209,11 @@ pub fn run_frame_on<J: Join + Sync, S: System + Sync>(
 /// # Aborts
 ///
 /// As of [`run_frame`].
-pub fn run_logs<C: Send, S: LogSystem<C> + Sync>(
+pub fn run_logs<C: Send, S: LogSystem<C, SharedSource, E> + Sync, E: Send>(
     entities: &mut Entities,
     systems: &[S],
     workers: usize,
-) -> Result<Vec<Log<C>>, LogError> {
+) -> Result<Vec<Log<C>>, LogError<E>> {
     run_logs_on(&StdThreads, entities, systems, workers)
 }
 
@@ -226,14 +228,14 @@ pub fn run_logs<C: Send, S: LogSystem<C> + Sync>(
 /// The same as [`run_logs`]. If no system panics but the `Join` does, its panic is handed on when all
 /// workers have ended. What they reserved stays reserved, and the logs are dropped. If a command panics then,
 /// that panic is lost.
-pub fn run_logs_on<J: Join + Sync, C: Send, S: LogSystem<C> + Sync>(
+pub fn run_logs_on<J: Join + Sync, C: Send, S: LogSystem<C, SharedSource, E> + Sync, E: Send>(
     join: &J,
     entities: &mut Entities,
     systems: &[S],
     workers: usize,
-) -> Result<Vec<Log<C>>, LogError> {
+) -> Result<Vec<Log<C>>, LogError<E>> {
     guarded(join, systems, LogError::Memory, |join, systems| {
-        caught(|| ent_runner::run_logs(join, entities, systems, workers))
+        caught(|| ent_runner::run_logs(join, entities, systems, workers).map_err(of_logs))
     })
 }
 
@@ -280,15 +282,21 @@ pub fn run_logs_on<J: Join + Sync, C: Send, S: LogSystem<C> + Sync>(
 /// If a system panics, or a command that is dropped, as of [`run_logs`]. If no system panics but the `Join`
 /// does, its panic is handed on when all workers have ended. What they reserved is alive, and their logs are
 /// dropped.
-pub fn run_to_sync_point<J: Join + Sync, C: Send, S: LogSystem<C> + Sync>(
+pub fn run_to_sync_point<J: Join + Sync, C: Send, S: LogSystem<C, SharedSource, E> + Sync, E: Send>(
     join: &J,
     entities: &mut Entities,
     systems: &[S],
     workers: usize,
     born: &mut Vec<Handle>,
-) -> Result<SyncPoint<C>, HandedBack<Vec<Log<C>>, LogError>> {
+) -> Result<SyncPoint<C>, HandedBack<Vec<Log<C>>, LogError<E>>> {
     let memory = HandedBack::new(Vec::new(), LogError::Memory);
     guarded(join, systems, memory, |join, systems| {
-        caught(|| ent_runner::run_to_sync_point(join, entities, systems, workers, born))
+        caught(|| {
+            let begun = ent_runner::run_to_sync_point(join, entities, systems, workers, born);
+            begun.map_err(|unbegun| {
+                let (logs, error) = unbegun.into_parts();
+                HandedBack::new(logs, of_logs(error))
+            })
+        })
     })
 }

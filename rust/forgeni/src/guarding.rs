@@ -1,7 +1,7 @@
 //! Systems whose panics don't leave them.
 
 use crate::frames::Join;
-use crate::{LogCommands, LogSystem, OutOfMemory, Source, System, View, WorldCommands};
+use crate::{FrameError, LogCommands, LogError, LogSystem, Source, System, View, WorldCommands};
 use alloc::boxed::Box;
 use alloc::vec::Vec;
 use core::any::Any;
@@ -74,18 +74,47 @@ impl<T> Guarded<'_, T> {
     }
 }
 
-impl<S: Source, T: System<S>> System<S> for Guarded<'_, T> {
-    /// A system that panics has stopped, like one that ran out of memory: the frame is lost, and the
-    /// world is closed with what was reserved.
-    fn run(&self, view: &View<'_>, commands: &mut WorldCommands<'_, S>) -> Result<(), OutOfMemory> {
-        self.run(|| self.0.run(view, commands), Err(OutOfMemory))
+impl<S: Source, E, T: System<S, E>> System<S, Option<E>> for Guarded<'_, T> {
+    /// A system that panics has stopped, like one that returned an error, but has none: the frame is lost, and
+    /// the world is closed with what was reserved.
+    fn run(
+        &self,
+        view: &View<'_>,
+        commands: &mut WorldCommands<'_, S>,
+    ) -> Result<(), Option<E>> {
+        self.run(|| self.0.run(view, commands).map_err(Some), Err(None))
     }
 }
 
 /// The same of a system that fills a log.
-impl<C, S: Source, T: LogSystem<C, S>> LogSystem<C, S> for Guarded<'_, T> {
-    fn run(&self, commands: &mut LogCommands<'_, C, S>) -> Result<(), OutOfMemory> {
-        self.run(|| self.0.run(commands), Err(OutOfMemory))
+impl<C, S: Source, E, T: LogSystem<C, S, E>> LogSystem<C, S, Option<E>> for Guarded<'_, T> {
+    fn run(&self, commands: &mut LogCommands<'_, C, S>) -> Result<(), Option<E>> {
+        self.run(|| self.0.run(commands).map_err(Some), Err(None))
+    }
+}
+
+/// The error of a frame, from that of its guarded systems.
+pub(crate) fn of_frame<E>(error: FrameError<Option<E>>) -> FrameError<E> {
+    match error {
+        FrameError::NeedsFlush => FrameError::NeedsFlush,
+        FrameError::Workers => FrameError::Workers,
+        FrameError::Systems => FrameError::Systems,
+        FrameError::Memory => FrameError::Memory,
+        FrameError::Lost(error) => FrameError::Lost(error.flatten()),
+        FrameError::Unapplied(queues) => FrameError::Unapplied(queues),
+        FrameError::Stopped(stopped) => FrameError::Stopped(stopped),
+    }
+}
+
+/// The error of systems that fill logs, from that of the guarded ones.
+pub(crate) fn of_logs<E>(error: LogError<Option<E>>) -> LogError<E> {
+    match error {
+        LogError::NeedsFlush => LogError::NeedsFlush,
+        LogError::Workers => LogError::Workers,
+        LogError::Systems => LogError::Systems,
+        LogError::Memory => LogError::Memory,
+        LogError::Lost(error) => LogError::Lost(error.flatten()),
+        LogError::Unborn => LogError::Unborn,
     }
 }
 

@@ -56,10 +56,8 @@ pub type BlockCommands<'a, C> = LogCommands<'a, C, Blocks>;
 /// Issues the commands of one system of a world, with handles from a block of its own.
 pub type CommandsInBlocks<'a> = WorldCommands<'a, Blocks>;
 
-/// What a system returns.
-type Ran = Result<(), OutOfMemory>;
-
-/// Returns the closure, as a [`System`]. The call lets Rust infer the types of its parameters:
+/// Returns the closure, as a [`System`]. The call lets Rust infer the types of its parameters, and its error is
+/// [`OutOfMemory`]:
 ///
 /// ```
 /// use forgeni::{run_frame, system, World};
@@ -73,7 +71,10 @@ type Ran = Result<(), OutOfMemory>;
 /// assert_eq!(world.len(), 1);
 /// # Ok::<(), forgeni::FrameError>(())
 /// ```
-pub fn system<F: Fn(&View<'_>, &mut SystemCommands<'_>) -> Ran>(run: F) -> F {
+pub fn system<F>(run: F) -> F
+where
+    F: Fn(&View<'_>, &mut SystemCommands<'_>) -> Result<(), OutOfMemory>,
+{
     run
 }
 
@@ -81,15 +82,15 @@ pub fn system<F: Fn(&View<'_>, &mut SystemCommands<'_>) -> Ran>(run: F) -> F {
 /// so that several types go into one list.
 macro_rules! systems {
     ([$($of:tt)*] $kind:path, $($with:ident: $type:ty),*) => {
-        impl<$($of)*, F: Fn($($type),*) -> Ran> $kind for F {
-            fn run(&self, $($with: $type),*) -> Ran {
+        impl<$($of)*, F: Fn($($type),*) -> Result<(), E>> $kind for F {
+            fn run(&self, $($with: $type),*) -> Result<(), E> {
                 self($($with),*)
             }
         }
 
         #[cfg(feature = "std")]
-        impl<$($of)*, F: FnMut($($type),*) -> Ran> $kind for Mutex<F> {
-            fn run(&self, $($with: $type),*) -> Ran {
+        impl<$($of)*, F: FnMut($($type),*) -> Result<(), E>> $kind for Mutex<F> {
+            fn run(&self, $($with: $type),*) -> Result<(), E> {
                 self.lock().unwrap_or_else(PoisonError::into_inner)($($with),*)
             }
         }
@@ -107,13 +108,13 @@ macro_rules! systems {
     };
     ($kind:path, $with:tt $run:tt $([$($of:tt)*] $pointer:ty;)*) => {$(
         impl<$($of)*> $kind for $pointer {
-            fn run $with -> Ran $run
+            fn run $with -> Result<(), E> $run
         }
     )*};
 }
 
-systems!([S: Source] System<S>, view: &View<'_>, commands: &mut WorldCommands<'_, S>);
-systems!([C, S: Source] LogSystem<C, S>, commands: &mut LogCommands<'_, C, S>);
+systems!([S: Source, E] System<S, E>, view: &View<'_>, commands: &mut WorldCommands<'_, S>);
+systems!([C, S: Source, E] LogSystem<C, S, E>, commands: &mut LogCommands<'_, C, S>);
 
 shows! {
     SystemCommands<'_>:;

@@ -1,5 +1,6 @@
 //! Without the standard library nothing catches a panic, so systems run as they are.
 
+use crate::{FrameError, LogError};
 use core::convert::Infallible;
 
 /// Calls `run` with the `Join` and the systems.
@@ -16,4 +17,14 @@ pub(crate) fn guarded<J, S, T, E>(
 /// What the closure returns.
 pub(crate) fn caught<T>(run: impl FnOnce() -> T) -> Result<T, Infallible> {
     Ok(run())
+}
+
+/// The error as it is.
+pub(crate) fn of_frame<E>(error: FrameError<E>) -> FrameError<E> {
+    error
+}
+
+/// The error as it is.
+pub(crate) fn of_logs<E>(error: LogError<E>) -> LogError<E> {
+    error
 }

@@ -30,6 +30,8 @@ mod limits;
 mod log_systems;
 mod logs;
 mod model;
+#[cfg(feature = "std")]
+mod own_errors;
 mod panics;
 mod phases;
 mod recording;

@@ -258,7 +258,8 @@ fn after_a_system_stops_or_panics_all_blocks_count_as_used() {
                 Ok(ran) => {
                     let unrun = ran.expect_err("a system stopped");
                     let (reservers, error) = unrun.into_parts();
-                    assert_eq!((error, reservers.len()), (RunError::Lost, 0));
+                    let lost = RunError::Lost(Some(OutOfMemory));
+                    assert_eq!((error, reservers.len()), (lost, 0));
                 }
                 Err(panic) => assert_eq!(panic.downcast_ref(), Some(&"the system")),
             }
@@ -761,7 +762,8 @@ fn after_a_system_of_a_world_stops_or_panics_the_world_is_there() {
         else {
             panic!("a system stopped")
         };
-        assert_eq!((error, reservers.len()), (RunError::Lost, 0));
+        let lost = RunError::Lost(Some(OutOfMemory));
+        assert_eq!((error, reservers.len()), (lost, 0));
         assert_eq!(world.view().by_birth().expect("memory").len(), 2);
         expect_all_born(world.close_lost(reservers).expect("memory"), &blocks);
 

@@ -88,7 +88,7 @@ fn logs_are_in_the_order_of_the_systems() {
 fn each_refused_spawn_has_an_entry() {
     for workers in WORKERS {
         let mut entities = small(7, 9);
-        let system = |commands: &mut LogCommands<'_, ()>| {
+        let system = |commands: &mut LogCommands<'_, ()>| -> Result<(), OutOfMemory> {
             for _ in 0..3 {
                 if let Err(refused) = commands.spawn() {
                     refused.or_memory()?;
@@ -146,7 +146,11 @@ fn a_sync_point_that_does_not_begin() {
         (vec![Does::Spawn(1); 2], 0, LogError::Workers),
         (vec![Does::Spawn(1); 2], 65, LogError::Workers),
         (vec![Does::Spawn(1); 65_537], 1, LogError::Systems),
-        (vec![Does::Spawn(2), Does::Stop], 1, LogError::Lost),
+        (
+            vec![Does::Spawn(2), Does::Stop],
+            1,
+            LogError::Lost(Some(OutOfMemory)),
+        ),
         (vec![Does::Spawn(1)], 1, LogError::NeedsFlush),
     ] {
         let systems = numbered(&systems);
@@ -254,7 +258,7 @@ fn a_system_that_stops() {
         let mut entities = Entities::new();
         let systems = numbered(&[Does::Spawn(2), Does::Stop, Does::Spawn(2)]);
         let lost = run_logs(&mut entities, &systems, workers).expect_err("it stopped");
-        assert_eq!(lost, LogError::Lost);
+        assert_eq!(lost, LogError::Lost(Some(OutOfMemory)));
         let born = flushed(&mut entities).len();
         // A worker that stopped leaves the third system to another one.
         assert!(born == 5 || (workers < 3 && born == 3), "{workers}: {born}");

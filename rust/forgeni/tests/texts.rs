@@ -391,14 +391,19 @@ mod frames {
             let queues = systems.into_iter().map(Commands::finish).collect();
             open.close(queues).expect("closed")
         };
+        type Failed = FrameError<&'static str>;
         displays([
-            (&FrameError::NeedsFlush as &dyn Display, NEEDS_FLUSH),
-            (&FrameError::Workers, "a frame has 1 to 64 workers"),
-            (&FrameError::Systems, "a frame has at most 65,536 systems"),
-            (&FrameError::Memory, "out of memory before any system ran"),
-            (&FrameError::Lost, "out of memory while the systems ran"),
+            (&Failed::NeedsFlush as &dyn Display, NEEDS_FLUSH),
+            (&Failed::Workers, "a frame has 1 to 64 workers"),
+            (&Failed::Systems, "a frame has at most 65,536 systems"),
+            (&Failed::Memory, "out of memory before any system ran"),
+            (&Failed::Lost(None), "out of memory while the systems ran"),
             (
-                &FrameError::Unapplied(queues),
+                &Failed::Lost(Some("no road")),
+                "a system stopped: no road",
+            ),
+            (
+                &Failed::Unapplied(queues),
                 "the sync point stopped: out of memory",
             ),
         ]);
@@ -409,7 +414,7 @@ mod frames {
                 (&view as &dyn Debug, "View { phase: 1, .. }"),
                 (commands, "SystemCommands { .. }"),
             ]);
-            Ok(())
+            Ok::<(), OutOfMemory>(())
         };
         run_frame(&mut world, &[system], 1).expect("memory");
     }

@@ -2,12 +2,14 @@ ghost use Rattle.std.specs.Prelude.{◌≡◌, ◌≢◌, ◌<◌, ◌≤◌, �
 ghost use Rattle.ent_blocks.specs.Blocks.{blocks_of};
 ghost use Rattle.ent_blocks.specs.Faults.{IsErrWith};
 ghost use Rattle.ent_runner.specs.Blocks.{HaveFilled, IsBrokenOff};
+ghost use Rattle.ent_runner.specs.Blocks.Refusing.{IfLost, IfNotLost};
 ghost use Rattle.ent_runner.specs.declared.blocks.run_error.RunError.TheVariants as failed;
 
 use crate::BlockNumbering;
 use crate::blocks::room::{Room, WORKERS, check, prepare};
 use crate::blocks::run_error::RunError;
 use crate::blocks::splitting::split;
+use crate::crew::first_error;
 use crate::logs::system::LogSystem;
 use crate::stage::BlockStage;
 use crate::systems::Loggers;
@@ -53,24 +55,26 @@ use std::thread::Threads;
 /// - [`RunError::Workers`], [`RunError::Systems`], [`RunError::Reservers`], [`RunError::OtherPhase`],
 ///   [`RunError::Memory`]: no system ran, and the reservers are handed back as they were. No systems
 ///   take no memory.
-/// - [`RunError::Lost`]: a system returned an error, or systems are left and no worker has memory for
-///   another one. All logs and reservers are dropped: [`Blocks::close_lost`] ends the phase.
+/// - [`RunError::Lost`]: a system returned an error, and this has that of the first one in the order of
+///   the systems. Or systems are left and no worker has memory for another one: then it has none. All
+///   logs and reservers are dropped: [`Blocks::close_lost`] ends the phase.
 ///
 /// # Panics
 ///
 /// A panic of a system is handed on when all workers have ended. Logs and reservers are dropped then too.
-pub fn run_in_blocks<R, J: BlockNumbering + Send + Sync, C, S>(
+pub fn run_in_blocks<R, J: BlockNumbering + Send + Sync, C, S, E>(
     rt: &R,
     alloc: Global,
     blocks: &Blocks<J>,
     reservers: Vec<BlockReserver<J>>,
     systems: &[S],
     workers: usize,
-) -> Result<(Vec<Log<C>>, Vec<BlockReserver<J>>), HandedBack<Vec<BlockReserver<J>>, RunError>>
+) -> Result<(Vec<Log<C>>, Vec<BlockReserver<J>>), HandedBack<Vec<BlockReserver<J>>, RunError<E>>>
 where
     R: Threads + Sync,
     C: Drop + Send,
-    S: LogSystem<C, Blocks<J>> + Sync,
+    S: LogSystem<C, Blocks<J>, E> + Sync,
+    E: Drop + Send,
     ensures ok { IfOk result (λ ran. HaveFilled S.may_log systems.now blocks.now.phase.start.pool
         (blocks_of reservers.items) ran.0.items (blocks_of ran.1.items)) }
     ensures of { IfOk result (λ ran. All (λ r. r.number ≡ blocks.now.number) ran.1.items) }
@@ -87,14 +91,14 @@ where
         × ¬ (All (λ r. r.number ≡ blocks.now.number) reservers.items)) }
     ensures memory_some { IsErrWith result (λ h. h.error ≡ failed.Memory)
         → 0 < length systems.now }
-    ensures handed_back { IfErr result (λ h. h.error ≢ failed.Lost
-        → h.value.items ≡ reservers.items) }
+    ensures handed_back { IfErr result (λ h.
+        IfNotLost (h.value.items ≡ reservers.items) h.error) }
 
     // What is left if the systems were broken off.
-    ensures lost { IsErrWith result (λ h. h.error ≡ failed.Lost) → IsBrokenOff S.may_log S.may_leave
-        systems.now workers blocks.now.phase.start.pool (blocks_of reservers.items) }
-    ensures lost_some { IsErrWith result (λ h. h.error ≡ failed.Lost) → 0 < length systems.now }
-    ensures lost_reservers { IfErr result (λ h. h.error ≡ failed.Lost → h.value.items ≡ []) }
+    ensures lost { IfErr result (λ h. IfLost (IsBrokenOff S.may_log S.may_leave systems.now workers
+        blocks.now.phase.start.pool (blocks_of reservers.items)) h.error) }
+    ensures lost_some { IfErr result (λ h. IfLost (λ _. 0 < length systems.now) h.error) }
+    ensures lost_reservers { IfErr result (λ h. IfLost (λ _. h.value.items ≡ []) h.error) }
 {
     if let Err(error) = check(blocks, &reservers, systems.len(), workers) {
         return Err(HandedBack::new(reservers, error));
@@ -118,8 +122,9 @@ where
         systems: &loggers,
     };
     let mut nothing = [(); WORKERS];
-    let Ok(done) = crew.work(rt, &mut nothing[..workers], &stage) else {
-        return Err(HandedBack::new(returned, RunError::Lost));
+    let done = match crew.work(rt, &mut nothing[..workers], &stage) {
+        Ok(done) => done,
+        Err(left) => return Err(HandedBack::new(returned, RunError::Lost(first_error(left)))),
     };
     split(done, &mut logs, &mut returned);
     Ok((logs, returned))

@@ -29,10 +29,10 @@ closed g c =
     (search rules) (view_is c.in-Ok-open.made.0 c.view.result c.view.ensures.phase c.view.ensures.entities)
     (rw c.deref_mut.ensures.value (search rules)) (length-map c.deref_mut.result.now own ∙ many)
     (length-map c.work-queues.new.lent own ∙ (w.count ∙ many))
-    (IfOk-weaker c.work-queues.result _ _ (λ q. all_gained may leave c.args.systems.now c.view.result
+    (IfOk-weaker c.work-queues.result _ _ (λ q. all_gained may c.args.systems.now c.view.result
     c.shared.result.now _ c.deref_mut.result.now q.items c.work-queues.new.lent) w.done)
-    (IfErr-weaker c.work-queues.result _ _ (λ left. some_gained may leave c.args.systems.now c.view.result
-    c.shared.result.now _ c.deref_mut.result.now left.items c.work-queues.new.lent) w.broken_off) e.phase e.entities
+    (IfErr-weaker c.work-queues.result _ _ (λ left. some_gained may c.args.systems.now c.view.result
+    c.shared.result.now leave _ c.deref_mut.result.now left.items c.work-queues.new.lent) w.broken_off) e.phase e.entities
     (rw back at e.after) (rw back at e.legal) (rw back at e.respects)
 
 pub close-requires-clause-own : goal.close-requires-clause-own
@@ -55,17 +55,17 @@ returns-in-Err-apply-clause-stopped g c = search (
   same g (goal.at.returns-in-Err-apply-clause-stopped g c).In-Ok-open,
 )
 
-pub returns-in_default-queues-clause-still : goal.returns-in_default-queues-clause-still
-returns-in_default-queues-clause-still g c lost = lost_again g.S.System.may_issue g.S.System.may_leave _ _ _
-    c.in-Ok-open.made.0 _ (same g (goal.at.returns-in_default-queues-clause-still g c).In-Ok-open)
-    (closed g (goal.at.returns-in_default-queues-clause-still g c).After-close) c.in-Ok-open.ensures.sound
+pub returns-in-Err-queues-clause-still : goal.returns-in-Err-queues-clause-still
+returns-in-Err-queues-clause-still g c = lost_again g.S.System.may_issue g.S.System.may_leave _ _ _
+    c.in-Ok-open.made.0 _ (same g (goal.at.returns-in-Err-queues-clause-still g c).In-Ok-open)
+    (closed g (goal.at.returns-in-Err-queues-clause-still g c).After-close) c.in-Ok-open.ensures.sound
     c.requires.flushed
 
-pub returns-in_default-queues-clause-lost : goal.returns-in_default-queues-clause-lost
-returns-in_default-queues-clause-lost g c lost = broken_again g.S.System.may_issue g.S.System.may_leave _ _ _
-    c.in-Ok-open.made.0 _ (same g (goal.at.returns-in_default-queues-clause-lost g c).In-Ok-open)
-    (closed g (goal.at.returns-in_default-queues-clause-lost g c).After-close) c.args.workers
-    c.in-Ok-open.ensures.shared.1 (search rules)
+pub returns-in-Err-queues-clause-lost : goal.returns-in-Err-queues-clause-lost
+returns-in-Err-queues-clause-lost g c = broken_again g.S.System.may_issue g.S.System.may_leave _ _ _
+    c.in-Ok-open.made.0 _ (same g (goal.at.returns-in-Err-queues-clause-lost g c).In-Ok-open)
+    (closed g (goal.at.returns-in-Err-queues-clause-lost g c).After-close) c.args.workers
+    c.in-Ok-open.ensures.shared.1 c.in-Err-queues.left c.in-Err-queues.is c.first_error.result c.first_error.ensures
 
 pub returns-then-is_empty-clause-ok : goal.returns-then-is_empty-clause-ok
 returns-then-is_empty-clause-ok g c =
