@@ -20,8 +20,7 @@ pub use Rattle.std.proofs.lemmas.Option.{get_or_from_slice_get, none-some, slice
 pub use Rattle.std.proofs.lemmas.Result.{IfErr-weaker, IfOk-weaker}
 pub use Rattle.std.specs.List.{All, AllPairs, Contains, flat_map, position_from, range_with_len, sum_by}
 pub use Rattle.std.specs.List.Sorted.{IsPermutation}
-pub use Rattle.std.specs.Option.{is_some, option_map}
-pub use Rattle.std.specs.Result.{result_err}
+pub use Rattle.std.specs.Option.{option_map}
 pub use Rattle.std.specs.Ordering.{eq_by_cmp}
 pub use Rattle.std.specs.Prelude.{Any, Err, IfErr, IfNone, IfOk, IfSome, IsErr, IsErrOf, IsOk, IsSome, IsTrue, Ok, OnErr, OnOk, filter, if◌then◌else◌, replicate, slice_get, slice_set, true, vec_capacity, ◌==◌, ◌↔◌}
 pub use Rattle.atomic_table.specs.Seated.{TableId}

@@ -10,8 +10,8 @@ written_back n old new n_is same = search (rules, take-append-le, take_all)
 
 module _ {O : Type 0} where
   -- A crew is made: its claims are open, its workers are ready, and there is room for all outputs.
-  pub room_of : (claims seen : Claims) (jobs workers : ℕ) (team : List (Worker O)) (fresh : List Claimer)
-      (claimers : Vec Claimer Global) (by_number : List (Option O)) (outputs : Vec O Global) → claims ≡ seen
+  pub room_of : {P : Type 0} (claims seen : Claims) (jobs workers : ℕ) (team : List (Worker O)) (fresh : List Claimer)
+      (claimers : Vec Claimer Global) (by_number : List (Option O)) (outputs : Vec P Global) → claims ≡ seen
       → claims.numbers ≡ jobs → claims.workers ≡ workers → 0 < workers → length fresh ≡ workers
       → All (IsClaimerOf claims) fresh → All IsUnused fresh → map (λ (w : Worker O). w.claimer) team ≡ reverse fresh
       → All (λ (w : Worker O). IsRoomForOne w.done) team → claimers.items ≡ [] → length fresh ≤ vec_capacity claimers

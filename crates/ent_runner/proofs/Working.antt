@@ -1,5 +1,5 @@
 -- A worker does one job after the other. Two parts of the workers have worked, so all of them have.
-use Rattle.ent_runner.proofs.Common.{rules, ◌≡◌, ℕ, List, [], ◌∷◌, ◌++◌, is_err, is_some, false, true, true≢false, Ok, Err, None, Some, Option, IfErr, OnOk, result_err, FoldsTo-push, map-append, Done, numbers_of, HaveEnded, HasStoppedAt, Result, ◌-◌, length, arith, sym, cases_lt, length-append, get_or_append_left, get_or-append_right, Claims, Worker, HaveAllWorked}
+use Rattle.ent_runner.proofs.Common.{rules, ◌≡◌, ℕ, List, [], ◌∷◌, ◌++◌, is_err, false, true≢false, OnOk, FoldsTo-push, map-append, Done, numbers_of, HaveEnded, HasStoppedAt, Result, ◌-◌, length, arith, sym, cases_lt, length-append, get_or_append_left, get_or-append_right, Claims, Worker, HaveAllWorked}
 
 module _ {O : Type 0} where
   pub numbers_more : (done next : List (Done O)) (d : Done O) (claims more : List ℕ) → next ≡ done ++ d ∷ []
@@ -16,18 +16,6 @@ module _ {O : Type 0} where
     pub stopped_at : (a b c : L) (done next : List (Done O)) (d : Done O) → HaveEnded may a done b
         → leave d.number b d.output c → next ≡ done ++ d ∷ [] → HasStoppedAt may leave a next c
     stopped_at a b c done next d ended left pushed = search rules
-
--- what is known of a job that ended
-pub made_whole : {A E P : Type 0} (r : Result A E) (error : Option E) → error ≡ result_err r
-    → is_some error ≡ false → OnOk r P → (error ≡ None) × P
-made_whole (Ok a) error is going p = (is, p)
-made_whole (Err e) error is going p = absurd (true≢false (rw is at going))
-
--- and of one that stopped
-pub made_until : {A E : Type 0} {Q : E → Type 0} (r : Result A E) (error : Option E) → error ≡ result_err r
-    → is_some error ≡ true → IfErr r Q → (why : E) × (error ≡ Some why) × Q why
-made_until (Ok a) error is stopped q = absurd (true≢false (sym (rw is at stopped)))
-made_until (Err e) error is stopped q = (e, is, q)
 
 -- what a test of a result tells
 pub on_ok : {X E : Type 0} {P : Type 0} (r : Result X E) → is_err r ≡ false → OnOk r P → P

@@ -2,7 +2,7 @@
 ghost use Rattle.std.specs.Prelude.{◌≡◌, ◌<◌, ◌≤◌, ◌^◌, ◌-◌, [], length, map, reverse, replicate};
 ghost use Rattle.std.specs.Prelude.{All, Any, IfOk, IfErr, OnErr, None, true, false, flat_map};
 ghost use Rattle.std.specs.Prelude.{vec_capacity};
-ghost use Rattle.ent_runner.specs.Crew.Collecting.{outputs_put};
+ghost use Rattle.ent_runner.specs.Crew.Collecting.{first_error, outputs_put};
 ghost use Rattle.ent_runner.specs.Crew.{AreDone, AreBrokenOff, Ended, Stopped};
 ghost use Rattle.ent_runner.specs.Crew.Worker.{IsRoomForOne};
 
@@ -12,15 +12,16 @@ mod collecting;
 mod jobs;
 mod record;
 mod rule;
+mod steps;
 mod word;
 mod worker;
 
 pub use crate::crew::claimer::Claimer;
 pub use crate::crew::claims::Claims;
-pub(crate) use crate::crew::collecting::first_error;
 use crate::crew::collecting::{collect, put_all};
 pub use crate::crew::jobs::Jobs;
 pub use crate::crew::record::ClaimRecord;
+use crate::crew::steps::Kept;
 use crate::crew::worker::{Site, Worker, run_all};
 use ent_handle::Memory;
 use std::alloc::{AllocError, Global};
@@ -126,9 +127,10 @@ impl<O: Drop, E: Drop> Crew<O, E> {
         } = self;
         // More threads than jobs would find nothing to do.
         let threads = by_number.len();
+        let kept = Kept { jobs };
         let site = Site {
             claims: &claims,
-            jobs,
+            jobs: &kept,
         };
         run_all(rt, &site, &mut workers, lent, threads);
         let stopped = some_stopped(&workers);
@@ -174,6 +176,21 @@ fn without_outputs<O>(alloc: Global, count: usize) -> Result<Vec<Option<O>>, All
         by_number.push_reserved(None);
     }
     Ok(by_number)
+}
+
+/// The error of the first job that returned one. All else is dropped.
+pub(crate) fn first_error<O: Drop, E: Drop>(by_number: Vec<Option<(O, Option<E>)>>) -> Option<E>
+    ensures { result ≡ first_error by_number.items }
+{
+    for made in by_number {
+        let Some((_, error)) = made else {
+            continue;
+        };
+        if error.is_some() {
+            return error;
+        }
+    }
+    None
 }
 
 /// Whether a job of a worker has stopped.

@@ -77,11 +77,7 @@ impl<T> Guarded<'_, T> {
 impl<S: Source, E, T: System<S, E>> System<S, Option<E>> for Guarded<'_, T> {
     /// A system that panics has stopped, like one that returned an error, but has none: the frame is lost, and
     /// the world is closed with what was reserved.
-    fn run(
-        &self,
-        view: &View<'_>,
-        commands: &mut WorldCommands<'_, S>,
-    ) -> Result<(), Option<E>> {
+    fn run(&self, view: &View<'_>, commands: &mut WorldCommands<'_, S>) -> Result<(), Option<E>> {
         self.run(|| self.0.run(view, commands).map_err(Some), Err(None))
     }
 }
@@ -93,30 +89,21 @@ impl<C, S: Source, E, T: LogSystem<C, S, E>> LogSystem<C, S, Option<E>> for Guar
     }
 }
 
-/// The error of a frame, from that of its guarded systems.
-pub(crate) fn of_frame<E>(error: FrameError<Option<E>>) -> FrameError<E> {
-    match error {
-        FrameError::NeedsFlush => FrameError::NeedsFlush,
-        FrameError::Workers => FrameError::Workers,
-        FrameError::Systems => FrameError::Systems,
-        FrameError::Memory => FrameError::Memory,
-        FrameError::Lost(error) => FrameError::Lost(error.flatten()),
-        FrameError::Unapplied(queues) => FrameError::Unapplied(queues),
-        FrameError::Stopped(stopped) => FrameError::Stopped(stopped),
-    }
+/// The error of a run, from that of its guarded systems: one that panicked has none.
+macro_rules! unguarded {
+    ($of:ident, $error:ident: $($same:ident)*; $($with:ident)*) => {
+        pub(crate) fn $of<E>(error: $error<Option<E>>) -> $error<E> {
+            match error {
+                $error::Lost(error) => $error::Lost(error.flatten()),
+                $($error::$same => $error::$same,)*
+                $($error::$with(it) => $error::$with(it),)*
+            }
+        }
+    };
 }
 
-/// The error of systems that fill logs, from that of the guarded ones.
-pub(crate) fn of_logs<E>(error: LogError<Option<E>>) -> LogError<E> {
-    match error {
-        LogError::NeedsFlush => LogError::NeedsFlush,
-        LogError::Workers => LogError::Workers,
-        LogError::Systems => LogError::Systems,
-        LogError::Memory => LogError::Memory,
-        LogError::Lost(error) => LogError::Lost(error.flatten()),
-        LogError::Unborn => LogError::Unborn,
-    }
-}
+unguarded!(of_frame, FrameError: NeedsFlush Workers Systems Memory; Unapplied Stopped);
+unguarded!(of_logs, LogError: NeedsFlush Workers Systems Memory Unborn;);
 
 impl<J: Join> Join for Guarded<'_, J> {
     fn join(&self, first: &mut (dyn FnMut() + Send), second: &mut (dyn FnMut() + Send)) {

@@ -71,10 +71,7 @@ pub type CommandsInBlocks<'a> = WorldCommands<'a, Blocks>;
 /// assert_eq!(world.len(), 1);
 /// # Ok::<(), forgeni::FrameError>(())
 /// ```
-pub fn system<F>(run: F) -> F
-where
-    F: Fn(&View<'_>, &mut SystemCommands<'_>) -> Result<(), OutOfMemory>,
-{
+pub fn system<F: Fn(&View<'_>, &mut SystemCommands<'_>) -> Result<(), OutOfMemory>>(run: F) -> F {
     run
 }
 

@@ -1,7 +1,9 @@
 //! Without the standard library nothing catches a panic, so systems run as they are.
 
-use crate::{FrameError, LogError};
 use core::convert::Infallible;
+
+/// The errors of runs are as they are.
+pub(crate) use core::convert::{identity as of_frame, identity as of_logs};
 
 /// Calls `run` with the `Join` and the systems.
 pub(crate) fn guarded<J, S, T, E>(
@@ -17,14 +19,4 @@ pub(crate) fn guarded<J, S, T, E>(
 /// What the closure returns.
 pub(crate) fn caught<T>(run: impl FnOnce() -> T) -> Result<T, Infallible> {
     Ok(run())
-}
-
-/// The error as it is.
-pub(crate) fn of_frame<E>(error: FrameError<E>) -> FrameError<E> {
-    error
-}
-
-/// The error as it is.
-pub(crate) fn of_logs<E>(error: LogError<E>) -> LogError<E> {
-    error
 }

@@ -191,7 +191,7 @@ fn digests(workers: usize) -> Vec<u64> {
                             Err(refused) => refused.or_memory()?,
                         }
                     }
-                    Ok(())
+                    Ok::<(), OutOfMemory>(())
                 }
             };
             let systems: Vec<_> = (0..SYSTEMS).map(system).collect();
@@ -333,7 +333,7 @@ fn a_block_that_is_used_up_refuses_and_the_system_goes_on() {
             commands.spawn(),
             Err(ReserveError::Space { wanted: 1, left: 0 })
         );
-        Ok(())
+        Ok::<(), OutOfMemory>(())
     };
     let (blocks, reservers) = opened(&[0]);
     assert!(run_in_blocks(&StdThreads, &blocks, reservers, &[full], 1).is_ok());

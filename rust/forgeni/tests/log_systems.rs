@@ -184,7 +184,7 @@ fn systems_run_side_by_side() {
             .spawn()
             .map_or_else(|refused| refused.or_memory(), |_| Ok(()))?;
         both.wait();
-        Ok(())
+        Ok::<(), OutOfMemory>(())
     };
     let logs = run_logs(&mut entities, &[system; 2], 2).expect("memory");
     assert_eq!((logs.len(), flushed(&mut entities).len()), (2, 2));

@@ -186,7 +186,7 @@ mod frames {
     #[test]
     fn a_panic_whose_value_panics() {
         let mut world = one();
-        let system = |_: &View<'_>, commands: &mut SystemCommands<'_>| {
+        let system = |_: &View<'_>, commands: &mut SystemCommands<'_>| -> Result<(), OutOfMemory> {
             commands.spawn_with(&[]).expect("a handle");
             panic_any(Loud)
         };

@@ -1,7 +1,7 @@
 //! The outputs that workers hand back are put at the numbers of their jobs.
 ghost use Rattle.std.specs.Prelude.{◌≡◌, ◌<◌, ◌≤◌, [], length, All, IsSome, Some, slice_set};
 ghost use Rattle.std.specs.Prelude.{vec_capacity};
-ghost use Rattle.ent_runner.specs.Crew.Collecting.{AreCollected, first_error, outputs_put};
+ghost use Rattle.ent_runner.specs.Crew.Collecting.{AreCollected, outputs_put};
 
 use crate::crew::worker::Done;
 
@@ -38,16 +38,4 @@ pub(super) fn collect<O: Drop, E: Drop>(
         outputs.push_reserved(output);
     }
     outputs
-}
-
-/// The error of the first job that returned one. All else is dropped.
-pub(crate) fn first_error<O: Drop, E: Drop>(by_number: Vec<Option<(O, Option<E>)>>) -> Option<E>
-    ensures { result ≡ first_error by_number.items }
-{
-    for made in by_number {
-        if let Some((_, Some(error))) = made {
-            return Some(error);
-        }
-    }
-    None
 }

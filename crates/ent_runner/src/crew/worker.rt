@@ -1,14 +1,13 @@
 //! Workers: each claims jobs, one after the other, does them, and keeps their outputs.
-ghost use Rattle.std.specs.Prelude.{◌≡◌, ◌<◌, ◌≤◌, Option, true, false};
+ghost use Rattle.std.specs.Prelude.{◌≡◌, ◌<◌, ◌≤◌, true, false};
 ghost use Rattle.ent_runner.specs.Crew.Claims.{IsClaimerOf};
 ghost use Rattle.ent_runner.specs.Crew.Worker.{numbers_of, IsNewWorker, IsThrough, HaveEnded};
 ghost use Rattle.ent_runner.specs.Crew.Worker.{HasStoppedAt, HasWorked, AreReady, HaveAllWorked};
-ghost use Rattle.ent_runner.specs.Crew.{Ended, Stopped};
 ghost use denote.Param.Send.{IsSync, IsSend};
 
 use crate::crew::claimer::Claimer;
 use crate::crew::claims::Claims;
-use crate::crew::jobs::Jobs;
+use crate::crew::steps::Steps;
 use std::thread::{Threads, join_mut};
 
 /// What the workers of a crew have in common.
@@ -32,63 +31,53 @@ pub(super) struct Worker<O> {
     /// The outputs of the jobs that it did, in the order of the claims. If a job stopped, its
     /// output is the last one.
     pub(super) done: Vec<Done<O>>,
-    /// Its last job returned an error, so it has claimed no more.
+    /// Its last job stopped, so it has claimed no more.
     pub(super) stopped: bool,
 }
 
-/// Does the jobs that it claims, until none is left or one stops. It claims one only if there is
-/// room for its output, as there is for the first one. If not, other workers do what is left.
-/// Returns whether its last job stopped.
-fn work<O: Drop, E: Drop, L, J: Jobs<O, L, E>>(
-    worker: &mut Worker<(O, Option<E>)>,
-    site: &Site<'_, J>,
-    lent: &mut L,
-) -> bool
-    requires jobs { site.now.claims.now.numbers ≡ J.count site.now.jobs.now }
-    requires lent { J.may_have site.now.jobs.now lent.old }
-    requires claimer { IsClaimerOf site.now.claims.now worker.old.claimer }
-    requires fresh { IsNewWorker worker.old }
-    ensures lent { J.may_have site.now.jobs.now lent.new }
-    ensures claimer { IsClaimerOf site.now.claims.now worker.new.claimer }
-    ensures claimed { numbers_of worker.new.done.items ≡ worker.new.claimer.own.claims }
-    ensures ended { result ≡ false → HaveEnded (Ended (J.may_do site.now.jobs.now)) lent.old
-        worker.new.done.items lent.new }
-    ensures through { result ≡ false → IsThrough worker.new }
-    ensures stopped { result ≡ true → HasStoppedAt (Ended (J.may_do site.now.jobs.now))
-        (Stopped (J.may_leave site.now.jobs.now)) lent.old worker.new.done.items lent.new }
-    ensures flag { worker.new.stopped ≡ worker.old.stopped }
-{
-    while let Some(number) = site.claims.next(&mut worker.claimer) {
-        let (output, ran) = site.jobs.run(number, lent);
-        let error = ran.err();
-        let stopped = error.is_some();
-        let output = (output, error);
-        worker.done.push_reserved(Done { number, output });
-        if stopped {
-            return true;
+impl<O: Drop> Worker<O> {
+    /// Does the jobs that it claims, until none is left or one stops. It claims one only if there is
+    /// room for its output, as there is for the first one. If not, other workers do what is left.
+    /// Returns whether its last job stopped.
+    fn work<L, J: Steps<O, L>>(&mut self, site: &Site<'_, J>, lent: &mut L) -> bool
+        requires jobs { site.now.claims.now.numbers ≡ J.count site.now.jobs.now }
+        requires lent { J.may_have site.now.jobs.now lent.old }
+        requires claimer { IsClaimerOf site.now.claims.now self.old.claimer }
+        requires fresh { IsNewWorker self.old }
+        ensures lent { J.may_have site.now.jobs.now lent.new }
+        ensures claimer { IsClaimerOf site.now.claims.now self.new.claimer }
+        ensures claimed { numbers_of self.new.done.items ≡ self.new.claimer.own.claims }
+        ensures ended { result ≡ false → HaveEnded (J.may_do site.now.jobs.now) lent.old
+            self.new.done.items lent.new }
+        ensures through { result ≡ false → IsThrough self.new }
+        ensures stopped { result ≡ true → HasStoppedAt (J.may_do site.now.jobs.now)
+            (J.may_leave site.now.jobs.now) lent.old self.new.done.items lent.new }
+        ensures flag { self.new.stopped ≡ self.old.stopped }
+    {
+        while let Some(number) = site.claims.next(&mut self.claimer) {
+            let (output, stopped) = site.jobs.step(number, lent);
+            self.done.push_reserved(Done { number, output });
+            if stopped {
+                return true;
+            }
+            if self.done.reserve(1).is_err() {
+                return false;
+            }
         }
-        if worker.done.reserve(1).is_err() {
-            return false;
-        }
+        false
     }
-    false
-}
 
-/// Works, and remembers if its last job stopped.
-fn run<O: Drop, E: Drop, L, J: Jobs<O, L, E>>(
-    worker: &mut Worker<(O, Option<E>)>,
-    site: &Site<'_, J>,
-    lent: &mut L,
-)
-    requires jobs { site.now.claims.now.numbers ≡ J.count site.now.jobs.now }
-    requires lent { J.may_have site.now.jobs.now lent.old }
-    requires claimer { IsClaimerOf site.now.claims.now worker.old.claimer }
-    requires fresh { IsNewWorker worker.old }
-    ensures { HasWorked (Ended (J.may_do site.now.jobs.now))
-        (Stopped (J.may_leave site.now.jobs.now)) (J.may_have site.now.jobs.now)
-        site.now.claims.now lent.old lent.new worker.new }
-{
-    worker.stopped = work(worker, site, lent);
+    /// Works, and remembers if its last job stopped.
+    fn run<L, J: Steps<O, L>>(&mut self, site: &Site<'_, J>, lent: &mut L)
+        requires jobs { site.now.claims.now.numbers ≡ J.count site.now.jobs.now }
+        requires lent { J.may_have site.now.jobs.now lent.old }
+        requires claimer { IsClaimerOf site.now.claims.now self.old.claimer }
+        requires fresh { IsNewWorker self.old }
+        ensures { HasWorked (J.may_do site.now.jobs.now) (J.may_leave site.now.jobs.now)
+            (J.may_have site.now.jobs.now) site.now.claims.now lent.old lent.new self.new }
+    {
+        self.stopped = self.work(site, lent);
+    }
 }
 
 /// The threads of up to so many workers are started by one thread, one after the other. Until a new
@@ -109,10 +98,10 @@ fn handed_on(workers: usize) -> usize
 /// there are as many workers and each thread can be started. Some of the workers go to a new thread,
 /// again and again. Those that share a thread work one after the other.
 #[cycle(halves)]
-pub(super) fn run_all<R, O, L, E, J>(
+pub(super) fn run_all<R, O, L, J>(
     rt: &R,
     site: &Site<'_, J>,
-    workers: &mut [Worker<(O, Option<E>)>],
+    workers: &mut [Worker<O>],
     lent: &mut [L],
     threads: usize,
 )
@@ -120,16 +109,14 @@ where
     R: Threads + Sync,
     O: Drop + Send,
     L: Send,
-    E: Drop + Send,
-    J: Jobs<O, L, E> + Sync,
+    J: Steps<O, L> + Sync,
     requires jobs { site.now.claims.now.numbers ≡ J.count site.now.jobs.now }
     requires ready { AreReady (J.may_have site.now.jobs.now) site.now.claims.now lent.old workers.old }
-    ensures { HaveAllWorked (Ended (J.may_do site.now.jobs.now))
-        (Stopped (J.may_leave site.now.jobs.now)) (J.may_have site.now.jobs.now) site.now.claims.now
-        lent.old lent.new workers.new }
+    ensures { HaveAllWorked (J.may_do site.now.jobs.now) (J.may_leave site.now.jobs.now)
+        (J.may_have site.now.jobs.now) site.now.claims.now lent.old lent.new workers.new }
 {
     if workers.len() == 1 {
-        run(&mut workers[0], site, &mut lent[0]);
+        workers[0].run(site, &mut lent[0]);
         return;
     }
     let middle = handed_on(workers.len());
@@ -145,12 +132,12 @@ where
 
 /// Both parts of the workers work side by side, the first one in no more threads than it has workers.
 #[cycle(halves)]
-fn run_both<R, O, L, E, J>(
+fn run_both<R, O, L, J>(
     rt: &R,
     site: &Site<'_, J>,
-    front: &mut [Worker<(O, Option<E>)>],
+    front: &mut [Worker<O>],
     first: &mut [L],
-    back: &mut [Worker<(O, Option<E>)>],
+    back: &mut [Worker<O>],
     second: &mut [L],
     threads: usize,
 )
@@ -158,34 +145,31 @@ where
     R: Threads + Sync,
     O: Drop + Send,
     L: Send,
-    E: Drop + Send,
-    J: Jobs<O, L, E> + Sync,
+    J: Steps<O, L> + Sync,
     requires jobs { site.now.claims.now.numbers ≡ J.count site.now.jobs.now }
     requires front { AreReady (J.may_have site.now.jobs.now) site.now.claims.now first.old front.old }
     requires back { AreReady (J.may_have site.now.jobs.now) site.now.claims.now second.old back.old }
-    ensures front { HaveAllWorked (Ended (J.may_do site.now.jobs.now))
-        (Stopped (J.may_leave site.now.jobs.now)) (J.may_have site.now.jobs.now) site.now.claims.now
-        first.old first.new front.new }
-    ensures back { HaveAllWorked (Ended (J.may_do site.now.jobs.now))
-        (Stopped (J.may_leave site.now.jobs.now)) (J.may_have site.now.jobs.now) site.now.claims.now
-        second.old second.new back.new }
+    ensures front { HaveAllWorked (J.may_do site.now.jobs.now) (J.may_leave site.now.jobs.now)
+        (J.may_have site.now.jobs.now) site.now.claims.now first.old first.new front.new }
+    ensures back { HaveAllWorked (J.may_do site.now.jobs.now) (J.may_leave site.now.jobs.now)
+        (J.may_have site.now.jobs.now) site.now.claims.now second.old second.new back.new }
 {
     let fewer = front.len().min(threads / 2);
     let more = threads - fewer;
     let mut one = ||
-        requires { IsSync R.row × IsSync J.row × IsSend O.row × IsSend E.row × IsSend L.row
+        requires { IsSync R.row × IsSync J.row × IsSend O.row × IsSend L.row
             × (site.now.claims.now.numbers ≡ J.count site.now.jobs.now)
             × AreReady (J.may_have site.now.jobs.now) site.now.claims.now first.now front.now }
-        ensures { HaveAllWorked (Ended (J.may_do site.entry.now.jobs.now))
-            (Stopped (J.may_leave site.entry.now.jobs.now)) (J.may_have site.entry.now.jobs.now)
+        ensures { HaveAllWorked (J.may_do site.entry.now.jobs.now)
+            (J.may_leave site.entry.now.jobs.now) (J.may_have site.entry.now.jobs.now)
             site.entry.now.claims.now first.entry.now first.exit.now front.exit.now }
     { run_all(rt, site, front, first, fewer) };
     let mut other = ||
-        requires { IsSync R.row × IsSync J.row × IsSend O.row × IsSend E.row × IsSend L.row
+        requires { IsSync R.row × IsSync J.row × IsSend O.row × IsSend L.row
             × (site.now.claims.now.numbers ≡ J.count site.now.jobs.now)
             × AreReady (J.may_have site.now.jobs.now) site.now.claims.now second.now back.now }
-        ensures { HaveAllWorked (Ended (J.may_do site.entry.now.jobs.now))
-            (Stopped (J.may_leave site.entry.now.jobs.now)) (J.may_have site.entry.now.jobs.now)
+        ensures { HaveAllWorked (J.may_do site.entry.now.jobs.now)
+            (J.may_leave site.entry.now.jobs.now) (J.may_have site.entry.now.jobs.now)
             site.entry.now.claims.now second.entry.now second.exit.now back.exit.now }
     { run_all(rt, site, back, second, more) };
     join_mut(rt, &mut one, &mut other);

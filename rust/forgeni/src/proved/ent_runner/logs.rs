@@ -7,7 +7,7 @@ pub(super) mod log_error;
 pub(super) mod system;
 
 use alloc::vec::Vec;
-use crate::proved::ent_runner::crew::Crew;
+use crate::proved::ent_runner::crew::{Crew, first_error};
 use crate::proved::ent_runner::logs::log_error::LogError;
 use crate::proved::ent_runner::logs::system::LogSystem;
 use crate::proved::ent_runner::stage::SharedStage;
@@ -37,9 +37,10 @@ const SYSTEMS: usize = 65_536;
 ///
 /// - [`LogError::NeedsFlush`], [`LogError::Workers`], [`LogError::Systems`], [`LogError::Memory`]:
 ///   no system ran, and the allocator is as it was.
-/// - [`LogError::Lost`]: a system returned an error, or systems are left and no worker has memory
-///   for the log of another one. The logs are dropped. What the systems that ran had reserved stays
-///   reserved, and nothing else is: [`Entities::flush`] brings it to life.
+/// - [`LogError::Lost`]: a system returned an error, and this has that of the first one in the order of
+///   the systems. Or systems are left and no worker has memory for the log of another one: then it has
+///   none. The logs are dropped. What the systems that ran had reserved stays reserved, and nothing
+///   else is: [`Entities::flush`] brings it to life.
 ///
 /// <details><summary>Contract</summary>
 ///
@@ -62,28 +63,28 @@ const SYSTEMS: usize = 65_536;
 ///     ↔ ((entities.old.allocator.asked ≡ 0) × (0 < workers) × (workers ≤ 64)
 ///     × (2 ^ 16 < length systems.now)) }
 /// ensures memory_some { IsErrOf result LogError.Memory → 0 < length systems.now }
-/// ensures nothing { IfErr result (λ error. error ≢ LogError.Lost
-///     → entities.new ≡ entities.old) }
+/// ensures nothing { IfErr result (IfNotLost (entities.new ≡ entities.old)) }
 ///
 /// // What is left of a run that was broken off.
-/// ensures lost { IsErrOf result LogError.Lost → IsBrokenOff S.may_log S.may_leave systems.now
-///     workers entities.old.allocator entities.new.allocator }
-/// ensures lost_some { IsErrOf result LogError.Lost → 0 < length systems.now }
+/// ensures lost { IfErr result (IfLost (IsBrokenOff S.may_log S.may_leave systems.now workers
+///     entities.old.allocator entities.new.allocator)) }
+/// ensures lost_some { IfErr result (IfLost (λ _. 0 < length systems.now)) }
 /// ensures unborn { result ≢ Err LogError.Unborn }
 /// ```
 ///
 /// </details>
 #[inline]
-pub fn run_logs<R, C, S>(
+pub fn run_logs<R, C, S, E>(
     rt: &R,
     entities: &mut Entities,
     systems: &[S],
     workers: usize,
-) -> Result<Vec<Log<C>>, LogError>
+) -> Result<Vec<Log<C>>, LogError<E>>
 where
     R: Threads + Sync,
     C: Send,
-    S: LogSystem<C, Shared> + Sync,
+    S: LogSystem<C, Shared, E> + Sync,
+    E: Send,
 {
     if entities.needs_flush() {
         return Err(LogError::NeedsFlush);
@@ -116,8 +117,8 @@ where
     // A command may panic when it is dropped. So no log is dropped before the allocator is in its place.
     let logs = crew.work(rt, &mut reservers, &stage);
     *entities = shared.close(reservers);
-    let Ok(logs) = logs else {
-        return Err(LogError::Lost);
-    };
-    Ok(logs)
+    match logs {
+        Ok(logs) => Ok(logs),
+        Err(left) => Err(LogError::Lost(first_error(left))),
+    }
 }

@@ -4,7 +4,6 @@
 use crate::proved::ent_runner::crew::Jobs;
 use crate::proved::ent_runner::systems::Systems;
 use crate::proved::ent_blocks::{BlockReserver, Blocks, again};
-use crate::proved::ent_handle::Memory;
 use crate::proved::ent_queue::{Commands, Output};
 use crate::proved::ent_shared::{Reserver, Shared};
 
@@ -14,10 +13,10 @@ pub(super) struct SharedStage<'a, 's, T> {
     pub(super) systems: &'s T,
 }
 
-impl<O: Output, T: Systems<O, Shared>> Jobs<O, Reserver> for SharedStage<'_, '_, T> {
+impl<O: Output, E, T: Systems<O, Shared, E>> Jobs<O, Reserver, E> for SharedStage<'_, '_, T> {
     /// Runs the system of this number. Its output has what it added, also if it stopped.
     #[inline]
-    fn run(&self, number: usize, reserver: &mut Reserver) -> (O, Result<(), Memory>) {
+    fn run(&self, number: usize, reserver: &mut Reserver) -> (O, Result<(), E>) {
         let mut commands = Commands::new(self.shared, reserver);
         let ran = self.systems.run_at(number, &mut commands);
         (commands.finish(), ran)
@@ -33,12 +32,12 @@ pub(super) struct BlockStage<'b, 'r, 's, T> {
 
 /// Nothing is lent to them: each has its own reserver. So there is nothing that workers share but the
 /// claims.
-impl<O: Output, T: Systems<O, Blocks>> Jobs<(O, BlockReserver), ()>
-    for BlockStage<'_, '_, '_, T> {
+impl<O: Output, E, T: Systems<O, Blocks, E>>
+    Jobs<(O, BlockReserver), (), E> for BlockStage<'_, '_, '_, T> {
     /// Runs the system of this number, which is run once. Its output has what it added, also if it
     /// stopped.
     #[inline]
-    fn run(&self, number: usize, lent: &mut ()) -> ((O, BlockReserver), Result<(), Memory>) {
+    fn run(&self, number: usize, lent: &mut ()) -> ((O, BlockReserver), Result<(), E>) {
         let mut reserver = again(&self.reservers[number]);
         let mut commands = Commands::new(self.blocks, &mut reserver);
         let ran = self.systems.run_at(number, &mut commands);

@@ -2,13 +2,14 @@
 
 use crate::proved::ent_total::queues::Queues;
 use crate::proved::ent_total::stopped::Stopped;
+use crate::proved::ent_handle::Memory;
 use core::error::Error;
 use core::fmt;
 
 /// Why a frame wasn't completed.
 #[non_exhaustive]
 #[derive(Debug)]
-pub enum FrameError {
+pub enum FrameError<E = Memory> {
     /// Handles were requested since the last flush. No system ran, and the world is as it was.
     NeedsFlush,
     /// The number of workers isn't one from 1 to 64. No system ran, and the world is as it was.
@@ -17,10 +18,11 @@ pub enum FrameError {
     Systems,
     /// Memory ran out before any system ran. The world is as it was.
     Memory,
-    /// A system returned an error, or systems are left and no worker has memory for another one. No
-    /// command took effect. The handles that the systems reserved stay reserved, and no others: the
-    /// next flush brings them to life, without components.
-    Lost,
+    /// A system returned this error, the first in the order of the systems that did. Without one,
+    /// systems are left and no worker has memory for another one. No command took effect. The handles
+    /// that the systems reserved stay reserved, and no others: the next flush brings them to life,
+    /// without components.
+    Lost(Option<E>),
     /// All systems ran, and there was no memory to begin the sync point. No command took effect.
     /// [`World::apply`](crate::proved::ent_total::World::apply) makes it.
     Unapplied(Queues),
@@ -29,7 +31,7 @@ pub enum FrameError {
     Stopped(Stopped),
 }
 
-impl fmt::Display for FrameError {
+impl<E: fmt::Display> fmt::Display for FrameError<E> {
     #[inline]
     fn fmt(&self, f: &mut fmt::Formatter<'_>) -> fmt::Result {
         match self {
@@ -37,11 +39,12 @@ impl fmt::Display for FrameError {
             FrameError::Workers => f.write_str("a frame has 1 to 64 workers"),
             FrameError::Systems => f.write_str("a frame has at most 65,536 systems"),
             FrameError::Memory => f.write_str("out of memory before any system ran"),
-            FrameError::Lost => f.write_str("out of memory while the systems ran"),
+            FrameError::Lost(None) => f.write_str("out of memory while the systems ran"),
+            FrameError::Lost(Some(error)) => write!(f, "a system stopped: {error}"),
             FrameError::Unapplied(_) => f.write_str("the sync point stopped: out of memory"),
             FrameError::Stopped(stopped) => write!(f, "the sync point stopped: {stopped}"),
         }
     }
 }
 
-impl Error for FrameError {}
+impl<E: fmt::Debug + fmt::Display> Error for FrameError<E> {}

@@ -30,9 +30,10 @@ const SYSTEMS: usize = 65_536;
 ///
 /// - [`FrameError::NeedsFlush`], [`FrameError::Workers`], [`FrameError::Systems`],
 ///   [`FrameError::Memory`]: no system ran, and the world is as it was.
-/// - [`FrameError::Lost`]: a system returned an error, or systems are left and no worker has
-///   memory for another one. No command took effect. What the systems that ran had reserved stays
-///   reserved, and nothing else is: [`World::flush`] brings it to life, without components.
+/// - [`FrameError::Lost`]: a system returned an error, and this has that of the first one in the order
+///   of the systems. Or systems are left and no worker has memory for another one: then it has none. No
+///   command took effect. What the systems that ran had reserved stays reserved, and nothing else is:
+///   [`World::flush`] brings it to life, without components.
 /// - [`FrameError::Unapplied`], [`FrameError::Stopped`]: all systems ran, and the sync point ran
 ///   out of memory. It may be made again, or go on.
 ///
@@ -59,16 +60,17 @@ const SYSTEMS: usize = 65_536;
 ///
 /// </details>
 #[inline]
-pub fn run_frame<R, S, G>(
+pub fn run_frame<R, S, E, G>(
     rt: &R,
     world: &mut World,
     systems: &[S],
     workers: usize,
     gate: &G,
-) -> Result<FrameReport, FrameError>
+) -> Result<FrameReport, FrameError<E>>
 where
     R: Threads + Sync,
-    S: System<Shared> + Sync,
+    S: System<Shared, E> + Sync,
+    E: Send,
     G: Gate + Sync,
 {
     if world.world.needs_flush() {
@@ -86,7 +88,7 @@ where
             Ok(report)
         }
         Err(FrameFault::Memory) => Err(FrameError::Memory),
-        Err(FrameFault::Lost) => Err(FrameError::Lost),
+        Err(FrameFault::Lost(error)) => Err(FrameError::Lost(error)),
         Err(FrameFault::Sync { fault, queues }) => {
             let queues = Queues::new(world.number, queues);
             match fault {

@@ -56,9 +56,9 @@ use crate::kit::thread::Threads;
 /// - [`RunError::Workers`], [`RunError::Systems`] if there are more than 65,536, [`RunError::Reservers`],
 ///   [`RunError::OtherPhase`], [`RunError::Memory`]: no system ran, and the reservers are handed back as
 ///   they were. No systems take no memory.
-/// - [`RunError::Lost`]: a system returned an error, or systems are left and
-///   no worker has memory for another one. All queues and reservers are dropped:
-///   [`WorldInBlocks::close_lost`] ends the phase.
+/// - [`RunError::Lost`]: a system returned an error, and this has that of the first one in the order of
+///   the systems. Or systems are left and no worker has memory for another one: then it has none. All
+///   queues and reservers are dropped: [`WorldInBlocks::close_lost`] ends the phase.
 ///
 /// # Panics
 ///
@@ -85,16 +85,17 @@ use crate::kit::thread::Threads;
 ///
 /// </details>
 #[inline]
-pub fn fill_in_blocks<R, S>(
+pub fn fill_in_blocks<R, S, E>(
     rt: &R,
     opened: &WorldInBlocks,
     reservers: Vec<BlockReserver>,
     systems: &[S],
     workers: usize,
-) -> Result<(Queues, Vec<BlockReserver>), HandedBack<Vec<BlockReserver>, RunError>>
+) -> Result<(Queues, Vec<BlockReserver>), HandedBack<Vec<BlockReserver>, RunError<E>>>
 where
     R: Threads + Sync,
-    S: System<Blocks> + Sync,
+    S: System<Blocks, E> + Sync,
+    E: Send,
 {
     let filled = crate::proved::ent_runner::fill_in_blocks(
         rt,
@@ -176,16 +177,17 @@ where
 ///
 /// </details>
 #[inline]
-pub fn run_frame_in_blocks<R, S>(
+pub fn run_frame_in_blocks<R, S, E>(
     rt: &R,
     opened: WorldInBlocks,
     reservers: Vec<BlockReserver>,
     systems: &[S],
     workers: usize,
-) -> Result<(World, FrameReport), Unframed>
+) -> Result<(World, FrameReport), Unframed<E>>
 where
     R: Threads + Sync,
-    S: System<Blocks> + Sync,
+    S: System<Blocks, E> + Sync,
+    E: Send,
 {
     let WorldInBlocks {
         world: opened,

@@ -6,13 +6,13 @@ use crate::proved::ent_total::stopped::Stopped;
 use crate::proved::ent_total::world::World;
 use crate::proved::ent_total::world_in_blocks::WorldInBlocks;
 use crate::proved::ent_blocks::{BlockReserver, EndError};
-use crate::proved::ent_handle::HandedBack;
+use crate::proved::ent_handle::{HandedBack, Memory};
 use crate::proved::ent_runner::RunError;
 use core::error::Error;
 use core::fmt;
 
 /// A frame in blocks that didn't end. It hands everything back.
-pub enum Unframed {
+pub enum Unframed<E = Memory> {
     /// The systems filled no queues. The world is as it was opened, and no command was applied.
     Unrun {
         /// The world as it was opened.
@@ -21,7 +21,7 @@ pub enum Unframed {
         /// ([`RunError::Lost`]): [`WorldInBlocks::close_lost`] ends the phase without them.
         reservers: Vec<BlockReserver>,
         /// Why there are no queues.
-        error: RunError,
+        error: RunError<E>,
     },
     /// All systems ran, and the world was not closed. [`WorldInBlocks::close`] closes it, and
     /// [`World::apply`] does the sync point.
@@ -50,7 +50,7 @@ pub enum Unframed {
 }
 
 /// It says why.
-impl fmt::Display for Unframed {
+impl<E: fmt::Display> fmt::Display for Unframed<E> {
     #[inline]
     fn fmt(&self, f: &mut fmt::Formatter<'_>) -> fmt::Result {
         match self {
@@ -63,7 +63,7 @@ impl fmt::Display for Unframed {
 }
 
 /// It shows why, and says that there is more.
-impl fmt::Debug for Unframed {
+impl<E: fmt::Debug> fmt::Debug for Unframed<E> {
     #[inline]
     fn fmt(&self, f: &mut fmt::Formatter<'_>) -> fmt::Result {
         match self {
@@ -81,4 +81,4 @@ impl fmt::Debug for Unframed {
     }
 }
 
-impl Error for Unframed {}
+impl<E: fmt::Debug + fmt::Display> Error for Unframed<E> {}

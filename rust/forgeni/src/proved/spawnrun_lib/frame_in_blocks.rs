@@ -64,7 +64,7 @@ where
         Ok((world, report)) => Ok((world, report.sync)),
         Err(
             Unframed::Unrun {
-                error: RunError::Lost,
+                error: RunError::Lost(_),
                 ..
             },
         ) => Err(Undone::Lost),

@@ -32,7 +32,7 @@ impl<'a> ScriptSystem<'a> {
     }
 }
 
-impl<S: Source> System<S> for ScriptSystem<'_> {
+impl<S: Source> System<S, Memory> for ScriptSystem<'_> {
     /// # Errors
     ///
     /// `Memory`, if one of the operations ran out of memory, and for no other reason. A spawn

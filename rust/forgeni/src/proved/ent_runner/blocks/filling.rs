@@ -4,6 +4,7 @@ use alloc::vec::Vec;
 use crate::proved::ent_runner::blocks::room::{Room, WORKERS, check, prepare};
 use crate::proved::ent_runner::blocks::run_error::RunError;
 use crate::proved::ent_runner::blocks::splitting::split;
+use crate::proved::ent_runner::crew::first_error;
 use crate::proved::ent_runner::frame::gate::NoGate;
 use crate::proved::ent_runner::frame::system::System;
 use crate::proved::ent_runner::stage::BlockStage;
@@ -30,8 +31,9 @@ use crate::kit::thread::Threads;
 /// - [`RunError::Workers`], [`RunError::Systems`], [`RunError::Reservers`], [`RunError::OtherPhase`],
 ///   [`RunError::Memory`]: no system ran, and the reservers are handed back as they were. No systems
 ///   take no memory.
-/// - [`RunError::Lost`]: a system returned an error, or systems are left and no worker has memory for
-///   another one. All queues and reservers are dropped: [`Blocks::close_lost`] ends the phase.
+/// - [`RunError::Lost`]: a system returned an error, and this has that of the first one in the order of
+///   the systems. Or systems are left and no worker has memory for another one: then it has none. All
+///   queues and reservers are dropped: [`Blocks::close_lost`] ends the phase.
 ///
 /// <details><summary>Contract</summary>
 ///
@@ -54,29 +56,30 @@ use crate::kit::thread::Threads;
 ///     × ¬ (All (λ r. r.number ≡ blocks.now.number) reservers.items)) }
 /// ensures memory_some { IsErrWith result (λ h. h.error ≡ failed.Memory)
 ///     → 0 < length systems.now }
-/// ensures handed_back { IfErr result (λ h. h.error ≢ failed.Lost
-///     → h.value.items ≡ reservers.items) }
+/// ensures handed_back { IfErr result (λ h.
+///     IfNotLost (h.value.items ≡ reservers.items) h.error) }
 ///
 /// // What is left if the systems were broken off.
-/// ensures lost { IsErrWith result (λ h. h.error ≡ failed.Lost) → HaveStopped S.may_issue
-///     S.may_leave systems.now workers view.entry blocks.now.phase.start (blocks_of reservers.items) }
-/// ensures lost_some { IsErrWith result (λ h. h.error ≡ failed.Lost) → 0 < length systems.now }
-/// ensures lost_reservers { IfErr result (λ h. h.error ≡ failed.Lost → h.value.items ≡ []) }
+/// ensures lost { IfErr result (λ h. IfLost (HaveStopped S.may_issue S.may_leave systems.now workers
+///     view.entry blocks.now.phase.start (blocks_of reservers.items)) h.error) }
+/// ensures lost_some { IfErr result (λ h. IfLost (λ _. 0 < length systems.now) h.error) }
+/// ensures lost_reservers { IfErr result (λ h. IfLost (λ _. h.value.items ≡ []) h.error) }
 /// ```
 ///
 /// </details>
 #[inline]
-pub fn fill_in_blocks<R, S>(
+pub fn fill_in_blocks<R, S, E>(
     rt: &R,
     blocks: &Blocks,
     reservers: Vec<BlockReserver>,
     view: View<'_>,
     systems: &[S],
     workers: usize,
-) -> Result<(Vec<CommandQueue>, Vec<BlockReserver>), HandedBack<Vec<BlockReserver>, RunError>>
+) -> Result<(Vec<CommandQueue>, Vec<BlockReserver>), HandedBack<Vec<BlockReserver>, RunError<E>>>
 where
     R: Threads + Sync,
-    S: System<Blocks> + Sync,
+    S: System<Blocks, E> + Sync,
+    E: Send,
 {
     if let Err(error) = check(blocks, &reservers, systems.len(), workers) {
         return Err(HandedBack::new(reservers, error));
@@ -103,8 +106,9 @@ where
         systems: &issuers,
     };
     let mut nothing = [(); WORKERS];
-    let Ok(done) = crew.work(rt, &mut nothing[..workers], &stage) else {
-        return Err(HandedBack::new(returned, RunError::Lost));
+    let done = match crew.work(rt, &mut nothing[..workers], &stage) {
+        Ok(done) => done,
+        Err(left) => return Err(HandedBack::new(returned, RunError::Lost(first_error(left)))),
     };
     split(done, &mut queues, &mut returned);
     Ok((queues, returned))

@@ -12,7 +12,7 @@ use crate::proved::ent_world::{SyncFault, World, WorldInBlocks};
 use crate::kit::thread::Threads;
 
 /// A frame in blocks that didn't end.
-pub enum Unframed {
+pub enum Unframed<E> {
     /// The systems filled no queues. The world is as it was opened, and no command was applied.
     Unrun {
         /// The world as it was opened.
@@ -21,7 +21,7 @@ pub enum Unframed {
         /// [`WorldInBlocks::close_lost`] ends the phase without them.
         reservers: Vec<BlockReserver>,
         /// Why there are no queues.
-        error: RunError,
+        error: RunError<E>,
     },
     /// All systems ran, and the world was not closed. [`WorldInBlocks::close`] closes it, and
     /// [`World::apply`] does the sync point.
@@ -83,16 +83,16 @@ pub enum Unframed {
 /// ensures memory_some { IsErrWith result (IsUnrun failed.Memory) → 0 < length systems.now }
 /// ensures unrun { IfErr result (IfUnrun (λ world _ _. world ≡ opened)) }
 /// ensures handed_back { IfErr result (IfUnrun (λ _ left error.
-///     error ≢ failed.Lost → left ≡ reservers.items)) }
+///     IfNotLost (left ≡ reservers.items) error)) }
 ///
 /// // What is left if the systems were broken off.
-/// ensures lost { IfErr result (IfUnrun (λ _ _ error. error ≡ failed.Lost
-///     → HaveStopped S.may_issue S.may_leave systems.now workers (view_in_blocks opened)
-///     opened.blocks.phase.start (blocks_of reservers.items))) }
-/// ensures lost_some { IfErr result (IfUnrun (λ _ _ error. error ≡ failed.Lost
-///     → 0 < length systems.now)) }
-/// ensures lost_reservers { IfErr result (IfUnrun (λ _ left error. error ≡ failed.Lost
-///     → left ≡ [])) }
+/// ensures lost { IfErr result (IfUnrun (λ _ _ error. IfLost (HaveStopped S.may_issue S.may_leave
+///     systems.now workers (view_in_blocks opened) opened.blocks.phase.start
+///     (blocks_of reservers.items)) error)) }
+/// ensures lost_some { IfErr result (IfUnrun (λ _ _ error.
+///     IfLost (λ _. 0 < length systems.now) error)) }
+/// ensures lost_reservers { IfErr result (IfUnrun (λ _ left error.
+///     IfLost (λ _. left ≡ []) error)) }
 ///
 /// // All systems ran, and the world was not closed.
 /// ensures unended { IfErr result (IfUnended (λ world _ _ _. world ≡ opened)) }
@@ -121,16 +121,17 @@ pub enum Unframed {
 ///
 /// </details>
 #[inline]
-pub fn run_frame_in_blocks<R, S>(
+pub fn run_frame_in_blocks<R, S, E>(
     rt: &R,
     opened: WorldInBlocks,
     reservers: Vec<BlockReserver>,
     systems: &[S],
     workers: usize,
-) -> Result<(World, FrameReport), Unframed>
+) -> Result<(World, FrameReport), Unframed<E>>
 where
     R: Threads + Sync,
-    S: System<Blocks> + Sync,
+    S: System<Blocks, E> + Sync,
+    E: Send,
 {
     let view = opened.view();
     let filled = fill_in_blocks(

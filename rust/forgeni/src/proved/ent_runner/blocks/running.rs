@@ -4,6 +4,7 @@ use alloc::vec::Vec;
 use crate::proved::ent_runner::blocks::room::{Room, WORKERS, check, prepare};
 use crate::proved::ent_runner::blocks::run_error::RunError;
 use crate::proved::ent_runner::blocks::splitting::split;
+use crate::proved::ent_runner::crew::first_error;
 use crate::proved::ent_runner::logs::system::LogSystem;
 use crate::proved::ent_runner::stage::BlockStage;
 use crate::proved::ent_runner::systems::Loggers;
@@ -48,8 +49,9 @@ use crate::kit::thread::Threads;
 /// - [`RunError::Workers`], [`RunError::Systems`], [`RunError::Reservers`], [`RunError::OtherPhase`],
 ///   [`RunError::Memory`]: no system ran, and the reservers are handed back as they were. No systems
 ///   take no memory.
-/// - [`RunError::Lost`]: a system returned an error, or systems are left and no worker has memory for
-///   another one. All logs and reservers are dropped: [`Blocks::close_lost`] ends the phase.
+/// - [`RunError::Lost`]: a system returned an error, and this has that of the first one in the order of
+///   the systems. Or systems are left and no worker has memory for another one: then it has none. All
+///   logs and reservers are dropped: [`Blocks::close_lost`] ends the phase.
 ///
 /// # Panics
 ///
@@ -76,29 +78,30 @@ use crate::kit::thread::Threads;
 ///     × ¬ (All (λ r. r.number ≡ blocks.now.number) reservers.items)) }
 /// ensures memory_some { IsErrWith result (λ h. h.error ≡ failed.Memory)
 ///     → 0 < length systems.now }
-/// ensures handed_back { IfErr result (λ h. h.error ≢ failed.Lost
-///     → h.value.items ≡ reservers.items) }
+/// ensures handed_back { IfErr result (λ h.
+///     IfNotLost (h.value.items ≡ reservers.items) h.error) }
 ///
 /// // What is left if the systems were broken off.
-/// ensures lost { IsErrWith result (λ h. h.error ≡ failed.Lost) → IsBrokenOff S.may_log S.may_leave
-///     systems.now workers blocks.now.phase.start.pool (blocks_of reservers.items) }
-/// ensures lost_some { IsErrWith result (λ h. h.error ≡ failed.Lost) → 0 < length systems.now }
-/// ensures lost_reservers { IfErr result (λ h. h.error ≡ failed.Lost → h.value.items ≡ []) }
+/// ensures lost { IfErr result (λ h. IfLost (IsBrokenOff S.may_log S.may_leave systems.now workers
+///     blocks.now.phase.start.pool (blocks_of reservers.items)) h.error) }
+/// ensures lost_some { IfErr result (λ h. IfLost (λ _. 0 < length systems.now) h.error) }
+/// ensures lost_reservers { IfErr result (λ h. IfLost (λ _. h.value.items ≡ []) h.error) }
 /// ```
 ///
 /// </details>
 #[inline]
-pub fn run_in_blocks<R, C, S>(
+pub fn run_in_blocks<R, C, S, E>(
     rt: &R,
     blocks: &Blocks,
     reservers: Vec<BlockReserver>,
     systems: &[S],
     workers: usize,
-) -> Result<(Vec<Log<C>>, Vec<BlockReserver>), HandedBack<Vec<BlockReserver>, RunError>>
+) -> Result<(Vec<Log<C>>, Vec<BlockReserver>), HandedBack<Vec<BlockReserver>, RunError<E>>>
 where
     R: Threads + Sync,
     C: Send,
-    S: LogSystem<C, Blocks> + Sync,
+    S: LogSystem<C, Blocks, E> + Sync,
+    E: Send,
 {
     if let Err(error) = check(blocks, &reservers, systems.len(), workers) {
         return Err(HandedBack::new(reservers, error));
@@ -121,8 +124,9 @@ where
         systems: &loggers,
     };
     let mut nothing = [(); WORKERS];
-    let Ok(done) = crew.work(rt, &mut nothing[..workers], &stage) else {
-        return Err(HandedBack::new(returned, RunError::Lost));
+    let done = match crew.work(rt, &mut nothing[..workers], &stage) {
+        Ok(done) => done,
+        Err(left) => return Err(HandedBack::new(returned, RunError::Lost(first_error(left)))),
     };
     split(done, &mut logs, &mut returned);
     Ok((logs, returned))

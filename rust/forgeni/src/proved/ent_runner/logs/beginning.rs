@@ -46,15 +46,15 @@ use crate::kit::thread::Threads;
 ///     × (2 ^ 16 < length systems.now)) }
 /// ensures memory_some { IsErrAnd result (λ h. h.error ≡ failed.Memory)
 ///     → 0 < length systems.now }
-/// ensures nothing { IfErr result (λ h. h.error ≢ failed.Lost → h.error ≢ failed.Unborn
-///     → entities.new ≡ entities.old) }
+/// ensures nothing { IfErr result (λ h. h.error ≢ failed.Unborn
+///     → IfNotLost (entities.new ≡ entities.old) h.error) }
 /// ensures none { IfErr result (λ h. h.error ≢ failed.Unborn → h.value.items ≡ []) }
 /// ensures unlisted { OnErr result (out.new.items ≡ out.old.items) }
 ///
 /// // What is left of a run that was broken off.
-/// ensures lost { IsErrAnd result (λ h. h.error ≡ failed.Lost) → IsBrokenOff S.may_log S.may_leave
-///     systems.now workers entities.old.allocator entities.new.allocator }
-/// ensures lost_some { IsErrAnd result (λ h. h.error ≡ failed.Lost) → 0 < length systems.now }
+/// ensures lost { IfErr result (λ h. IfLost (IsBrokenOff S.may_log S.may_leave systems.now workers
+///     entities.old.allocator entities.new.allocator) h.error) }
+/// ensures lost_some { IfErr result (λ h. IfLost (λ _. 0 < length systems.now) h.error) }
 ///
 /// // What holds if only what was reserved isn't born.
 /// ensures unborn { IfErr result (λ h. h.error ≡ failed.Unborn → HaveLogged S.may_log systems.now
@@ -68,17 +68,18 @@ use crate::kit::thread::Threads;
 ///
 /// </details>
 #[inline]
-pub fn run_to_sync_point<R, C, S>(
+pub fn run_to_sync_point<R, C, S, E>(
     rt: &R,
     entities: &mut Entities,
     systems: &[S],
     workers: usize,
     out: &mut Vec<Handle>,
-) -> Result<SyncPoint<C>, HandedBack<Vec<Log<C>>, LogError>>
+) -> Result<SyncPoint<C>, HandedBack<Vec<Log<C>>, LogError<E>>>
 where
     R: Threads + Sync,
     C: Send,
-    S: LogSystem<C, Shared> + Sync,
+    S: LogSystem<C, Shared, E> + Sync,
+    E: Send,
 {
     let mut logs = match run_logs(rt, entities, systems, workers) {
         Ok(logs) => logs,

@@ -1,5 +1,5 @@
 use Rattle.ent_runner.proofs.Common.{◌≡◌, first_error}
-use Rattle.ent_runner.proofs.crew.collecting.first_error.Given as goal
+use Rattle.ent_runner.proofs.crew.first_error.Given as goal
 
 -- none so far has returned one
 abbrev pub invariant-loop-made : goal.invariant-loop-made
