@@ -68,11 +68,14 @@ module _ {O : Type 0} where
 pub collected_on : {O E : Type 0} (rest new : List (Option (O × Option E))) (q : O × Option E) (before after : List O)
     (all : List (Option (O × Option E))) → rest ≡ Some q ∷ new → after ≡ before ++ q.0 ∷ []
     → AreCollected all rest before → AreCollected all new after × (length rest ≡ length new + 1)
-collected_on rest new q before after all front push same = (record {
-  made = same.made ++ q ∷ [];
-  all = search (rules, same.all, front, map-append, append_assoc);
-  outputs_are = search (rules, same.outputs_are, push, map-append);
-}, ap length front ∙ omega arith)
+collected_on rest new q before after all front push same = (
+  record {
+    made = same.made ++ q ∷ [];
+    all = search (rules, same.all, front, map-append, append_assoc);
+    outputs_are = search (rules, same.outputs_are, push, map-append);
+  },
+  ap length front ∙ omega arith,
+)
 
 -- the next one is there, if all are
 pub next_there : {O : Type 0} (before : List O) (rest new all : List (Option O)) (front : Option O)

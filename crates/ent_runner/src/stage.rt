@@ -52,8 +52,11 @@ pub(crate) struct BlockStage<'b, 'r, 's, J: BlockNumbering, T> {
 
 /// Nothing is lent to them: each has its own reserver. So there is nothing that workers share but the
 /// claims.
-impl<J: BlockNumbering, O: Output, E, T: Systems<O, Blocks<J>, E>>
-    Jobs<(O, BlockReserver<J>), (), E> for BlockStage<'_, '_, '_, J, T> {
+impl<J: BlockNumbering, O: Output, E, T: Systems<O, Blocks<J>, E>> Jobs<
+    (O, BlockReserver<J>),
+    (),
+    E,
+> for BlockStage<'_, '_, '_, J, T> {
     ghost count = { λ stage. T.count stage.systems.now };
 
     ghost may_have = { λ stage nothing.

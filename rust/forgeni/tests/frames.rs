@@ -359,7 +359,10 @@ fn systems_that_lack_memory() {
         Err(OutOfMemory)
     }
     let lost = |ran: Result<Report, FrameError>| {
-        assert!(matches!(ran, Err(FrameError::Lost(Some(OutOfMemory)))), "{ran:?}");
+        assert!(
+            matches!(ran, Err(FrameError::Lost(Some(OutOfMemory)))),
+            "{ran:?}"
+        );
     };
     let mut world = World::new();
     lost(run_frame(&mut world, &[lacks], 1));

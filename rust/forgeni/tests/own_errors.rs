@@ -3,7 +3,9 @@
 
 use crate::common::small;
 use forgeni::{fill_in_blocks, run_frame, run_frame_in_blocks, run_in_blocks, run_logs};
-use forgeni::{run_to_sync_point, BlockCommands, CommandsInBlocks, Entities, FrameError, LogCommands};
+use forgeni::{
+    run_to_sync_point, BlockCommands, CommandsInBlocks, Entities, FrameError, LogCommands,
+};
 use forgeni::{LogError, LogSystem, OutOfMemory, ReserveError, RunError, SharedSource, StdThreads};
 use forgeni::{System, SystemCommands, Unframed, View, World};
 use std::error::Error;
@@ -155,7 +157,8 @@ fn systems_behind_pointers() {
     is_own(run_logs(&mut entities, &[counts], 1).expect_err("it stops"));
     assert_eq!(calls, 1);
 
-    let issues = |_: &View<'_>, _: &mut SystemCommands<'_>| -> Result<(), Own> { Err("own".into()) };
+    let issues =
+        |_: &View<'_>, _: &mut SystemCommands<'_>| -> Result<(), Own> { Err("own".into()) };
     let boxed: Box<dyn System<SharedSource, Own> + Sync> = Box::new(issues);
     let lost = run_frame(&mut World::new(), &[boxed], 1).expect_err("it stops");
     assert_eq!(lost.to_string(), "a system stopped: own");

@@ -155,7 +155,10 @@ mod frames {
 
             let systems = [Does::Spawn(2), Does::Memory];
             let refused = run_frame(&mut world, &systems, workers).expect_err("memory");
-            assert!(matches!(refused, FrameError::Lost(Some(OutOfMemory))), "{refused}");
+            assert!(
+                matches!(refused, FrameError::Lost(Some(OutOfMemory))),
+                "{refused}"
+            );
             world.flush().expect("memory");
             assert_eq!(world.len(), 4);
         }

@@ -398,10 +398,7 @@ mod frames {
             (&Failed::Systems, "a frame has at most 65,536 systems"),
             (&Failed::Memory, "out of memory before any system ran"),
             (&Failed::Lost(None), "out of memory while the systems ran"),
-            (
-                &Failed::Lost(Some("no road")),
-                "a system stopped: no road",
-            ),
+            (&Failed::Lost(Some("no road")), "a system stopped: no road"),
             (
                 &Failed::Unapplied(queues),
                 "the sync point stopped: out of memory",

@@ -48,7 +48,10 @@ pub fn fill_in_blocks<R, J: BlockNumbering + Send + Sync, S, E>(
     view: View<'_>,
     systems: &[S],
     workers: usize,
-) -> Result<(Vec<CommandQueue>, Vec<BlockReserver<J>>), HandedBack<Vec<BlockReserver<J>>, RunError<E>>>
+) -> Result<
+    (Vec<CommandQueue>, Vec<BlockReserver<J>>),
+    HandedBack<Vec<BlockReserver<J>>, RunError<E>>,
+>
 where
     R: Threads + Sync,
     S: System<Blocks<J>, E> + Sync,

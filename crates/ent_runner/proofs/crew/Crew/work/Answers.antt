@@ -94,6 +94,6 @@ pub returns-clause-done : goal.returns-clause-done
 returns-clause-done g c =
     let b = (goal.at.returns-clause-done g c).After-close in
     let collected = c.collect.ensures in
-    rw (jobs_end g b, collected.outputs_are) (done_made _ _ _ _ _ (are_done _ _ _ _ _ _ _ c.run_all.ensures (first g b)
+    rw (jobs_end g b, collected.outputs_are) (done_made (g.J.Jobs.may_do c.args.jobs.now) _ _ _ _ (are_done _ _ _ _ _ _ _ c.run_all.ensures (first g b)
     (rw (c.deref.ensures.value, team_end g b) at (c.some_stopped-stopped.ensures.going c.if-stopped.false)) _
     (sym (append-nil (map Some collected.made)) ∙ (collected.all ∙ put g b))))
