@@ -1,5 +1,5 @@
 -- The names that proofs of this crate cite, of std, of the crates below and of its own specs. Declares nothing.
-pub use Rattle.std.proofs.Common.{Bool, Global, List, None, Option, Result, Some, Vec, [], ap, append-nil, append_assoc, arith, cond, drop, eq-eqb, false, get_or, inl, inr, is_err, le-ltb, length, lt-ltb, map, ne_eqb, not, refl, remove, reverse, rules, set, subst, suc, swap, sym, take, true≢false, vec_len, zero, ℕ, ⊎_elim, ◌%◌, ◌*◌, ◌++◌, ◌+◌, ◌-◌, ◌<◌, ◌^◌, ◌∙◌, ◌∷◌, ◌≡◌, ◌≢◌, ◌≤◌, ◌⊎◌}
+pub use Rattle.std.proofs.Common.{Bool, Global, List, None, Option, Result, Some, Vec, [], ap, append-nil, append_assoc, arith, cond, drop, eq-eqb, false, get_or, inl, inr, is_err, is_some, le-ltb, length, lt-ltb, map, ne_eqb, not, refl, remove, reverse, rules, set, subst, suc, swap, sym, take, true≢false, vec_len, zero, ℕ, ⊎_elim, ◌%◌, ◌*◌, ◌++◌, ◌+◌, ◌-◌, ◌<◌, ◌^◌, ◌∙◌, ◌∷◌, ◌≡◌, ◌≢◌, ◌≤◌, ◌⊎◌}
 pub use Rattle.std.proofs.Math.ListN.{drop_of_length-le}
 pub use Rattle.std.proofs.Math.Nat.{mod-eq_of_lt}
 pub use Rattle.std.proofs.Math.Seq.{get_or-append_seam}

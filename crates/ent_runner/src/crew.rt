@@ -2,7 +2,7 @@
 ghost use Rattle.std.specs.Prelude.{◌≡◌, ◌<◌, ◌≤◌, ◌^◌, ◌-◌, [], length, map, reverse, replicate};
 ghost use Rattle.std.specs.Prelude.{All, Any, IfOk, IfErr, OnErr, None, true, false, flat_map};
 ghost use Rattle.std.specs.Prelude.{vec_capacity};
-ghost use Rattle.ent_runner.specs.Crew.Collecting.{first_error, outputs_put};
+ghost use Rattle.ent_runner.specs.Crew.Collecting.{error_in, first_error, outputs_put};
 ghost use Rattle.ent_runner.specs.Crew.{AreDone, AreBrokenOff, Ended, Stopped};
 ghost use Rattle.ent_runner.specs.Crew.Worker.{IsRoomForOne};
 
@@ -183,14 +183,22 @@ pub(crate) fn first_error<O: Drop, E: Drop>(by_number: Vec<Option<(O, Option<E>)
     ensures { result ≡ first_error by_number.items }
 {
     for made in by_number {
-        let Some((_, error)) = made else {
-            continue;
-        };
+        let error = error_of(made);
         if error.is_some() {
             return error;
         }
     }
     None
+}
+
+/// The error of a job that made something, if it returned one.
+fn error_of<O: Drop, E: Drop>(made: Option<(O, Option<E>)>) -> Option<E>
+    ensures { result ≡ error_in made }
+{
+    match made {
+        Some((_, error)) => error,
+        None => None,
+    }
 }
 
 /// Whether a job of a worker has stopped.

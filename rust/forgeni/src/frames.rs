@@ -282,18 +282,16 @@ pub fn run_logs_on<J: Join + Sync, C: Send, S: LogSystem<C, SharedSource, E> + S
 /// If a system panics, or a command that is dropped, as of [`run_logs`]. If no system panics but the `Join`
 /// does, its panic is handed on when all workers have ended. What they reserved is alive, and their logs are
 /// dropped.
-pub fn run_to_sync_point<
-    J: Join + Sync,
-    C: Send,
-    S: LogSystem<C, SharedSource, E> + Sync,
-    E: Send,
->(
+pub fn run_to_sync_point<J: Join + Sync, C: Send, S, E: Send>(
     join: &J,
     entities: &mut Entities,
     systems: &[S],
     workers: usize,
     born: &mut Vec<Handle>,
-) -> Result<SyncPoint<C>, HandedBack<Vec<Log<C>>, LogError<E>>> {
+) -> Result<SyncPoint<C>, HandedBack<Vec<Log<C>>, LogError<E>>>
+where
+    S: LogSystem<C, SharedSource, E> + Sync,
+{
     let memory = HandedBack::new(Vec::new(), LogError::Memory);
     guarded(join, systems, memory, |join, systems| {
         caught(|| {
