@@ -1,6 +1,6 @@
 use Rattle.std.proofs.Common.{rules}
 use Rattle.ent_queue.proofs.Extending.{extends_nothing, extends_then}
-use Rattle.cases_and_examples.proofs.cases.frames.ListedSystemShared.run.Goals as goal
+use Rattle.cases_and_examples.proofs.cases.frames.ListedSystemSharedMemory.run.Goals as goal
 
 pub loop-call-init : goal.loop-call-init
 loop-call-init c = search (rules, extends_nothing)

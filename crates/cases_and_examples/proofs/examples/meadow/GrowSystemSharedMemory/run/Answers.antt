@@ -1,5 +1,5 @@
 use Rattle.ent_queue.proofs.Extending.{extends_then}
-use Rattle.cases_and_examples.proofs.examples.meadow.GrowSystemShared.run.Goals as goal
+use Rattle.cases_and_examples.proofs.examples.meadow.GrowSystemSharedMemory.run.Goals as goal
 
 -- The insert follows what earlier turns have added. The search finds that too, by the lemma that
 -- `run` names, but it takes some seconds.

@@ -3,7 +3,7 @@ use Rattle.std.specs.List.{All}
 use Rattle.ent_queue.specs.Commands.{output_of}
 use Rattle.ent_queue.specs.OfShared.{Extends}
 use Rattle.cases_and_examples.specs.Issuing.{IsOnProjectile}
-use Rattle.cases_and_examples.proofs.examples.game.systems.AgeSystemShared.run.Given as goal
+use Rattle.cases_and_examples.proofs.examples.game.systems.AgeSystemSharedMemory.run.Given as goal
 
 -- Commands were added. If the queue was empty, all of them are on projectiles.
 abbrev pub invariant-loop-handle : goal.invariant-loop-handle
