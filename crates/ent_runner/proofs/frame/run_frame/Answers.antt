@@ -49,11 +49,10 @@ pub returns-in-Ok-apply-clause-alone : goal.returns-in-Ok-apply-clause-alone
 returns-in-Ok-apply-clause-alone g c one = ends_in_order _ _ _ _ _ _ _ _ one (returns-in-Ok-apply-clause-ok g c)
 
 pub returns-in-Err-apply-clause-stopped : goal.returns-in-Err-apply-clause-stopped
-returns-in-Err-apply-clause-stopped g c = search (
-  rules,
-  closed g (goal.at.returns-in-Err-apply-clause-stopped g c).After-close,
-  same g (goal.at.returns-in-Err-apply-clause-stopped g c).In-Ok-open,
-)
+returns-in-Err-apply-clause-stopped g c =
+    let closed = closed g (goal.at.returns-in-Err-apply-clause-stopped g c).After-close in
+    let frame = rw c.in-Ok-queues.is at closed.3 in
+    search (rules, closed.0, closed.2, frame, same g (goal.at.returns-in-Err-apply-clause-stopped g c).In-Ok-open)
 
 pub returns-in-Err-queues-clause-still : goal.returns-in-Err-queues-clause-still
 returns-in-Err-queues-clause-still g c = lost_again g.S.System.may_issue g.S.System.may_leave _ _ _

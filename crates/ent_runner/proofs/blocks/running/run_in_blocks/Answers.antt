@@ -16,12 +16,16 @@ returns-clause-ok g c = rw (c.split.ensures.first, c.split.ensures.second, sym c
     (rw c.in-Ok.ensures.crew.0 at c.in-Ok-work.ensures.done)).0)
 
 pub returns-clause-of : goal.returns-clause-of
-returns-clause-of g c = rw c.split.ensures.second ((filled_done g.S.LogSystem.may_log g.S.LogSystem.may_leave
+returns-clause-of g c = rw c.split.ensures.second ((filled_done g.S.LogSystem.may_log
     c.args.systems.now c.args.blocks.now _ (ready g (goal.at.returns-clause-of g c).After-work) _ _
     c.in-Ok-work.ensures.count c.in-Ok-work.done.items (rw c.in-Ok.ensures.crew.0 at c.in-Ok-work.ensures.done)).1)
 
 pub returns-in-Err-work-clause-lost : goal.returns-in-Err-work-clause-lost
-returns-in-Err-work-clause-lost g c = rw (sym c.deref-2.ensures.value, c.first_error.ensures)
+returns-in-Err-work-clause-lost g c = rw (
+      sym c.deref-2.ensures.value,
+      c.new-in-Err-work.ensures,
+      c.first_error.ensures,
+    )
     (lost_off g.S.LogSystem.may_log c.args.systems.now c.args.blocks.now _
     (ready g (goal.at.returns-in-Err-work-clause-lost g c).After-work) _ _ c.in-Err-work.ensures.count g.S.LogSystem.may_leave
     c.args.workers (search rules) _ (rw c.in-Ok.ensures.crew.0 at c.in-Err-work.ensures.broken_off))
