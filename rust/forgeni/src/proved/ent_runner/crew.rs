@@ -171,14 +171,23 @@ pub(super) fn first_error<O, E>(by_number: Vec<Option<(O, Option<E>)>>) -> Optio
     // ensures { result ≡ first_error by_number.items }
 {
     for made in by_number {
-        let Some((_, error)) = made else {
-            continue;
-        };
+        let error = error_of(made);
         if error.is_some() {
             return error;
         }
     }
     None
+}
+
+/// The error of a job that made something, if it returned one.
+#[inline]
+fn error_of<O, E>(made: Option<(O, Option<E>)>) -> Option<E>
+    // ensures { result ≡ error_in made }
+{
+    match made {
+        Some((_, error)) => error,
+        None => None,
+    }
 }
 
 /// Whether a job of a worker has stopped.

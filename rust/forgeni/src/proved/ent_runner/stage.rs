@@ -32,8 +32,11 @@ pub(super) struct BlockStage<'b, 'r, 's, T> {
 
 /// Nothing is lent to them: each has its own reserver. So there is nothing that workers share but the
 /// claims.
-impl<O: Output, E, T: Systems<O, Blocks, E>>
-    Jobs<(O, BlockReserver), (), E> for BlockStage<'_, '_, '_, T> {
+impl<O: Output, E, T: Systems<O, Blocks, E>> Jobs<
+    (O, BlockReserver),
+    (),
+    E,
+> for BlockStage<'_, '_, '_, T> {
     /// Runs the system of this number, which is run once. Its output has what it added, also if it
     /// stopped.
     #[inline]

@@ -75,7 +75,10 @@ pub fn fill_in_blocks<R, S, E>(
     view: View<'_>,
     systems: &[S],
     workers: usize,
-) -> Result<(Vec<CommandQueue>, Vec<BlockReserver>), HandedBack<Vec<BlockReserver>, RunError<E>>>
+) -> Result<
+    (Vec<CommandQueue>, Vec<BlockReserver>),
+    HandedBack<Vec<BlockReserver>, RunError<E>>,
+>
 where
     R: Threads + Sync,
     S: System<Blocks, E> + Sync,
