@@ -1392,7 +1392,7 @@ fn a_sync_point_of_systems() {
                 .or_else(|refused| refused.or_memory().map(|()| handle(7, 7)))?;
             commands.push(number)?;
         }
-        Ok(())
+        Ok::<(), OutOfMemory>(())
     };
     each_in_turn(|refusal| {
         let mut entities = three();
