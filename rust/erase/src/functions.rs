@@ -10,7 +10,7 @@ use crate::walk::{Next, Walk};
 /// Words of a type after which its next word may follow.
 const TYPE_WORDS: [&str; 6] = ["as", "const", "dyn", "for", "impl", "mut"];
 
-/// `fmt` in the kit, which writes to what it is told.
+/// `fmt` in the kit, which writes to the writer that it is given.
 const KIT_FMT: &[&str] = &[
     "<",
     "W",

@@ -1,7 +1,7 @@
 //! Which values are lists. A list of the kit has calls that Rust's own list has otherwise, and they
-//! become calls of other names. There are no types here, so a declaration has to tell whether a
-//! value is a list: of the parameter, of the field, or of what is bound. What none tells is told by
-//! a table of names, or refused.
+//! become calls of other names. The eraser knows no types, so the declaration of a parameter, a field
+//! or a binding has to say whether a value is a list. A table of names decides the rest, and what it
+//! lacks is refused.
 
 use crate::forms;
 use crate::memory::elements;

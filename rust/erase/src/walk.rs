@@ -173,7 +173,7 @@ impl<'a> Walk<'a> {
     }
 
     /// Takes out the lines of these tokens of the code, with the comments above that belong to
-    /// them. No other code may stand in the lines.
+    /// them. The lines have no other code.
     pub(crate) fn cut_item(&mut self, from: usize, end: usize) -> Result<(), Fault> {
         let from_byte = self.begin_of_item(from)?;
         self.cut(from, from_byte, end)

@@ -140,8 +140,8 @@ fn write_reserve(out: &mut Vec<u8>, reservation: &Reservation) -> Result<(), Mem
     write_reserved(out, &reservation.reply)
 }
 
-/// Appends the words of a line's answer, with a space before each. It appends nothing if no answer
-/// is told.
+/// Appends the words of a line's answer, with a space before each. It appends nothing if the line
+/// has no answer.
 ///
 /// # Errors
 ///
@@ -169,7 +169,7 @@ fn put_answer(out: &mut Vec<u8>, line: &Call) -> Result<(), Memory>
     }
 }
 
-/// Appends the text of a line: the call, and what was answered if that is told, with one space
+/// Appends the text of a line: the call, and its answer if the line has one, with one space
 /// between words and no line feed.
 ///
 /// # Errors

@@ -14,8 +14,8 @@ pub(super) enum Line {
 }
 
 impl Audit<'_> {
-    /// What stands in the comments of the result. Of docs with a contract it is what the lines of
-    /// the contract have: they begin and end as they have to, and are those of the next function.
+    /// The comments of the result. Of docs with a contract these are the contract's lines, which
+    /// begin and end as they have to, and are those of the next function.
     pub(super) fn lines(&self, comments: &[Comment<'_>]) -> Result<Vec<Line>, Fault> {
         let mut lines = Vec::new();
         let mut at = 0;

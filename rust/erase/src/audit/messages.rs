@@ -4,8 +4,7 @@ use super::{has, pieces, Audit};
 use crate::source::Fault;
 
 impl Audit<'_> {
-    /// The end of the `Display` and the `Error` that stand in the result for the messages of a
-    /// type.
+    /// The end of the `Display` and the `Error` that the result has for the messages of a type.
     pub(super) fn added_messages(&self) -> Result<usize, Fault> {
         let name = self.result.at(self.out + 7);
         let head = format!(

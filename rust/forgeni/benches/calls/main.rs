@@ -1,8 +1,8 @@
 //! What calls cost, beside the same work in plain Rust.
 //!
 //! `cargo bench` prints tables of nanoseconds. Where the code of a loop lies moves its time by a
-//! third. So each work stands in the program in eight places, and all of them take turns, first
-//! with one side and then with the other. Of each place the median of its runs counts. A table has
+//! third. So the program has each work in eight places, which take turns, first with one side
+//! and then with the other. The median of a place's runs counts. A table has
 //! the median of the eight places of each side, the ratio of these two, and the least and the
 //! greatest ratio of one place. `benches/run.sh` brings the crates slotmap and sharded-slab too, if
 //! they are installed.

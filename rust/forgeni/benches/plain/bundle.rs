@@ -1,4 +1,4 @@
-//! What both plain queues stand on: handles, an allocator whose cursor is one atomic word, the
+//! What both plain queues use: handles, an allocator whose cursor is one atomic word, the
 //! right of one caller to reserve from it, and bundles.
 
 use std::sync::atomic::{AtomicI64, Ordering};

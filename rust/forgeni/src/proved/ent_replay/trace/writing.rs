@@ -155,8 +155,8 @@ fn write_reserve(out: &mut Vec<u8>, reservation: &Reservation) -> Result<(), Out
     write_reserved(out, &reservation.reply)
 }
 
-/// Appends the words of a line's answer, with a space before each. It appends nothing if no answer
-/// is told.
+/// Appends the words of a line's answer, with a space before each. It appends nothing if the line
+/// has no answer.
 ///
 /// # Errors
 ///
@@ -192,7 +192,7 @@ fn put_answer(out: &mut Vec<u8>, line: &Call) -> Result<(), OutOfMemory>
     }
 }
 
-/// Appends the text of a line: the call, and what was answered if that is told, with one space
+/// Appends the text of a line: the call, and its answer if the line has one, with one space
 /// between words and no line feed.
 ///
 /// # Errors
