@@ -1,7 +1,7 @@
 //! Which values are lists. A list of the kit has calls that Rust's own list has otherwise, and they
-//! become calls of other names. The eraser knows no types, so the declaration of a parameter, a field
-//! or a binding has to say whether a value is a list. A table of names decides the rest, and what it
-//! lacks is refused.
+//! become calls of other names. The eraser knows no types, so the declaration of a parameter, a
+//! field or a binding has to say whether a value is a list. A table of names decides the rest, and
+//! what it lacks is refused.
 
 use crate::forms;
 use crate::memory::elements;

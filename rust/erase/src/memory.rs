@@ -2,7 +2,8 @@
 //! a Rust program is its global allocator's, so the right goes: parameters, arguments, fields with
 //! their places in literals and in patterns, and what is bound to it.
 //!
-//! The declaration of a parameter, a field or a binding says whether a name has the right. A place of another form stays, and the walk refuses it.
+//! The declaration of a parameter, a field or a binding says whether a name has the right. A place
+//! of another form stays, and the walk refuses it.
 
 use crate::forms;
 use crate::names::{begins_item, block, header, Names};
