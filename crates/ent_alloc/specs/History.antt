@@ -12,7 +12,7 @@ pub record Call : Type 0 where
   pub requested : ℕ
   pub reply : Result (List Handle) Space
 
--- Each call in turn asks for something, and is told what the allocator says at its point.
+-- Each call in turn gets the reply of the allocator at that point of the history.
 abbrev pub IsLegal : Allocator → List Call → Type 0
 IsLegal s [] = Unit {0}
 IsLegal s (call ∷ calls) =

@@ -13,7 +13,7 @@ use Rattle.ent_alloc.specs.Portions.{made_for}
 use Rattle.ent_alloc.specs.declared.portion.Portion.{Portion}
 use Rattle.ent_alloc.specs.Sound.{IsSound}
 
--- A block of the pool: how many handles stand before it, how many it has, and how many of them were
+-- A block of the pool: how many handles come before it, how many it has, and how many of them were
 -- used.
 pub record Block : Type 0 where
   pub before : ℕ
@@ -94,7 +94,7 @@ no_blocks = record {
 abbrev pub IsOf : Blocks → Block → Type 0
 IsOf phase b = Contains phase.blocks (unused b)
 
--- the number by which phases are told apart, and the phase
+-- the number that distinguishes the phase from others, and the phase
 pub record Phase : Type 0 where
   pub number : ℕ
   pub phase : Blocks
@@ -140,7 +140,7 @@ accounted (b ∷ blocks) (r ∷ reservers) =
     then record b { used = r.used } ∷ accounted blocks reservers
     else record b { used = b.size } ∷ accounted blocks (r ∷ reservers)
 
--- For proofs: the blocks stand one after the other, and none of them was used.
+-- For proofs: the blocks follow one another without a gap, and none of them was used.
 abbrev pub AreLaid : ℕ → List Block → Type 0
 AreLaid before [] = Unit {0}
 AreLaid before (b ∷ blocks) =

@@ -80,7 +80,7 @@ abbrev pub as_list : Result (Vec Handle Global) QueueFault → Result (List Hand
 as_list (Ok handles) = Ok handles.items
 as_list (Err fault) = Err fault
 
--- what stands in the queue after a fault
+-- what a fault adds to the queue
 abbrev pub refused_by : ℕ → QueueFault → List Command
 refused_by wanted (fault.Space same left) = Refused wanted (Space same left) ∷ []
 refused_by wanted (fault.Quota left) = Refused wanted (Quota left) ∷ []

@@ -12,8 +12,8 @@ use Rattle.ent_shared.specs.Order.{handles_of, own_of_all}
 use Rattle.ent_shared.specs.Record.{requested_by}
 use Rattle.ent_shared.specs.Phase.{Shared, Reserver, records_of, after_loss}
 
--- The phase ended with all its reservers. Their reservations stand in one history that is legal and
--- respects each reserver; each stands there once. No handle was given twice, and none was alive. A
+-- The phase ended with all its reservers. Their reservations, each once, form one history that is
+-- legal and respects each reserver. No handle was given twice, and none was alive. A
 -- flush brings to life just what was given.
 pub record EndsWithAll (opened : Shared) (returned : List Reserver) (after : Allocator)
     : Type 0 where

@@ -9,7 +9,7 @@ use Rattle.ent_shared.specs.declared.record.RecordEntry.{RecordEntry}
 use Rattle.ent_shared.specs.declared.record.Record.{Record}
 use Rattle.ent_shared.specs.Record.{reservations_in, own_reservations}
 
--- a reservation among others that stand by falling cursor
+-- inserts a reservation into others that are sorted by falling cursor
 abbrev pub insert_reservation : Reservation → List Reservation → List Reservation
 insert_reservation c [] = c ∷ []
 insert_reservation c (d ∷ ds) =
@@ -35,12 +35,12 @@ as_call c = record { caller = c.caller; requested = c.requested; reply = c.reply
 abbrev pub history_of : List Record → List history.Call
 history_of records = map as_call (reservations_of records)
 
--- the one reservation stands before the other
+-- the one reservation comes before the other
 abbrev pub StandsBefore : List Reservation → Reservation → Reservation → Type 0
 StandsBefore reservations earlier later = (i : ℕ) × (j : ℕ) × (i < j)
     × (slice_get reservations i ≡ Some earlier) × (slice_get reservations j ≡ Some later)
 
--- each own reservation of these entries stands after all of which an earlier entry speaks
+-- each own reservation of these entries comes after all that an earlier entry names
 abbrev pub FollowsEntries : List Reservation → List RecordEntry → Type 0
 FollowsEntries reservations [] = Unit {0}
 FollowsEntries reservations (entry ∷ entries) =
@@ -53,8 +53,8 @@ FollowsEntries reservations (entry ∷ entries) =
 abbrev pub reservations_by : ℕ → List Reservation → List Reservation
 reservations_by caller reservations = filter (λ (c : Reservation). c.caller == caller) reservations
 
--- The order respects a reserver: its own reservations stand there in its order, each once, and each
--- of them after all that it had made or learned of before.
+-- The order respects a reserver: it has the reserver's own reservations in their order, each once,
+-- and each of them after all that the reserver had made or learned of before.
 pub record Respects (reservations : List Reservation) (r : Record) : Type 0 where
   pub own : reservations_by r.number reservations ≡ own_reservations r.entries
   pub after : FollowsEntries reservations r.entries

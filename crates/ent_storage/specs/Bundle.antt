@@ -25,6 +25,6 @@ abbrev pub with_put : Bundle → List (ComponentId × ℤ) → Bundle
 with_put held [] = held
 with_put held (item ∷ items) = with_put (put component_cmp item.0 item.1 held) items
 
--- the bundle of these components: of one that stands there twice the last value
+-- the bundle of these components: if one occurs twice, its last value counts
 abbrev pub bundle_of : List (ComponentId × ℤ) → Bundle
 bundle_of items = with_put [] items

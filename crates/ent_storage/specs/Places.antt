@@ -1,4 +1,4 @@
--- The places of entities: where each of them stands in the vectors of a storage.
+-- The places of entities: the position of each in the vectors of a storage.
 use Rattle.std.specs.Prelude.{◌≡◌, ◌≢◌, ℕ, ◌+◌, ◌-◌, ◌<◌, List, length, slice_get, refl}
 use Rattle.std.specs.Coded.{Coded, code_by, coded×, coded_ℕ}
 use Rattle.std.specs.FinMap as map

@@ -725,7 +725,7 @@ pub mod spent {}
 /// </pre>
 ///
 /// <pre>
-/// -- Each call in turn asks for something, and is told what the allocator says at its point.
+/// -- Each call in turn gets the reply of the allocator at that point of the history.
 /// abbrev pub <b id="IsLegal">IsLegal</b> : <a href="../sequential/index.html#Allocator">Allocator</a> → <a href="../../logic/index.html#List">List</a> <a href="#Call">Call</a> → Type 0
 /// <a href="#IsLegal">IsLegal</a> s [] = Unit {0}
 /// <a href="#IsLegal">IsLegal</a> s (call ∷ calls) =

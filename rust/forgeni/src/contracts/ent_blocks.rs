@@ -7,7 +7,7 @@
 /// Handles in blocks: the front of the pool is dealt to callers, and each is given the handles of its own block, in the pool\'s order, whatever the others do.
 ///
 /// <pre>
-/// -- A block of the pool: how many handles stand before it, how many it has, and how many of them were
+/// -- A block of the pool: how many handles come before it, how many it has, and how many of them were
 /// -- used.
 /// pub record <b id="Block">Block</b> : Type 0 where
 ///   pub before : <a href="../../logic/index.html#ℕ">ℕ</a>
@@ -85,7 +85,7 @@
 /// </pre>
 ///
 /// <pre>
-/// -- the number by which phases are told apart, and the phase
+/// -- the number that distinguishes the phase from others, and the phase
 /// pub record <b id="Phase">Phase</b> : Type 0 where
 ///   pub number : <a href="../../logic/index.html#ℕ">ℕ</a>
 ///   pub phase : <a href="#Blocks">Blocks</a>

@@ -104,7 +104,7 @@ pub mod command {}
 /// </pre>
 ///
 /// <pre>
-/// -- what stands in the queue after a fault
+/// -- what a fault adds to the queue
 /// abbrev pub <b id="refused_by">refused_by</b> : <a href="../../logic/index.html#ℕ">ℕ</a> → QueueFault → <a href="../../logic/index.html#List">List</a> <a href="../command/index.html#Command">Command</a>
 /// <a href="#refused_by">refused_by</a> wanted (fault.Space same left) = <a href="../command/index.html#Refused">Refused</a> wanted (Space same left) ∷ []
 /// <a href="#refused_by">refused_by</a> wanted (fault.Quota left) = <a href="../command/index.html#Refused">Refused</a> wanted (Quota left) ∷ []

@@ -135,7 +135,7 @@ pub mod phase {}
 /// The one history of all reservers\' reservations, and what it respects.
 ///
 /// <pre>
-/// -- a reservation among others that stand by falling cursor
+/// -- inserts a reservation into others that are sorted by falling cursor
 /// abbrev pub <b id="insert_reservation">insert_reservation</b> : Reservation → <a href="../../logic/index.html#List">List</a> Reservation → <a href="../../logic/index.html#List">List</a> Reservation
 /// <a href="#insert_reservation">insert_reservation</a> c [] = c ∷ []
 /// <a href="#insert_reservation">insert_reservation</a> c (d ∷ ds) =
@@ -173,14 +173,14 @@ pub mod phase {}
 /// </pre>
 ///
 /// <pre>
-/// -- the one reservation stands before the other
+/// -- the one reservation comes before the other
 /// abbrev pub <b id="StandsBefore">StandsBefore</b> : <a href="../../logic/index.html#List">List</a> Reservation → Reservation → Reservation → Type 0
 /// <a href="#StandsBefore">StandsBefore</a> reservations earlier later = (i : <a href="../../logic/index.html#ℕ">ℕ</a>) × (j : <a href="../../logic/index.html#ℕ">ℕ</a>) × (i &lt; j)
 ///     × (<a href="../../logic/index.html#slice_get">slice_get</a> reservations i ≡ <a href="../../logic/index.html#Some">Some</a> earlier) × (<a href="../../logic/index.html#slice_get">slice_get</a> reservations j ≡ <a href="../../logic/index.html#Some">Some</a> later)
 /// </pre>
 ///
 /// <pre>
-/// -- each own reservation of these entries stands after all of which an earlier entry speaks
+/// -- each own reservation of these entries comes after all that an earlier entry names
 /// abbrev pub <b id="FollowsEntries">FollowsEntries</b> : <a href="../../logic/index.html#List">List</a> Reservation → <a href="../../logic/index.html#List">List</a> RecordEntry → Type 0
 /// <a href="#FollowsEntries">FollowsEntries</a> reservations [] = Unit {0}
 /// <a href="#FollowsEntries">FollowsEntries</a> reservations (entry ∷ entries) =
@@ -197,8 +197,8 @@ pub mod phase {}
 /// </pre>
 ///
 /// <pre>
-/// -- The order respects a reserver: its own reservations stand there in its order, each once, and each
-/// -- of them after all that it had made or learned of before.
+/// -- The order respects a reserver: it has the reserver's own reservations in their order, each once,
+/// -- and each of them after all that the reserver had made or learned of before.
 /// pub record <b id="Respects">Respects</b> (reservations : <a href="../../logic/index.html#List">List</a> Reservation) (r : Record) : Type 0 where
 ///   pub own : <a href="#reservations_by">reservations_by</a> r.number reservations ≡ <a href="../record/index.html#own_reservations">own_reservations</a> r.entries
 ///   pub after : <a href="#FollowsEntries">FollowsEntries</a> reservations r.entries
@@ -258,8 +258,8 @@ pub mod replies {}
 /// What a phase of a shared allocator ends with, as one fact: each field is a clause of `Shared::close` or `Shared::close_lost`. For callers that cite it whole.
 ///
 /// <pre>
-/// -- The phase ended with all its reservers. Their reservations stand in one history that is legal and
-/// -- respects each reserver; each stands there once. No handle was given twice, and none was alive. A
+/// -- The phase ended with all its reservers. Their reservations, each once, form one history that is
+/// -- legal and respects each reserver. No handle was given twice, and none was alive. A
 /// -- flush brings to life just what was given.
 /// pub record <b id="EndsWithAll">EndsWithAll</b> (opened : <a href="../phase/index.html#Shared">Shared</a>) (returned : <a href="../../logic/index.html#List">List</a> <a href="../phase/index.html#Reserver">Reserver</a>) (after : <a href="../../ent_alloc/sequential/index.html#Allocator">Allocator</a>)
 ///     : Type 0 where

@@ -33,7 +33,7 @@
 /// </pre>
 ///
 /// <pre>
-/// -- the bundle of these components: of one that stands there twice the last value
+/// -- the bundle of these components: if one occurs twice, its last value counts
 /// abbrev pub <b id="bundle_of">bundle_of</b> : <a href="../../logic/index.html#List">List</a> (ComponentId × <a href="../../logic/index.html#ℤ">ℤ</a>) → <a href="#Bundle">Bundle</a>
 /// <a href="#bundle_of">bundle_of</a> items = <a href="#with_put">with_put</a> [] items
 /// </pre>
@@ -166,7 +166,7 @@ pub mod entity_map {}
 pub mod birth_order {}
 
 #[doc(alias("AreWithout"))]
-/// The places of entities: where each of them stands in the vectors of a storage.
+/// The places of entities: the position of each in the vectors of a storage.
 ///
 /// <pre>
 /// -- the handles at the places after one was taken out: the last one has moved into its place
