@@ -148,11 +148,16 @@ LAYOUTS |= {"ent_handle::Handle": "#[repr(transparent)]"}
 WORD_TYPE, DATA = "ent_handle::Handle", named(
     "ent_replay: Call CheckError Difference FlushReply Log Reservation ReserveReply"
 )
-# Traits whose parameter `S` has a default in the results, and the default.
-DEFAULTED, DEFAULT = (
+# Traits whose last two parameters have defaults in the results, how those parameters end, and
+# the default after so many of these words.
+DEFAULTED, LAST_TWO = (
     named("ent_runner: LogSystem System"),
-    f"= crate::{MODULES['ent_shared']}::Shared",
+    ["S", ":", "Source", ",", "E", ">"],
 )
+DEFAULTS = {
+    3: f"= crate::{MODULES['ent_shared']}::Shared",
+    5: f"= crate::{MODULES['ent_handle']}::Memory",
+}
 # Reports, which derive a little more in the results.
 REPORTS = named("ent_world: SyncReport")
 EQUALITY = {
@@ -607,11 +612,14 @@ class Reader:
 
         if f"{self.crate}::{self.declared}" in DEFAULTED:
             words = self.texts(mark)
-            at = words.index("{") - 1
-            fits = words[at - 3 : at + 1] == ["S", ":", "Source", ">"]
-            self.insert(mark + at, DEFAULT, "default") if fits else self.use(
-                "refused", "a trait whose last parameter isn't the source"
-            )
+            first = words.index("{") - len(LAST_TWO)
+            if words[first : first + len(LAST_TWO)] != LAST_TWO:
+                self.use(
+                    "refused", "a trait whose last parameters aren't the source and the error"
+                )
+                return
+            for at in sorted(DEFAULTS, reverse=True):
+                self.insert(mark + first + at, DEFAULTS[at], "default")
 
     def after_module(self, mark, _):
         inside = self.result.removesuffix("/mod") + "/" + self.declared
@@ -867,7 +875,7 @@ ghost     = -('pub'? 'ghost' ('use' UNTIL_SEMICOLON | NAME (':' CLAUSE)? ('=' CL
 use       = visible? 'use' PREFIX ('{' leaf% '}' | leaf) ';'
 leaf      = NAME ('as' NAME)?
 module    = visible? 'mod' DECLARED ';'
-constant  = visible? ('const' CONSTANT ':' type ('=' expression)? | 'type' CONSTANT generics ('=' type)?) ';'
+constant  = visible? ('const' CONSTANT ':' type ('=' expression)? | 'type' CONSTANT generics bounds ('=' type)?) ';'
 attribute = -('#' '[' (('tactic' | 'cycle') group | 'error' '(' ERROR ')') ']') | '#' '[' kept ']'
 kept      = 'derive' '(' derived% ')' | 'inline' ('(' ('always' | 'never') ')')? | 'cold' | 'must_use' ('=' STR)? | 'non_exhaustive'
 derived   = 'Clone' | 'Copy' | 'Debug' | 'Default' | 'Eq' | 'Hash' | 'PartialEq' | -NO_DERIVE
@@ -1096,10 +1104,20 @@ def arranged(result, tokens):
             if of in head and "for" not in head:
                 blocks[tuple(head)].append(item)
         for head, same in blocks.items():
+            members = []
+            for item in same:
+                for it in parts(item, len(head) + 1):
+                    # The value of a constant may have braces, and ends by a part of its own.
+                    members[-1:] = (
+                        [[*members[-1], *it]] if it[0].text == ";" else [*members[-1:], it]
+                    )
             named = {
-                next(it[at + 1].text for at, token in enumerate(it) if token.text == "fn"): it
-                for item in same
-                for it in parts(item, len(head) + 1)
+                next(
+                    it[at + 1].text
+                    for at, token in enumerate(it)
+                    if token.text == "fn" or token.text == "const" and it[at + 1].text != "fn"
+                ): it
+                for it in members
             }
             listed = [
                 [named.pop(name) for name in names if name in named] for names in TOPICS[result, of]

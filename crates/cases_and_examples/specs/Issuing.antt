@@ -9,7 +9,7 @@ use Rattle.cases_and_examples.specs.declared.examples.game.components.TheConstan
 use Rattle.cases_and_examples.specs.declared.examples.game.role.Role.{Role}
 use Rattle.cases_and_examples.specs.declared.examples.game.role.Role.TheVariants as role
 
--- one command, which asks for so many handles
+-- one command, which asks for that many handles
 abbrev pub IsLaunch : ℕ → List Command → Type 0
 IsLaunch count (SpawnMany handles bundle ∷ []) = length handles ≡ count
 IsLaunch count (Refused wanted why ∷ []) = wanted ≡ count

@@ -1,9 +1,10 @@
--- What devices tell of their bytes and failures, beside the words of std's readers and writers.
+-- What devices report about their bytes and failures, beyond the vocabulary of std's readers and
+-- writers.
 use Rattle.std.specs.Prelude.{◌≡◌, ℕ, ◌+◌, ◌-◌, ◌^◌, ◌≤◌, ◌⊎◌, ◌==◌, if◌then◌else◌, List, length}
 use Rattle.std.specs.Prelude.{Option, None, IfSome}
 use Rattle.std.specs.Io.KnownBytes.{Appends, Consumes}
 
--- the bytes that a device tells before and after a failed call are the same
+-- the bytes that a device reports before and after a failed call are the same
 abbrev pub KeepsIfTold : Option (List ℕ) → Option (List ℕ) → Type 0
 KeepsIfTold old new = IfSome old (λ before. IfSome new (λ after. after ≡ before))
 
@@ -24,11 +25,11 @@ OneFails old new other_old other_new =
 abbrev pub most_failures : ℕ
 most_failures = 2 ^ 64 - 1
 
--- an adapter tells its device's bytes until it has counted all the failures that it can
+-- an adapter reports its device's bytes until it has counted as many failures as it can
 abbrev pub told : ℕ → Option (List ℕ) → Option (List ℕ)
 told failures bytes = if failures == most_failures then None else bytes
 
--- a text that stands so to the input was written, if the devices tell
+-- a text that is related so to the input was written, if the devices report what they do
 abbrev pub Writes : (List ℕ → List ℕ → Type 0) → Option (List ℕ) → Option (List ℕ)
     → Option (List ℕ) → Type 0
 Writes P input old new =

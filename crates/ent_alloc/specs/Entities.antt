@@ -1,4 +1,4 @@
--- What an `Entities` stands for, and how its slots and its two counts do so.
+-- What an `Entities` represents, and how its slots and its two counts represent it.
 use Rattle.std.specs.Prelude.{◌≡◌, ℕ, ℤ, ◌+◌, ◌-◌, ◌^◌, ◌≤◌, List, ◌++◌, length, take}
 use Rattle.std.specs.Prelude.{drop, reverse, refl, None}
 use Rattle.std.specs.Coded.{Coded, code_by, coded×, coded_ℕ}

@@ -1,4 +1,4 @@
--- What a fault prints, and which one stands for another.
+-- What a fault prints, and which fault becomes which other one.
 use Rattle.std.specs.Prelude.{ℕ, List, ◌++◌, codes}
 use Rattle.std.specs.Fmt.{decimal}
 use Rattle.ent_alloc.specs.declared.space.Space.{Space}
@@ -10,7 +10,7 @@ use Rattle.ent_alloc.specs.declared.reserve_error.ReserveError.TheVariants as re
 abbrev pub space_text : Space → List ℕ
 space_text s = decimal s.wanted ++ (codes " wanted and " ++ (decimal s.left ++ codes " left"))
 
--- a refusal among the faults of what keeps in a list what it reserves
+-- the refusal as a fault of a call that lists what it reserves
 abbrev pub as_reserve_error : Refused → ReserveError
 as_reserve_error (refused.Space wanted left) = reserve.Space wanted left
 as_reserve_error (refused.Quota left) = reserve.Quota left

@@ -53,7 +53,7 @@ in_limits h = nat_le 1 h.slots && nat_le 1 h.generations && nat_lt h.generations
 abbrev pub in_counts : Header → Bool
 in_counts h = nat_le h.made h.slots && nat_le h.waiting h.made
 
--- so many handles may be reserved of those that there were to give: all that were requested, if
+-- that many of the handles that there were to give may be reserved: all that were requested, if
 -- there were enough
 abbrev pub in_requests : Header → Bool
 in_requests h =
@@ -69,7 +69,7 @@ header_tests h len =
     ∷ (len == 40 + 12 * h.made, Length (40 + 12 * h.made))
     ∷ []
 
--- the first fault that the bytes have before the slots, and it takes no memory to find it
+-- the first fault that the bytes have before the slots; finding it takes no memory
 abbrev pub header_fault : List ℕ → Option ImageFault
 header_fault bytes =
     first_failing (front_tests bytes ++ header_tests (header_in bytes) (length bytes))
@@ -97,7 +97,7 @@ is_slot generations generation kind number =
 abbrev pub waits_at : List ℕ → ℕ → ℕ → Bool
 waits_at slots position index = kind_in slots index == 3 && number_in slots index == position
 
--- one of the first slots, so many, waits there
+-- one of that many slots, the first ones, waits there
 abbrev pub is_taken : List ℕ → ℕ → ℕ → Bool
 is_taken slots count position = list_any (waits_at slots position) (range_with_len 0 count)
 

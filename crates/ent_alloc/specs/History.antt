@@ -6,7 +6,7 @@ use Rattle.ent_handle.specs.Handle.{Handle}
 use Rattle.ent_alloc.specs.declared.space.Space.{Space}
 use Rattle.ent_alloc.specs.Sequential.{Allocator, after_take, reply_to}
 
--- one reservation: who asked, for how many handles, and what was returned
+-- one reservation: its caller, for how many handles it was, and what was returned
 pub record Call : Type 0 where
   pub caller : ℕ
   pub requested : ℕ

@@ -1,5 +1,5 @@
--- The image of an allocator: the bytes that are written of it. It tells all of the allocator, and
--- nothing of how it came to be so or where it lies in memory.
+-- The image of an allocator: the bytes that represent it. It says everything about the allocator,
+-- and nothing about how it got into that state or where it is in memory.
 use Rattle.std.specs.Prelude.{◌≡◌, ℕ, ◌+◌, ◌*◌, ◌^◌, ◌<◌, ◌≤◌, ◌==◌, if◌then◌else◌, Option}
 use Rattle.std.specs.Prelude.{None, Some, List, [], ◌∷◌, ◌++◌, length, reverse, filter, IsTrue}
 use Rattle.std.specs.List.{All, AllPairs, flat_map, range_with_len}
@@ -46,11 +46,11 @@ living_slot r index (h ∷ handles) =
     then occupied h.generation (map.get r.rows h)
     else living_slot r index handles
 
--- what became of the slot
+-- the state of the slot
 unfoldable pub slot : Roster → ℕ → SlotRecord
 slot r index = living_slot r index (set.items r.live)
 
--- who has the slot, in a word and a number
+-- what has the slot, as a word and a number
 abbrev pub kind_of : Occupancy → ℕ
 kind_of Retired = 0
 kind_of Alive = 1
@@ -111,7 +111,7 @@ numbers_bytes h = word h.slots
 unfoldable pub header_bytes : Header → List ℕ
 header_bytes h = magic ++ (word version ++ numbers_bytes h)
 
--- so many bytes are kept in memory: eight of each slot, and four of each that waits
+-- that many bytes are kept in memory: eight for each slot, and four for each slot that waits
 abbrev pub kept_bytes : Allocator → ℕ
 kept_bytes s = 8 * s.made + 4 * top s
 

@@ -89,7 +89,8 @@ pub record AreRead
       → (record_at records index).occupancy ≡ Pending position
       → slice_index pending position ≡ index
 
--- so many handles may be reserved where so many were asked for, of so many that there were to give
+-- that many handles may be reserved if that many were requested, of that many that there were to
+-- give
 pub record AreServed (asked reserved available : ℕ) : Type 0 where
   pub asked_in : asked ≤ 2 ^ 50
   pub least : reserved ≤ asked

@@ -43,7 +43,7 @@ abbrev pub AreUsed : List Portion → Type 0
 AreUsed = All (λ p. p.used ≤ p.size)
 
 -- How many slots have to be made: none if nothing is left before the last one that was used, and
--- else those up to that one, since a fresh one that is left waits among them.
+-- otherwise those up to that one, since a fresh one that is left waits among them.
 abbrev pub made_for : Allocator → List Portion → ℕ
 made_for s portions =
     if count_of portions == reach_of portions then 0 else reach_of portions - top s

@@ -1,5 +1,5 @@
--- The slots of an allocator as its calls see them: who lives, what is kept with whom, and who waits
--- to be given.
+-- The slots of an allocator as its calls see them: which handles are alive, which rows they have,
+-- and which handles wait to be given.
 use Rattle.std.specs.Prelude.{ℕ, List, [], ◌∷◌, ◌++◌, refl}
 use Rattle.std.specs.Coded.{Coded, code_by, coded×, coded_ℕ, coded_list}
 use Rattle.std.specs.FinSet as set

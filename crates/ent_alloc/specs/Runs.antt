@@ -7,8 +7,8 @@ use Rattle.ent_alloc.specs.Sound.{IsLive}
 use Rattle.ent_alloc.specs.History.{handles_in}
 
 -- A call that changes the allocator: one that gave this handle at once, one that freed this handle,
--- a request for so many, served or refused, and a flush. Many handles that are given at once are as
--- many single ones.
+-- a request for that many, served or refused, and a flush. Handles that are given together count as
+-- so many single calls.
 pub data Step : Type 0 where
   Alloc : Handle → Step
   Free : Handle → Step

@@ -1,6 +1,6 @@
--- The sequential allocator: what one caller alone would see. Each call of `Entities` is one of its
--- steps or two, or reads it, but for the rows, which stand beside it (`specs/Entities`). The calls
--- of many threads are compared with it.
+-- The sequential allocator: what a single caller would see. Each call of `Entities` is one or two
+-- of its steps, or reads it, except for the rows, which are kept beside it (`specs/Entities`). The
+-- calls of many threads are compared with it.
 use Rattle.std.specs.Prelude.{ℕ, ◌+◌, ◌-◌, ℤ, pos, negsuc, suc, zero, ◌-ℤ◌, Bool, nat_lt, nat_le}
 use Rattle.std.specs.Prelude.{◌==◌, if◌then◌else◌, List, [], ◌∷◌, ◌++◌, length, take, drop, reverse}
 use Rattle.std.specs.Prelude.{filter, Result, Ok, Err, Option, None, Some, not, ◌||◌, refl}
@@ -14,9 +14,10 @@ use Rattle.ent_alloc.specs.declared.space.Space.{Space}
 use Rattle.ent_alloc.specs.declared.state.State.{State}
 use Rattle.ent_alloc.specs.declared.state.State.TheVariants.{Alive, Reserved, Gone}
 
--- Where a handle stands: alive, or in a list of those that may be given. The pool is given from its
--- front; taken is what was given and is not yet alive; aside is what a refused request has passed
--- over. made counts the slots that were made, asked all that was requested since the last flush.
+-- Where each handle is: alive, or in a list of those that may be given. The pool is given from its
+-- front; `taken` is what was given and is not alive yet; `aside` is what a refused request passed
+-- over. `made` counts the slots that were made, and `asked` counts all that was requested since the
+-- last flush.
 pub record Allocator : Type 0 where
   pub limits : Limits
   pub live : set.FinSet handle_cmp
@@ -31,7 +32,7 @@ unfoldable pub fresh : ℕ → ℕ → List Handle
 fresh index zero = []
 fresh index (suc slots) = record { index = index; generation = 1 } ∷ fresh (index + 1) slots
 
--- the allocator that has given nothing
+-- the allocator that has given no handles
 abbrev pub opening : Limits → Allocator
 opening limits = record {
   limits = limits;
@@ -62,7 +63,8 @@ top s = length (filter (is_old s.made) (available s))
 abbrev pub cursor : Allocator → ℤ
 cursor s = pos (top s) -ℤ pos s.asked
 
--- A request takes the front of the pool if there is enough; else the whole pool is passed over.
+-- A request takes the front of the pool if there is enough; otherwise the whole pool is passed
+-- over.
 abbrev pub after_take : Allocator → ℕ → Allocator
 after_take s n =
     if nat_le n (length s.pool)
@@ -134,8 +136,8 @@ abbrev pub in_front : Option Handle → List Handle → List Handle
 in_front None handles = handles
 in_front (Some h) handles = h ∷ handles
 
--- A living handle goes, and its slot's next one stands at the front of the pool. If there is none,
--- the pool stays as it is, and the slot is retired.
+-- A living handle is freed, and its slot's next handle comes to the front of the pool. If there is
+-- no next handle, the pool stays as it is, and the slot is retired.
 abbrev pub after_free : Allocator → Handle → Allocator
 after_free s h = record s {
   live = set.remove s.live h;
@@ -167,7 +169,7 @@ pool_at s high = drop (asked_at (top s) high) (available s)
 abbrev pub stands_in : List Handle → Handle → Bool
 stands_in handles h = list_any (eq_by_cmp handle_cmp h) handles
 
--- what became of a handle
+-- the state of a handle
 abbrev pub state_of : Allocator → Handle → State
 state_of s h =
     if set.contains s.live h then Alive else (if stands_in s.taken h then Reserved else Gone)

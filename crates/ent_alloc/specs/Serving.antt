@@ -14,7 +14,8 @@ SaysWanted requested (Quota left) = Unit {0}
 abbrev pub Request : Type 0
 Request = ℕ × Result (List Handle) Refused
 
--- What a request for so many handles may have as its reply, and what it makes of the reserver.
+-- The possible replies to a request for that many handles, and what the request makes of the
+-- reserver.
 abbrev pub Replying : Type 0 → Type 1
 Replying R = R → R → ℕ → Result (List Handle) Refused → Type 0
 

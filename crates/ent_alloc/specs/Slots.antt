@@ -1,4 +1,4 @@
--- What a vector of records and a list of pending indexes stand for.
+-- What a vector of records and a list of pending indexes represent.
 use Rattle.std.specs.Prelude.{◌≡◌, ℕ, ◌+◌, ◌<◌, ◌≤◌, Bool, true, false, ◌&&◌, ◌==◌, nat_lt, nat_le}
 use Rattle.std.specs.Prelude.{if◌then◌else◌}
 use Rattle.std.specs.Prelude.{List, [], ◌∷◌, length, map, slice_index, slice_index_or, slice_set}
@@ -47,7 +47,7 @@ abbrev pub waits_from : Option Occupancy → ℕ → Bool
 waits_from None from = false
 waits_from (Some o) from = is_pending_from o from
 
--- what stands past the last record
+-- what comes after the last record
 abbrev pub no_slot : SlotRecord
 no_slot = record { generation = 0; occupancy = Pending 0 }
 
@@ -64,7 +64,7 @@ abbrev pub handle_at : List SlotRecord → ℕ → Handle
 handle_at records index =
     record { index = index; generation = (record_at records index).generation }
 
--- who has the slot of a handle, if its record speaks of this handle
+-- what has the slot of a handle, if its record is about this handle
 abbrev pub occupancy_of : List SlotRecord → Handle → Option Occupancy
 occupancy_of records h =
     if nat_lt h.index (length records) && (record_at records h.index).generation == h.generation
@@ -99,7 +99,7 @@ reused records [] = records
 reused records (index ∷ indices) =
     reused (slice_set records index (reuse (record_at records index))) indices
 
--- the roster that the vectors stand for
+-- the roster that the vectors represent
 abbrev pub roster_of : Limits → List SlotRecord → List ℕ → Roster
 roster_of limits records pending = record {
   limits = limits;

@@ -29,11 +29,11 @@ pub record IsOccupant (s : Allocator) (h : Handle) : Type 0 where
 pub record IsSound (s : Allocator) : Type 0 where
   pub limits : AreLimits s.limits
   pub made : s.made ≤ s.limits.slots
-  -- the old handles stand first, then the first occupants of all slots that were never made
+  -- the old handles come first, then the first occupants of all slots that were never made
   pub order : available s
       ≡ filter (is_old s.made) (available s) ++ fresh s.made (s.limits.slots - s.made)
   pub within : All (IsWithin s.limits) (available s)
-  -- no slot stands twice in what may be given
+  -- no slot occurs twice among those that may be given
   pub apart : AllPairs AreApart (available s)
   -- the pool is what the requests have not reached
   pub pool : s.pool ≡ drop s.asked (available s)

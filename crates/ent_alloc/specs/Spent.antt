@@ -5,8 +5,8 @@ use Rattle.ent_handle.specs.Handle.{Handle}
 use Rattle.ent_alloc.specs.Sequential.{Allocator}
 use Rattle.ent_alloc.specs.Sound.{IsLive}
 
--- Whatever its slot may still give comes after it, and whoever holds its slot doesn't come before
--- it.
+-- Every handle that its slot can still give comes after it, and the occupant of its slot doesn't
+-- come before it.
 pub record IsSpent (s : Allocator) (h : Handle) : Type 0 where
   pub left : All (λ g. g.index ≡ h.index → h.generation < g.generation) (s.aside ++ s.pool)
   pub taken : All (λ g. g.index ≡ h.index → h.generation ≤ g.generation) s.taken

@@ -10,14 +10,14 @@ use Rattle.ent_alloc.specs.declared.image_fault.ImageFault.TheVariants.{Bound}
 abbrev pub slots_after_flush : Allocator → ℕ
 slots_after_flush s = s.made + made_at_flush s
 
--- what an image of these entities is read as if so many slots are allowed
+-- what reading an image of these entities returns if that many slots are allowed
 abbrev pub within : ℕ → Entities → Result Entities ImageFault
 within most e =
     if nat_le (slots_after_flush e.allocator) most
     then Ok e
     else Err (Bound (slots_after_flush e.allocator))
 
--- what a reader that allows so many slots returns if this was read
+-- what a reader that allows that many slots returns if this was read
 abbrev pub allowed : ℕ → Result Entities ImageFault → Result Entities ImageFault
 allowed most (Ok e) = within most e
 allowed most (Err fault) = Err fault

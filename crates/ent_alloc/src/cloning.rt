@@ -9,12 +9,12 @@ use ent_handle::Memory;
 use std::alloc::Global;
 
 impl Entities {
-    /// Another allocator in the same state: the same entities are alive, with the same rows, the
-    /// same handles are reserved, and the limits are the same. So both return the same for the same
-    /// calls. From then on they are independent.
+    /// Returns another allocator in the same state: the same entities are alive, with the same
+    /// rows, the same handles are reserved, and the limits are the same. So the same calls return
+    /// the same results on both. From then on they are independent.
     ///
     /// It copies the slots as bytes: 8 for each slot that was made, and 4 for each that waits. It
-    /// takes no memory if no slot was made.
+    /// doesn't allocate if no slot was made.
     ///
     /// ```
     /// use forgeni::Entities;
@@ -29,7 +29,7 @@ impl Entities {
     ///
     /// # Errors
     ///
-    /// [`OutOfMemory`](Memory) if there is no memory for the slots.
+    /// [`OutOfMemory`](Memory) if there isn't enough memory for the slots.
     pub fn try_clone(&self, alloc: Global) -> Result<Entities, Memory>
         ensures ok { IfOk result (λ clone. clone ≡ self.now) }
         ensures rows_of_living { IfOk result HasRowsOfLiving }
@@ -41,11 +41,11 @@ impl Entities {
         })
     }
 
-    /// Takes over the state of another allocator, as [`try_clone`](Self::try_clone) copies it. What
-    /// this one had before is gone.
+    /// Copies the state of another allocator into this one, like [`try_clone`](Self::try_clone).
+    /// What this one had before is gone.
     ///
-    /// It uses the room that this one has, so one that had as many slots before takes no memory.
-    /// This is how a game that predicts goes back to a frame that the server has confirmed:
+    /// It uses the room that this one has, and doesn't allocate if this one had as many slots
+    /// before. This is how a game that predicts goes back to a frame that the server has confirmed:
     ///
     /// ```
     /// use forgeni::Entities;
@@ -64,8 +64,8 @@ impl Entities {
     ///
     /// # Errors
     ///
-    /// [`OutOfMemory`](Memory) if there is no memory for slots that the source has beyond those of
-    /// this allocator. Nothing has changed then: all room is asked for first.
+    /// [`OutOfMemory`](Memory) if there isn't enough memory for slots that the source has beyond
+    /// those of this allocator. Nothing has changed then: all memory is allocated first.
     pub fn try_clone_from(&mut self, source: &Entities) -> Result<(), Memory>
         ensures ok { OnOk result (self.new ≡ source.now) }
         ensures rows_of_living { HasRowsOfLiving self.new }

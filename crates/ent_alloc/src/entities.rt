@@ -29,10 +29,27 @@ use ent_handle::{Handle, Memory};
 use std::alloc::Global;
 use std::marker::Model;
 
-/// Gives out the handles of entities and knows which are alive, as Bevy's `Entities` does.
+/// Hands out the handles of entities, and knows which of them are alive, like Bevy's `Entities`.
+///
+/// ```
+/// use forgeni::Entities;
+///
+/// let mut entities = Entities::new();
+/// let cart = entities.alloc()?;
+/// let horse = entities.alloc()?;
+/// entities.free(cart)?;
+/// assert!(entities.is_alive(horse) && !entities.is_alive(cart));
+///
+/// // The slot of the cart is given again, with another generation.
+/// let ship = entities.alloc()?;
+/// assert_eq!(ship.index(), cart.index());
+/// assert!(ship != cart && !entities.is_alive(cart));
+/// # Ok::<(), Box<dyn std::error::Error>>(())
+/// ```
 ///
 /// It is `Send` and `Sync`: it can go to another thread, and many threads can read it at once.
-/// While it is shared, many threads reserve handles from it.
+/// While it is [shared](forgeni::Entities::share), many threads can reserve handles from it.
+/// [`new`](forgeni::Entities::new) is a `const fn`, so an allocator can also be in a `static`:
 ///
 /// ```
 /// use forgeni::Entities;
@@ -70,14 +87,14 @@ impl Model for Entities {
 }
 
 impl Entities {
-    /// An allocator with no entities, which gives all handles within its limits, including the
-    /// greatest one, which [`with_limits`](Self::with_limits) never gives. It takes no memory,
+    /// Creates an allocator without entities, which gives all handles within its limits, including
+    /// the greatest one, which [`with_limits`](Self::with_limits) never gives. It doesn't allocate,
     /// whatever the limits are.
     ///
     /// ```
     /// use forgeni::{Entities, Limits};
     ///
-    /// // As Bevy's allocator, it gives each handle that there is.
+    /// // Like Bevy's allocator, it gives every handle that there is.
     /// const ALL: Entities = Entities::with_exact_limits(Limits::GREATEST);
     ///
     /// let mut one = Entities::with_exact_limits(Limits::new(1, 1).unwrap());
@@ -102,7 +119,8 @@ impl Entities {
         }
     }
 
-    /// An allocator with no entities and these limits. It takes no memory, whatever the limits are.
+    /// Creates an allocator without entities, with these limits. It doesn't allocate, whatever the
+    /// limits are.
     ///
     /// It never gives the greatest handle, 4294967294v2147483647: where both limits are the
     /// greatest, each slot has one generation less.
@@ -129,7 +147,16 @@ impl Entities {
         Entities::new(alloc, limits.keeping_placeholder())
     }
 
-    /// The limits within which it gives handles.
+    /// Returns the limits within which it gives handles.
+    ///
+    /// ```
+    /// use forgeni::{Entities, Limits};
+    ///
+    /// let limits = Limits::new(100, 4).unwrap();
+    /// assert_eq!(Entities::with_limits(limits).limits(), limits);
+    /// // `new` never gives the greatest handle.
+    /// assert_eq!(Entities::new().limits(), Limits::GREATEST.keeping_placeholder());
+    /// ```
     #[must_use]
     pub fn limits(&self) -> Limits
         ensures { result ≡ self.now.allocator.limits }
@@ -137,7 +164,7 @@ impl Entities {
         self.slots.limits()
     }
 
-    /// How many entities are alive.
+    /// Returns the number of living entities.
     ///
     /// ```
     /// use forgeni::Entities;
@@ -158,7 +185,7 @@ impl Entities {
         self.slots.live()
     }
 
-    /// Whether no entity is alive.
+    /// Returns `true` if no entity is alive.
     ///
     /// ```
     /// use forgeni::Entities;
@@ -178,7 +205,8 @@ impl Entities {
         self.len() == 0
     }
 
-    /// How many slots were made: each has or had an entity. A retired slot still counts.
+    /// Returns the number of slots that were made: each has or had an entity. A retired slot still
+    /// counts.
     ///
     /// ```
     /// use forgeni::Entities;
@@ -198,7 +226,7 @@ impl Entities {
         self.slots.made()
     }
 
-    /// How many slots there are after the next [`flush`](Self::flush): those that were made, and
+    /// Returns the number of slots after the next [`flush`](Self::flush): those that were made, and
     /// one for each reserved handle of a new slot.
     ///
     /// ```
@@ -216,7 +244,7 @@ impl Entities {
         self.total() + self.requests.fresh(self.slots.waiting())
     }
 
-    /// How many slots can still be made.
+    /// Returns the number of slots that can still be made.
     ///
     /// ```
     /// use forgeni::{Entities, Limits};
@@ -233,8 +261,8 @@ impl Entities {
         self.slots.limits().slots() - self.slots.made()
     }
 
-    /// How many old slots waited for their next entity at the last `flush`, `alloc` or `free`.
-    /// Requests don't change it.
+    /// Returns the number of old slots that waited for their next entity at the last `flush`,
+    /// `alloc` or `free`. Requests don't change it.
     ///
     /// ```
     /// use forgeni::Entities;
@@ -253,8 +281,8 @@ impl Entities {
         self.slots.waiting()
     }
 
-    /// How many slots are retired: the entity of their last generation was freed, and they give no
-    /// more handles. It takes constant time.
+    /// Returns the number of retired slots: the entity of their last generation was freed, and they
+    /// give no more handles. It takes constant time.
     ///
     /// ```
     /// use forgeni::{Entities, Limits};
@@ -277,8 +305,8 @@ impl Entities {
         self.total() - self.slots.live() - self.slots.waiting()
     }
 
-    /// The number that each request lowers by its count. It is `top` if nothing was requested since
-    /// the last flush; below 0 it counts fresh slots.
+    /// Returns the cursor: the number that each request lowers by its count. It is `top` if nothing
+    /// was requested since the last flush; below 0 it counts fresh slots.
     ///
     /// ```
     /// use forgeni::Entities;
@@ -304,7 +332,8 @@ impl Entities {
         self.slots.top() - self.asked() as i64
     }
 
-    /// How many handles were requested since the last flush, served or refused. It is at most 2^50.
+    /// Returns the number of handles that were requested since the last flush, whether served or
+    /// refused. It is at most 2^50.
     ///
     /// ```
     /// use forgeni::{Entities, Limits};
@@ -323,7 +352,7 @@ impl Entities {
         self.requests.asked
     }
 
-    /// Whether any handle was requested since the last flush.
+    /// Returns `true` if any handle was requested since the last flush.
     ///
     /// ```
     /// use forgeni::Entities;
@@ -343,14 +372,14 @@ impl Entities {
         self.asked() > 0
     }
 
-    /// How many handles the next flush brings to life.
+    /// Returns the number of handles that the next flush brings to life.
     ///
     /// ```
     /// use forgeni::Entities;
     ///
     /// let mut entities = Entities::new();
     /// entities.request_many(40)?;
-    /// // So the flush takes no memory for its list.
+    /// // So the flush doesn't allocate for its list.
     /// let mut born = Vec::with_capacity(entities.reserved() as usize);
     /// entities.flush(&mut born)?;
     /// assert_eq!((born.len(), entities.reserved()), (40, 0));
@@ -363,8 +392,8 @@ impl Entities {
         self.requests.served
     }
 
-    /// Gives a handle that is alive at once: the next one of the slot that was freed last, or the
-    /// first one of a new slot if none waits. It takes constant time.
+    /// Returns a new handle, which is alive at once: the next one of the slot that was freed last,
+    /// or the first one of a new slot if none waits. It takes constant time.
     ///
     /// ```
     /// use forgeni::Entities;
@@ -382,8 +411,8 @@ impl Entities {
     /// - [`AllocError::NeedsFlush`](AllocFault::NeedsFlush) if handles were requested since the
     ///   last flush, even if the request was refused.
     /// - [`AllocError::Space`](AllocFault::Space) if every slot has a living entity or is retired.
-    /// - [`AllocError::Memory`](AllocFault::Memory) if there is no memory for a new slot. It is
-    ///   never returned if an old slot waits.
+    /// - [`AllocError::Memory`](AllocFault::Memory) if there isn't enough memory for a new slot. It
+    ///   is never returned if an old slot waits.
     // Not inlined, its result goes through memory.
     #[inline(always)]
     pub fn alloc(&mut self) -> Result<Handle, AllocFault>
@@ -415,8 +444,8 @@ impl Entities {
     /// It takes constant time.
     ///
     /// After the last generation the slot is retired: it is never given again, and [`Freed::next`]
-    /// is `None`. So no handle is ever given twice. Bevy starts again with the first generation
-    /// there, and warns of it.
+    /// is `None`. So no handle is ever given twice. Bevy starts again with the first generation,
+    /// and warns about it.
     ///
     /// ```
     /// use forgeni::Entities;
@@ -438,8 +467,8 @@ impl Entities {
     /// - [`FreeError::NeedsFlush`](FreeFault::NeedsFlush) if handles were requested since the last
     ///   flush, even if the request was refused.
     /// - [`FreeError::NotAlive`](FreeFault::NotAlive) if the entity isn't alive.
-    /// - [`FreeError::Memory`](FreeFault::Memory) if there is no memory for one more slot that
-    ///   waits. It is never returned if the slot is retired.
+    /// - [`FreeError::Memory`](FreeFault::Memory) if there isn't enough memory for one more slot
+    ///   that waits. It is never returned if the slot is retired.
     // Not inlined, its result goes through memory.
     #[inline(always)]
     pub fn free(&mut self, handle: Handle) -> Result<Freed, FreeFault>
@@ -471,8 +500,8 @@ impl Entities {
     /// reserved, it appends nothing. It takes time for each handle that it appends, however long
     /// the list is.
     ///
-    /// If the list has room for the handles and no slot is new, the call takes no memory. So a list
-    /// that is cleared and used again takes none eventually.
+    /// If the list has room for the handles and no slot is new, the call doesn't allocate. So if a
+    /// list is cleared and reused, the calls eventually stop allocating.
     ///
     /// ```
     /// use forgeni::Entities;
@@ -493,9 +522,9 @@ impl Entities {
     ///
     /// # Errors
     ///
-    /// [`OutOfMemory`](Memory) if there is no memory for new slots or for the list. Nothing has
-    /// changed then, neither here nor in `out`: all room is asked for before the first handle is
-    /// listed.
+    /// [`OutOfMemory`](Memory) if there isn't enough memory for new slots or for the list. Nothing
+    /// has changed then, neither here nor in `out`: all memory is allocated before the first handle
+    /// is appended.
     pub fn flush(&mut self, out: &mut Vec<Handle>) -> Result<(), Memory>
         ensures ok { OnOk result (self.new.allocator ≡ after_flush self.old.allocator) }
         ensures rows { self.new.rows ≡ self.old.rows }
@@ -519,7 +548,7 @@ impl Entities {
         Ok(())
     }
 
-    /// What became of a handle: whether it is alive, reserved, or neither. It takes constant time.
+    /// Returns the state of a handle: alive, reserved, or neither. It takes constant time.
     ///
     /// ```
     /// use forgeni::{Entities, State};
@@ -556,7 +585,7 @@ impl Entities {
         }
     }
 
-    /// Whether the handle is alive. It takes constant time.
+    /// Returns `true` if the handle is alive. It takes constant time.
     ///
     /// ```
     /// use forgeni::Entities;
@@ -575,8 +604,8 @@ impl Entities {
         self.slots.is_alive(handle)
     }
 
-    /// Whether the entity is alive or reserved, as `contains` of Bevy and hecs tells. It takes
-    /// constant time.
+    /// Returns `true` if the entity is alive or reserved, like `contains` in Bevy and hecs. It
+    /// takes constant time.
     ///
     /// ```
     /// use forgeni::Entities;
@@ -599,8 +628,8 @@ impl Entities {
         }
     }
 
-    /// The handles of the living entities, by rising slot. It takes no memory, and time for each
-    /// slot.
+    /// Returns an iterator over the handles of the living entities, in slot order. It doesn't
+    /// allocate, and takes time for each slot.
     ///
     /// ```
     /// use forgeni::Entities;
@@ -619,9 +648,9 @@ impl Entities {
         self.slots.occupants()
     }
 
-    /// The place of a handle among those that there were to give at the last flush, counted from 0
-    /// in the order in which they are given. Requests don't change it. `None` if it isn't among
-    /// them. It takes constant time.
+    /// Returns the place of a handle among those that could be given at the last flush, counted
+    /// from 0 in the order in which they are given. Requests don't change it. `None` if it isn't
+    /// among them. It takes constant time.
     ///
     /// ```
     /// use forgeni::Entities;
@@ -654,9 +683,9 @@ impl Entities {
         }
     }
 
-    /// The row of a living entity: a number that a program keeps with it, such as the place of its
-    /// components. `None` if the handle isn't alive, or if no row was set since it came to life. It
-    /// takes constant time.
+    /// Returns the row of a living entity: a number that a program keeps with it, such as the place
+    /// of its components. `None` if the handle isn't alive, or if no row was set since it came to
+    /// life. It takes constant time.
     ///
     /// ```
     /// use forgeni::Entities;
@@ -690,8 +719,8 @@ impl Entities {
         self.slots.set_row(handle, row);
     }
 
-    /// Keeps a row with a living entity until the entity is freed, in place of the row that was set
-    /// before. It takes constant time, and no memory.
+    /// Sets the row of a living entity, in place of the one that it had. The entity keeps it until
+    /// it is freed. It takes constant time and doesn't allocate.
     ///
     /// ```
     /// use forgeni::{Absent, Entities};

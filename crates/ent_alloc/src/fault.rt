@@ -51,7 +51,7 @@ impl From<Memory> for AllocFault {
 /// let mut entities = Entities::new();
 /// let cart = entities.alloc()?;
 /// entities.free(cart)?;
-/// // A second system despawns it too. That is no reason to end the game.
+/// // A second system despawns it too, which is no reason to end the game.
 /// match entities.free(cart) {
 ///     Ok(_) | Err(FreeError::NotAlive) => {}
 ///     Err(other) => return Err(other.into()),
@@ -86,7 +86,7 @@ impl From<Memory> for FreeFault {
 ///
 /// let mut entities = Entities::new();
 /// let old = entities.alloc()?;
-/// // Whoever frees knows which handle the slot has next, before it is given.
+/// // The slot's next handle is known before it is given.
 /// let Freed { next } = entities.free(old)?;
 /// assert_eq!(next, Some(entities.alloc()?));
 /// # Ok::<(), Box<dyn std::error::Error>>(())

@@ -279,7 +279,7 @@ impl Entities {
     ///
     /// # Errors
     ///
-    /// [`Memory`] if there is no memory for that. Nothing has changed then.
+    /// [`Memory`] if there isn't enough memory for that. Nothing has changed then.
     pub fn take_portions(&mut self, alloc: Global, portions: &[Portion]) -> Result<(), Memory>
         requires flushed { self.old.allocator.asked ≡ 0 }
         requires used { AreUsed portions.now }

@@ -13,8 +13,8 @@ use ent_handle::Handle;
 use std::alloc::Global;
 
 impl Entities {
-    /// Gives `n` handles that are alive at once, all of them or none: those of `n` calls of
-    /// [`alloc`](Self::alloc), in their order. It is faster than these calls.
+    /// Allocates `n` handles, all of them or none: those of `n` calls of [`alloc`](Self::alloc), in
+    /// their order. They are alive at once. It is faster than these calls.
     ///
     /// ```
     /// use forgeni::Entities;
@@ -32,8 +32,8 @@ impl Entities {
     /// - [`AllocError::NeedsFlush`](AllocFault::NeedsFlush) if handles were requested since the
     ///   last flush, even if the request was refused.
     /// - [`AllocError::Space`](AllocFault::Space) if fewer than `n` handles can be given.
-    /// - [`AllocError::Memory`](AllocFault::Memory) if there is no memory for the list or for new
-    ///   slots.
+    /// - [`AllocError::Memory`](AllocFault::Memory) if there isn't enough memory for the list or
+    ///   for new slots.
     pub fn alloc_many(&mut self, alloc: Global, n: u32) -> Result<Vec<Handle>, AllocFault>
         ensures handles { IfOk result (λ handles. handles.items ≡ take n self.old.allocator.pool) }
         ensures within { IfOk result (λ handles.

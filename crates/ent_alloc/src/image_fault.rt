@@ -37,7 +37,7 @@ pub enum ImageFault {
     /// More slots were made than the limits allow, or more wait than were made.
     #[error("more slots than there may be")]
     Counts,
-    /// There are fewer bytes than an image of so many slots has, or more.
+    /// There are fewer or more bytes than an image of that many slots has.
     #[error("{expected} bytes expected")]
     Length {
         /// How many bytes the image has to have.

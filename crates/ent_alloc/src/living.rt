@@ -9,10 +9,10 @@ use crate::packed_slot::PackedSlot;
 use ent_handle::Handle;
 use std::marker::Model;
 
-/// The handles of the living entities, by rising slot.
+/// An iterator over the handles of the living entities, in slot order.
 ///
-/// [`Entities::iter`](crate::Entities::iter) makes it. It borrows the allocator and copies nothing.
-/// Between two handles it looks at each slot once. After the last handle it looks at none.
+/// It is created by [`Entities::iter`](crate::Entities::iter). It borrows the allocator and copies
+/// nothing. Between two handles it looks at each slot once. After the last handle it looks at none.
 ///
 /// ```
 /// use forgeni::{Entities, Handle, Living};

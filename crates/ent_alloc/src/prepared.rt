@@ -85,7 +85,7 @@ impl Prepared {
         }
     }
 
-    /// Makes room for the slots of another allocator. It takes no memory if this one has made as
+    /// Makes room for the slots of another allocator. It doesn't allocate if this one has made as
     /// many, and as many wait.
     ///
     /// # Errors
@@ -104,7 +104,7 @@ impl Prepared {
         Ok(())
     }
 
-    /// The same allocator as another one, in the lists of this one. It takes no memory.
+    /// The same allocator as another one, in the lists of this one. It doesn't allocate.
     pub fn take_over(self, source: &Entities) -> Entities
         requires slots { source.now.allocator.made ≤ self.slots }
         requires waiting { top source.now.allocator ≤ self.waiting }

@@ -50,9 +50,9 @@ pub enum ReserveError {
 }
 
 impl ReserveError {
-    /// The error as a system returns it. A refusal doesn't end the system: its queue or its log
-    /// keeps it, and the sync point reports it or hands it on. Only being out of memory ends the
-    /// system:
+    /// Returns the error as a system should return it. A refusal doesn't end the system: its queue
+    /// or its log keeps it, and the sync point reports it or passes it on. Only running out of
+    /// memory ends the system:
     ///
     /// ```
     /// use forgeni::{OutOfMemory, ReserveError};

@@ -52,8 +52,8 @@ impl<'a> Reserved<'a> {
     ghost use Rattle.ent_alloc.specs.Reserved.{reserved_handles, IsInRange};
 
     /// The handles that wait from `position` up to, not including, `end`, and the first occupants
-    /// of the slots from `index` up to, not including, `index_end`: `left` in all. Who asks for the
-    /// number alone then waits for none of the ends.
+    /// of the slots from `index` up to, not including, `index_end`: `left` in all. A caller that
+    /// asks for the number alone then waits for none of the ends.
     pub(crate) fn new(
         slots: &'a Slots,
         position: usize,

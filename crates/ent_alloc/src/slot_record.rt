@@ -8,16 +8,16 @@ ghost use Rattle.ent_alloc.specs.Slots.{reused};
 use crate::packed_slot::PackedSlot;
 use ent_handle::Handle;
 
-/// Who has a slot.
+/// What has a slot.
 #[derive(Clone, Copy)]
 pub(crate) enum Occupancy {
     /// A living entity.
     Alive,
     /// A living entity, and the row that a program keeps with it.
     AliveWithRow { row: u32 },
-    /// Nobody: the slot waits at this position of the pending list.
+    /// None: the slot waits at this position of the pending list.
     Pending { position: u32 },
-    /// Nobody: the last generation was freed, and the slot is not given again.
+    /// None: the last generation was freed, and the slot is not given again.
     Retired,
 }
 
@@ -43,7 +43,7 @@ impl SlotRecord {
     }
 }
 
-/// Who has the handle's slot; `None` if the slot wasn't made or is at another generation.
+/// What has the handle's slot; `None` if the slot wasn't made or is at another generation.
 pub(crate) fn occupancy_of(records: &[PackedSlot], handle: Handle) -> Option<Occupancy>
     ensures { result ≡ occupancy_of records.now handle }
 {

@@ -111,7 +111,7 @@ impl Slots {
         self.live
     }
 
-    /// The living occupants, by rising slot.
+    /// The living occupants, in slot order.
     pub(crate) fn occupants(&self) -> Living<'_>
         ensures living { set.from_list result ≡ self.now.live }
         ensures rising { AllPairs (λ g h. g.index < h.index) result }
@@ -120,7 +120,7 @@ impl Slots {
         Living::new(&self.records, self.live)
     }
 
-    /// Who has the handle's slot; `None` if the slot wasn't made or is at another generation.
+    /// What has the handle's slot; `None` if the slot wasn't made or is at another generation.
     pub(crate) fn occupancy_of(&self, handle: Handle) -> Option<Occupancy>
         ensures lives { set.contains self.now.live handle ≡ lives result }
         ensures row { maps.get self.now.rows handle ≡ row_kept result }

@@ -1,4 +1,4 @@
-/// What became of a handle.
+/// The state of a handle.
 ///
 /// ```
 /// use forgeni::{Entities, State};
@@ -17,7 +17,7 @@
 pub enum State {
     /// It is alive.
     Alive,
-    /// A request was given it, and the next flush brings it to life.
+    /// It was given to a request, and the next flush brings it to life.
     Reserved,
     /// Neither: it was freed, or it was never given.
     Gone,

@@ -100,6 +100,10 @@ module _ {A : Type 0} (of : A → Block) (bs : List Block) (rs : List A) (i k : 
     accounted_none = search (rules, drop_more, none)
 
 -- all are here, in their order
+pub among_itself : (bs : List Block) → are_among bs bs ≡ true
+among_itself [] = refl
+among_itself (b ∷ bs) = grind (arith, common_steps, among_itself bs)
+
 pub all_among : (rs : List Block) → are_among (map unused rs) rs ≡ true
 all_among [] = refl
 all_among (r ∷ rs) = grind (arith, common_steps, all_among rs)

@@ -1,5 +1,5 @@
--- Handles in blocks: the front of the pool is dealt to callers, and each is given the handles of
--- its own block, in the pool's order, whatever the others do.
+-- Handles in blocks: the front of the pool is dealt to callers, and each gets the handles of its
+-- own block, in the pool's order, whatever the others do.
 use Rattle.std.specs.Prelude.{◌≡◌, ℕ, ◌+◌, ◌-◌, ◌^◌, ◌<◌, ◌≤◌, nat_le, ◌==◌, ◌&&◌, Bool}
 use Rattle.std.specs.Prelude.{if◌then◌else◌, true, false, List, [], ◌∷◌, ◌++◌, length, take, drop}
 use Rattle.std.specs.Prelude.{map, refl}
@@ -53,10 +53,10 @@ portion_of b = record { size = b.size; used = b.used }
 abbrev pub portions_of : List Block → List Portion
 portions_of = map portion_of
 
--- Closing: what was used of the blocks is taken, in the order of the callers, and the pool is what
--- is left of them, and then what was not dealt: it keeps its own order. Slots are made if something
--- is left before the last handle that was used: those up to that one. So a fresh one of them that
--- nobody used waits, with generation 1.
+-- Closing: what was used of the blocks is taken, in the order of the callers. The pool is what is
+-- left of the blocks, followed by what was not dealt, in its own order. If something is left before
+-- the last handle that was used, the slots up to that handle are made. So a fresh slot among them
+-- that wasn't used waits, with generation 1.
 abbrev pub after_blocks : Allocator → List Block → Allocator
 after_blocks s blocks = record s {
   taken = flat_map (used_of s.pool) blocks;
@@ -69,20 +69,20 @@ after_blocks s blocks = record s {
 abbrev pub unused : Block → Block
 unused b = record b { used = 0 }
 
--- after so many more were used
+-- after that many more were used
 abbrev pub after_use : Block → ℕ → Block
 after_use b n = record b { used = b.used + n }
 
 -- ---- what contracts see
 
--- the allocator as it was opened, the rows that are kept with its living handles, and the blocks as
--- they were dealt
+-- the allocator as it was when the phase was opened, the rows that are kept with its living
+-- handles, and the blocks as they were dealt
 pub record Blocks : Type 0 where
   pub start : Allocator
   pub rows : maps.FinMap handle_cmp ℕ
   pub blocks : List Block
 
--- those of an allocator that nobody uses
+-- those of an allocator that isn't used
 abbrev pub no_blocks : Blocks
 no_blocks = record {
   start = opening (record { slots = 1; generations = 1 });
@@ -106,7 +106,7 @@ pub record Reserver : Type 0 where
   pub block : Block
   pub refused : ℕ
 
--- after a request for so many that the block didn't have
+-- after a request for that many, which the block didn't have
 abbrev pub after_refusal : Reserver → ℕ → Reserver
 after_refusal r n = record r { refused = max r.refused n }
 

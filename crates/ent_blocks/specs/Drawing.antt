@@ -16,7 +16,7 @@ abbrev pub left_of : Block → ℕ
 left_of b = b.size - b.used
 
 -- The reply to a request for n handles of a block: the next ones, listed as every reply lists them.
--- If fewer are left, there are none, and the reserver remembers how many were wanted.
+-- If fewer are left, there are none, and the reserver remembers how many were requested.
 pub record IsDrawn (phase : Phase) (before after : Reserver) (n : ℕ)
     (reply : Result (List Handle) Refused) : Type 0 where
   pub given : IfOk reply (λ handles. handles

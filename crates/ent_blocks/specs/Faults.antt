@@ -1,4 +1,4 @@
--- What is said of a refusal.
+-- What holds of a refusal.
 use Rattle.std.specs.Prelude.{ℕ, ◌≡◌, Result, Ok, Err}
 use Rattle.ent_blocks.specs.Blocks.{Reserver, after_refusal}
 use Rattle.ent_blocks.specs.declared.block_error.BlockError.{BlockError}
@@ -11,7 +11,7 @@ abbrev pub IsErrWith : {A E : Type 0} → Result A E → (E → Type 0) → Type
 IsErrWith (Ok a) P = ⊥
 IsErrWith (Err e) P = P e
 
--- so many reservers are missing
+-- that many reservers are missing
 abbrev pub IsMissing : ℕ → EndError → Type 0
 IsMissing n failed.OtherPhase = ⊥
 IsMissing n failed.Order = ⊥
@@ -19,7 +19,7 @@ IsMissing n (failed.Missing count) = count ≡ n
 IsMissing n failed.Memory = ⊥
 
 -- what a request that was refused leaves of its reserver: only if its block has too few, it
--- remembers how many were wanted
+-- remembers how many were requested
 abbrev pub after_error : Reserver → BlockError → Reserver
 after_error r (block.Space wanted left) = after_refusal r wanted
 after_error r block.OtherPhase = r

@@ -3,3 +3,4 @@ pub mod Faults
 pub mod Drawing
 pub mod Ending
 pub mod Overflow
+pub mod PastEnding

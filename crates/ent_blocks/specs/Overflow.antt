@@ -1,6 +1,6 @@
 -- Blocks whose callers may go past them: what is requested past a block comes from one cursor that
 -- all share, and that begins behind the last block.
-use Rattle.std.specs.Prelude.{◌≡◌, ℕ, zero, suc, ◌+◌, ◌<◌, ◌≤◌, pos, ◌-ℤ◌, ◌≤ℤ◌, ◌==◌}
+use Rattle.std.specs.Prelude.{◌≡◌, ℕ, zero, suc, ◌+◌, ◌<◌, ◌≤◌, pos, ◌-ℤ◌, ◌≤ℤ◌, ◌==◌, ◌⊎◌}
 use Rattle.std.specs.Prelude.{if◌then◌else◌, List, [], ◌∷◌, length, map, take, drop, refl}
 use Rattle.std.specs.Prelude.{Result, Ok, Err}
 use Rattle.std.specs.List.{All, Contains}
@@ -63,12 +63,12 @@ pub record IsBehind (phase : Overflow) (r : Reservation) : Type 0 where
 pub record IsCallerOf (phase : Overflow) (c : Caller) : Type 0 where
   pub block : Contains phase.blocks (unused c.block)
   pub past : sharing.IsOf phase.shared c.past
-  -- whatever it requests past its block, and all that it has, comes behind all blocks
+  -- all that it requests past its block, and all that it has, comes after all blocks
   pub next : c.past.own.mark ≤ℤ phase.dealer.own.mark
   pub all : All (IsBehind phase) (own_reservations c.past.own.entries)
 
--- What a request for n handles returns, and what it leaves. As long as the block has so many left,
--- they are its next ones. Past it, it is what the shared cursor gives.
+-- What a request for n handles returns, and what it leaves. As long as the block has that many
+-- left, they are its next ones. Past the block, they are what the shared cursor gives.
 pub record IsServed (phase : Overflow) (before after : Caller) (n : ℕ)
     (reply : Result (List Handle) Refused) : Type 0 where
   pub block : n ≤ left_of before.block
@@ -79,6 +79,12 @@ pub record IsServed (phase : Overflow) (before after : Caller) (n : ℕ)
       → (reply ≡ Err (Quota before.past.own.left)) × (after ≡ before)
   pub past : left_of before.block < n → n ≤ before.past.own.left
       → (after.block ≡ before.block) × Reserves phase.shared before.past after.past n reply
+
+-- A request for n handles may be served: the block has that many left, or the quota and the pool
+-- had, as it was when the phase was opened.
+abbrev pub MayBeServed : Overflow → Caller → ℕ → Type 0
+MayBeServed phase c n = (n ≤ left_of c.block)
+    ⊎ ((n ≤ c.past.own.left) × (n ≤ length phase.shared.start.pool))
 
 -- what lies behind all blocks
 abbrev pub behind_blocks : Overflow → List Handle
@@ -98,7 +104,7 @@ pub record Ended : Type 0 where
 
 -- ---- for private contracts
 
--- The record has this one reservation, of so many handles.
+-- The record has this one reservation, of that many handles.
 pub record HasDealt (n : ℕ) (r : Record) : Type 0 where
   pub call : Reservation
   pub entries : r.entries ≡ Own call ∷ []

@@ -6,8 +6,11 @@ use ent_handle::Memory;
 use std::alloc::AllocError;
 use thiserror::Error;
 
-/// Why no handle of a block was reserved. Nothing has changed then, but that the reserver
+/// Why no handle of a block was reserved. Nothing has changed then, except that the reserver
 /// [remembers](crate::BlockReserver::wanted) a request for more than is left.
+///
+/// To be refused only if the allocator has no more handles, reserve from blocks that go on:
+/// [`Entities::share_behind_blocks`](forgeni::Entities::share_behind_blocks).
 ///
 /// ```
 /// use forgeni::{BlockError, Entities};
@@ -15,7 +18,7 @@ use thiserror::Error;
 /// let (blocks, mut reservers) = Entities::new().open_in_blocks(&[2])?;
 /// let mine = &mut reservers[0];
 /// blocks.reserve_many(mine, 2)?;
-/// // The block is used up. The caller goes on without, and its next block is larger.
+/// // The block is used up. The caller goes on without a handle, and its next block is larger.
 /// if let Err(BlockError::Space { wanted, left }) = blocks.reserve(mine) {
 ///     assert_eq!((wanted, left, mine.wanted()), (1, 0, 3));
 /// }
@@ -24,10 +27,11 @@ use thiserror::Error;
 #[derive(Clone, Copy, Debug, PartialEq, Eq, Hash, Error)]
 #[non_exhaustive]
 pub enum BlockError {
-    /// Fewer handles are left of the block than were wanted. A later request for fewer is served.
+    /// Fewer handles are left of the block than were requested. A later request for fewer is
+    /// served.
     #[error("{wanted} wanted and {left} left of the block")]
     Space {
-        /// How many handles were wanted.
+        /// How many handles were requested.
         wanted: u32,
         /// How many are left of the block.
         left: u32,

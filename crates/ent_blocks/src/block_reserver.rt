@@ -7,7 +7,7 @@ use crate::numbering::BlockNumbering;
 use crate::part::Part;
 use std::marker::{Model, PhantomData};
 
-/// The right of one caller to the handles of its block.
+/// One caller's right to the handles of its block.
 ///
 /// [`Entities::open_in_blocks`](forgeni::Entities::open_in_blocks) makes them, and
 /// [`Blocks::close`](Blocks::close) takes them back. It is a few numbers: it has no list of
@@ -48,7 +48,8 @@ impl<J: BlockNumbering> BlockReserver<J> {
     ghost use Rattle.ent_blocks.specs.Blocks.{after_refusal, wanted_by};
     ghost use Rattle.ent_blocks.specs.declared.block_error.BlockError.TheVariants as why;
 
-    /// How many handles the block has. It is less than what was wanted if the pool ended.
+    /// Returns the number of handles in the block. It is less than the requested size if the pool
+    /// had no more.
     ///
     /// ```
     /// use forgeni::{Entities, Limits};
@@ -66,7 +67,7 @@ impl<J: BlockNumbering> BlockReserver<J> {
         self.part.size()
     }
 
-    /// How many of them are used.
+    /// Returns the number of handles of the block that are used.
     ///
     /// ```
     /// use forgeni::Entities;
@@ -88,7 +89,7 @@ impl<J: BlockNumbering> BlockReserver<J> {
         self.part.used()
     }
 
-    /// How many handles of the block are left.
+    /// Returns the number of handles that are left of the block.
     ///
     /// ```
     /// use forgeni::Entities;
@@ -109,8 +110,8 @@ impl<J: BlockNumbering> BlockReserver<J> {
         self.part.left()
     }
 
-    /// How many handles would have been enough: those that are used, and the largest of the
-    /// requests that were refused since too few were left. At most 4,294,967,295.
+    /// Returns how many handles would have been enough: those that are used, plus the largest of
+    /// the requests that were refused because too few were left. It is at most 4,294,967,295.
     /// [`BlockSize::adapt`](crate::BlockSize::adapt) takes it.
     ///
     /// ```
@@ -139,7 +140,7 @@ impl<J: BlockNumbering> BlockReserver<J> {
         BlockError::Space { wanted, left }
     }
 
-    /// Whether it is of this phase.
+    /// Returns `true` if it belongs to this phase.
     ///
     /// ```
     /// use forgeni::{BlockError, Entities};

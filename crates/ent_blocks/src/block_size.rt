@@ -1,10 +1,10 @@
 ghost use Rattle.std.specs.Prelude.{◌≡◌, ◌*◌, ◌≤◌, min, max};
 
-/// How large a caller's block is in the next phase: twice what it
-/// [wanted](crate::BlockReserver::wanted) in this one, at least 64, and at most a limit. So a size
-/// follows from the phases before, and is the same on every machine.
+/// The size of a caller's block in the next phase: twice what it
+/// [wanted](crate::BlockReserver::wanted) in this one, at least 64, and at most a limit. So the
+/// size depends only on earlier phases, and is the same on every machine.
 ///
-/// What a caller wanted is what it used, and the largest of its requests that were refused. So the
+/// What a caller wanted is what it used, plus the largest of its requests that were refused. So the
 /// next block has enough for that one too, unless the limit is less.
 ///
 /// ```
@@ -27,7 +27,7 @@ pub struct BlockSize {
 }
 
 impl BlockSize {
-    /// The size before the first phase: 64, or the limit if that is less.
+    /// Creates the size for a first phase: 64, or the limit if that is less.
     ///
     /// ```
     /// use forgeni::BlockSize;
@@ -46,8 +46,8 @@ impl BlockSize {
         }
     }
 
-    /// One of this size, or of the limit if that is less: for a first phase in which more is wanted
-    /// than 64 handles, or as it was saved.
+    /// Creates a block size of this size, or of the limit if that is less. It is for a first phase
+    /// that needs more than 64 handles, and for a size that was saved.
     ///
     /// ```
     /// use forgeni::BlockSize;
@@ -68,7 +68,7 @@ impl BlockSize {
         }
     }
 
-    /// How many handles the block has in the next phase.
+    /// Returns the size of the block in the next phase.
     ///
     /// ```
     /// use forgeni::{BlockSize, Entities};
@@ -86,7 +86,7 @@ impl BlockSize {
         self.size
     }
 
-    /// The greatest size.
+    /// Returns the greatest size.
     ///
     /// ```
     /// use forgeni::BlockSize;
@@ -103,7 +103,7 @@ impl BlockSize {
         self.limit
     }
 
-    /// Sets the size to the one that follows from how many handles were
+    /// Sets the size for the next phase from how many handles were
     /// [wanted](crate::BlockReserver::wanted) in this phase.
     ///
     /// ```

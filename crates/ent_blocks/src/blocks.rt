@@ -27,11 +27,11 @@ use ent_handle::{HandedBack, Handle};
 use std::alloc::Global;
 use std::marker::{Model, PhantomData};
 
-/// An allocator whose pool's front is dealt in blocks, one to each [`BlockReserver`].
-/// [`Entities::open_in_blocks`](forgeni::Entities::open_in_blocks) makes it.
+/// An allocator in a phase in which the front of its pool is dealt in blocks, one to each
+/// [`BlockReserver`]. [`Entities::open_in_blocks`](forgeni::Entities::open_in_blocks) makes it.
 ///
 /// Which handles a reserver gets depends on the allocator, on the sizes, and on what it has
-/// reserved before: on no other reserver, and on no thread. Many threads may reserve at once: no
+/// reserved before: not on other reservers or on threads. Many threads may reserve at once: no
 /// reservation writes to what they share.
 ///
 /// ```
@@ -118,7 +118,7 @@ impl<J: BlockNumbering> Blocks<J> {
         self.number
     }
 
-    /// How many blocks it has.
+    /// Returns the number of blocks.
     ///
     /// ```
     /// use forgeni::Entities;
@@ -134,8 +134,8 @@ impl<J: BlockNumbering> Blocks<J> {
         self.parts.len()
     }
 
-    /// Whether the entity was alive when the phase was opened. It stays so until the close. Any
-    /// thread may ask, and it takes constant time.
+    /// Returns `true` if the entity was alive when the phase was opened. That doesn't change until
+    /// the close. Any thread may call it, and it takes constant time.
     ///
     /// ```
     /// use forgeni::Entities;
@@ -154,8 +154,8 @@ impl<J: BlockNumbering> Blocks<J> {
         self.entities.is_alive(handle)
     }
 
-    /// The row that was set with the entity when the phase was opened. `None` if the entity was not
-    /// alive then, or had no row. It takes constant time.
+    /// Returns the row that the entity had when the phase was opened, or `None` if it wasn't alive
+    /// then or had no row. It takes constant time.
     ///
     /// ```
     /// use forgeni::Entities;
@@ -175,8 +175,8 @@ impl<J: BlockNumbering> Blocks<J> {
         self.entities.row(handle)
     }
 
-    /// Reserves the next handle of the reserver's block. It makes no atomic step, takes no memory
-    /// and waits for nobody. The handle comes to life after the phase, by the next flush.
+    /// Reserves the next handle of the reserver's block. It makes no atomic step, and neither
+    /// allocates nor waits. The handle comes to life after the phase, by the next flush.
     ///
     /// ```
     /// use forgeni::Entities;
@@ -235,10 +235,10 @@ impl<J: BlockNumbering> Blocks<J> {
     ///
     /// # Errors
     ///
-    /// No handle is used then. The error is the first of these that holds:
+    /// No handle is used then. The error is the first of these that applies:
     /// [`BlockError::OtherPhase`] if the reserver is of another phase; [`BlockError::Space`] if the
     /// block has fewer than `n` handles left, and the reserver [remembers](BlockReserver::wanted)
-    /// how many were wanted; [`BlockError::Memory`] if there is no memory for the list.
+    /// how many were wanted; [`BlockError::Memory`] if there isn't enough memory for the list.
     pub fn reserve_many(
         &self,
         reserver: &mut BlockReserver<J>,
@@ -265,8 +265,8 @@ impl<J: BlockNumbering> Blocks<J> {
         Ok(handles)
     }
 
-    /// [`reserve_many`](Self::reserve_many), which appends the handles to a list. It takes no
-    /// memory if the list has room for them, or if they are refused.
+    /// [`reserve_many`](Self::reserve_many), which appends the handles to a list. It doesn't
+    /// allocate if the list has room for them, or if they are refused.
     ///
     /// ```
     /// use forgeni::Entities;
@@ -282,7 +282,7 @@ impl<J: BlockNumbering> Blocks<J> {
     ///
     /// # Errors
     ///
-    /// As [`reserve_many`](Self::reserve_many), and then the list has the same handles as before.
+    /// The same as for [`reserve_many`](Self::reserve_many). The list is unchanged.
     pub fn reserve_into(
         &self,
         reserver: &mut BlockReserver<J>,
@@ -325,9 +325,9 @@ impl<J: BlockNumbering> Blocks<J> {
     /// is reserved: a flush brings it to life. What is left of the blocks can be given again, and
     /// comes before all that was not dealt.
     ///
-    /// If the blocks are used up, one after the other, it takes time for each block alone. If
+    /// If the blocks are used up from the first one on, it takes time only for each block. If
     /// something is left before the last handle that was used, it takes time and memory for each
-    /// handle up to that one, and makes their slots: a new one that nobody used waits, with
+    /// handle up to that one, and makes their slots: a new slot that wasn't used waits, with
     /// generation 1.
     ///
     /// ```
@@ -346,7 +346,7 @@ impl<J: BlockNumbering> Blocks<J> {
     /// # Errors
     ///
     /// [`HandedBack`] has the phase and the reservers as they were, and the first of these errors
-    /// that holds: [`EndError::OtherPhase`], [`EndError::Order`], [`EndError::Missing`],
+    /// that applies: [`EndError::OtherPhase`], [`EndError::Order`], [`EndError::Missing`],
     /// [`EndError::Memory`].
     pub fn close(
         self,
@@ -423,7 +423,7 @@ impl<J: BlockNumbering> Blocks<J> {
     /// # Errors
     ///
     /// [`HandedBack`] has the phase and the reservers as they were, and the first of these errors
-    /// that holds: [`EndError::OtherPhase`], [`EndError::Order`], [`EndError::Memory`].
+    /// that applies: [`EndError::OtherPhase`], [`EndError::Order`], [`EndError::Memory`].
     pub fn close_lost(
         self,
         reservers: Vec<BlockReserver<J>>,
@@ -513,7 +513,7 @@ impl<J: BlockNumbering> Blocks<J> {
     }
 }
 
-/// [`Blocks::reserve_many`] without a list: it takes no memory, and each handle is looked up when
+/// [`Blocks::reserve_many`] without a list: it doesn't allocate, and each handle is looked up when
 /// it is yielded.
 ///
 /// # Errors
@@ -527,6 +527,7 @@ pub fn reserve_iter<'b, J: BlockNumbering>(
     ensures given { IfOk result (λ handles. handles ≡ listed blocks.now.phase.start.made
         (take n (rest_of blocks.now.phase.start.pool reserver.old.block))) }
     ensures length { IfOk result (λ handles. length handles ≡ n) }
+    ensures enough { OnOk result (n ≤ reserver.old.block.size - reserver.old.block.used) }
     ensures ok { OnOk result (reserver.new ≡ record reserver.old {
       block = after_use reserver.old.block n;
     }) }

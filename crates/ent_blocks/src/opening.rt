@@ -54,7 +54,7 @@ impl<J: BlockNumbering> Model for Deal<J> {
 /// # Errors
 ///
 /// [`HandedBack`] has the allocator as it was, and [`DealError::NeedsFlush`] or
-/// [`DealError::Memory`]. No sizes take no memory.
+/// [`DealError::Memory`]. With no sizes, it doesn't allocate.
 pub fn open_in_blocks<J: BlockNumbering>(
     alloc: Global,
     entities: Entities,
@@ -89,8 +89,8 @@ pub fn open_in_blocks<J: BlockNumbering>(
     })
 }
 
-/// A number stands for nothing by itself. A function that is proved for every `J` may be called
-/// with `Brand` for it, and the proof of that call picks what the numbers stand for.
+/// A number means nothing by itself. A function that is proved for every `J` may be called with
+/// `Brand` for it, and the proof of that call picks what the numbers stand for.
 impl BlockNumbering for std::marker::Brand {
     ghost use Rattle.ent_blocks.specs.Blocks.{no_blocks};
 
@@ -99,7 +99,7 @@ impl BlockNumbering for std::marker::Brand {
 
 impl<J: BlockNumbering> Deal<J> {
     /// The phase under this number, which no other phase has, and a reserver of each block, in the
-    /// order of the sizes. It takes no memory.
+    /// order of the sizes. It doesn't allocate.
     pub fn numbered(self, number: u64) -> (Blocks<J>, Vec<BlockReserver<J>>)
         requires stands_for { J.blocks_of number ≡ self }
         ensures phase { result.0 ≡ record { number = number; phase = self } }

@@ -1,5 +1,5 @@
-//! Blocks whose callers go on to one cursor that all share. As long as nobody goes past its block,
-//! which handle each is given depends on no other.
+//! Blocks whose callers go on to one cursor that all share. As long as no caller goes past its
+//! block, its handles don't depend on the others.
 #![tactic(auto, using(crate::proofs::Laws::past_laws))]
 
 mod dealing;

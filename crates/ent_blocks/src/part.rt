@@ -44,14 +44,14 @@ impl Part {
         self.before
     }
 
-    /// How many handles the block has.
+    /// Returns the number of handles in the block.
     pub fn size(&self) -> u32
         ensures { result ≡ self.now.size }
     {
         self.size
     }
 
-    /// How many of them are used.
+    /// Returns the number of handles of the block that are used.
     pub fn used(&self) -> u32
         ensures value { result ≡ self.now.used }
         ensures within { result ≤ self.now.size }
@@ -59,7 +59,7 @@ impl Part {
         self.used
     }
 
-    /// How many handles of the block are left.
+    /// Returns the number of handles that are left of the block.
     pub fn left(&self) -> u32
         ensures value { result ≡ self.now.size - self.now.used }
         ensures within { self.now.used ≤ self.now.size }
@@ -86,7 +86,7 @@ impl Part {
         }
     }
 
-    /// Whether it is the same block, however many of its handles are used.
+    /// Returns `true` if it is the same block, however many of its handles are used.
     pub fn is_same(&self, other: &Part) -> bool
         ensures { result ≡ is_same self.now other.now }
     {

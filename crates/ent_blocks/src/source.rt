@@ -4,15 +4,18 @@ use crate::numbering::BlockNumbering;
 use ent_alloc::{Refused, Reserved, Source};
 use ent_handle::Handle;
 
-/// Each reservation is of the [next handles](Blocks::reserve) of the reserver's own block.
+/// A reservation takes the [next handles](Blocks::reserve) of the reserver's own block.
 impl<J: BlockNumbering> Source for Blocks<J> {
-    ghost use Rattle.ent_blocks.specs.Drawing.{IsDrawn, IsOfPhase};
+    ghost use Rattle.std.specs.Prelude.{◌≤◌};
+    ghost use Rattle.ent_blocks.specs.Drawing.{IsDrawn, IsOfPhase, left_of};
 
     type Reserver = BlockReserver<J>;
 
     ghost serves = { λ blocks reserver. IsOfPhase blocks reserver };
 
     ghost may_reply = { λ blocks before after n reply. IsDrawn blocks before after n reply };
+
+    ghost may_give = { λ blocks reserver n. n ≤ left_of reserver.block };
 
     ghost start = { λ blocks. blocks.phase.start };
 
@@ -24,6 +27,10 @@ impl<J: BlockNumbering> Source for Blocks<J> {
 
     fn had_row(&self, handle: Handle) -> Option<u32> {
         self.row(handle)
+    }
+
+    fn may_serve(&self, reserver: &BlockReserver<J>, n: u32) -> bool {
+        n <= reserver.left()
     }
 
     #[inline(always)]

@@ -10,8 +10,8 @@ use std::cmp::Ordering;
 /// world spawn, without a handle.
 ///
 /// Births are ordered by frame, then by system, then by ordinal. Births and their order are this
-/// project's own. The fields say what a sync point gives; a caller that spawns without one chooses
-/// them.
+/// project's own. The fields are described as a sync point sets them; a caller that spawns without
+/// one chooses them.
 ///
 /// ```
 /// use forgeni::{Birth, World};

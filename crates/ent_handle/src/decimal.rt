@@ -43,7 +43,7 @@ pub(crate) fn decimal_value(bytes: &[u8]) -> Option<u32>
 
 /// The number of this text, which is a decimal: `0`, or digits of which the first is not `0`.
 ///
-/// It takes time linear in the length of the text, however long that is, and no memory.
+/// It takes time linear in the length of the text, however long that is, and doesn't allocate.
 ///
 /// # Errors
 ///

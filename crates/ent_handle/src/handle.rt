@@ -15,7 +15,7 @@ use std::marker::Model;
 use std::num::NonZeroU64;
 
 /// The name of an entity: the index of a slot, and a generation that tells the slot's entities
-/// apart. It is ordered by index and then by generation.
+/// apart. Handles are ordered by index, and then by generation.
 ///
 /// A handle takes 8 bytes, and so does an `Option<Handle>`. `Display` and `Debug` write it as
 /// `0v1`, and it is parsed from that text.
@@ -37,11 +37,11 @@ use std::num::NonZeroU64;
 /// # Ok::<(), forgeni::ParseHandleError>(())
 /// ```
 ///
-/// An index is 0 to 4,294,967,294, and a generation 1 to 2,147,483,647: Bevy's ranges without the
-/// index that its placeholder has. As in Bevy, each entity of a slot has the generation after that
-/// of the entity before it, so an earlier handle doesn't name a later entity. After the last
-/// generation a slot has no more entities, whereas Bevy starts again with the first one. The order
-/// is this project's own: that of Bevy and hecs is [`by_bits`](Self::by_bits).
+/// An index is 0 to 4,294,967,294, and a generation 1 to 2,147,483,647: Bevy's ranges, without the
+/// index of its placeholder. As in Bevy, each entity of a slot has the generation after that of the
+/// entity before it, so an earlier handle doesn't name a later entity. After the last generation a
+/// slot has no more entities, whereas Bevy starts again with the first one. The order is this
+/// project's own: that of Bevy and hecs is [`by_bits`](Self::by_bits).
 #[derive(Clone, Copy)]
 pub struct Handle {
     bits: NonZeroU64,
@@ -74,7 +74,7 @@ impl Model for Handle {
 }
 
 impl Handle {
-    /// The handle of these numbers: an index below 4,294,967,295, a generation from 1 to
+    /// Returns the handle with these numbers: an index below 4,294,967,295, a generation from 1 to
     /// 2,147,483,647. `None` if one of them is out of range.
     ///
     /// ```
@@ -113,7 +113,7 @@ impl Handle {
         Handle { bits }
     }
 
-    /// The index of its slot: 0 to 4,294,967,294.
+    /// Returns the index of its slot: 0 to 4,294,967,294.
     ///
     /// ```
     /// use forgeni::Entities;
@@ -133,7 +133,7 @@ impl Handle {
         (self.bits.get() & 0xffff_ffff) as u32
     }
 
-    /// Its generation: 1 for the first entity of a slot, and at most 2,147,483,647.
+    /// Returns its generation: 1 for the first entity of a slot, and at most 2,147,483,647.
     ///
     /// ```
     /// use forgeni::Entities;
@@ -168,7 +168,7 @@ impl Handle {
         Some(Handle { bits })
     }
 
-    /// Both numbers in one: the generation times 2^32, plus the index.
+    /// Returns both numbers in one: the generation times 2^32, plus the index.
     ///
     /// ```
     /// use forgeni::Handle;
@@ -193,7 +193,7 @@ impl Handle {
         (u64::from(self.index()) << 32) + u64::from(self.generation())
     }
 
-    /// The order by bits, which is that of Bevy and hecs: by generation, then by index.
+    /// Compares two handles by their bits, as Bevy and hecs do: by generation, then by index.
     ///
     /// ```
     /// use forgeni::Handle;
@@ -211,8 +211,8 @@ impl Handle {
         self.to_bits().cmp(&other.to_bits())
     }
 
-    /// The handle that [`to_bits`](Self::to_bits) packed into these bits. `None` if they are the
-    /// bits of no handle.
+    /// Returns the handle that [`to_bits`](Self::to_bits) packed into these bits, or `None` if no
+    /// handle has these bits.
     ///
     /// ```
     /// use forgeni::Handle;

@@ -1,8 +1,8 @@
 use std::alloc::{AllocError, AllocFailed};
 use thiserror::Error;
 
-/// Out of memory: an allocation failed, or something else happened that the call says counts as
-/// that. A call without any other error returns this one.
+/// Out of memory: an allocation failed, or something else happened that the call counts as such. A
+/// call without any other error returns this one.
 ///
 /// ```
 /// use forgeni::{Entities, OutOfMemory};

@@ -22,10 +22,10 @@ use thiserror::Error;
 /// ```
 #[derive(Clone, Copy, Debug, PartialEq, Eq, Hash, Error)]
 pub enum TextFault {
-    /// It doesn't have the form, which is that of `0v1` for a handle.
+    /// It doesn't have the right form, such as `0v1` for a handle.
     #[error("not of the form of a handle, as 0v1")]
     Shape,
-    /// It has the form, and a number in it is out of range.
+    /// It has the right form, but a number in it is out of range.
     #[error("no handle has these numbers")]
     Range,
 }
@@ -41,10 +41,10 @@ pub fn split_once(bytes: &[u8], separator: u8) -> Option<(&[u8], &[u8])>
 }
 
 impl Handle {
-    /// The handle of this text: the index in decimal, the letter `v`, the generation in decimal. A
-    /// decimal has no sign and no leading zero.
+    /// Parses the text of a handle: the index in decimal, the letter `v`, the generation in
+    /// decimal. A decimal has no sign and no leading zero.
     ///
-    /// It takes time linear in the length of the text, however long that is, and no memory.
+    /// It takes time linear in the length of the text, however long that is, and doesn't allocate.
     ///
     /// ```
     /// use forgeni::{Handle, ParseHandleError};
@@ -60,7 +60,7 @@ impl Handle {
     /// # Errors
     ///
     /// - `Shape`: the text does not have this form.
-    /// - `Range`: it has this form, and no handle has these numbers.
+    /// - `Range`: it has this form, but no handle has these numbers.
     pub fn read_text(bytes: &[u8]) -> Result<Self, TextFault>
         // The text is that of the handle that is read.
         ensures found { IfOk result (λ h. IsHandle h × (bytes.now ≡ handle_text h)) }
@@ -105,7 +105,7 @@ impl Handle {
     ///
     /// # Errors
     ///
-    /// `Memory`: there is no memory for the text. `out` has the same items as before.
+    /// `Memory`: there isn't enough memory for the text. `out` is unchanged.
     pub fn write_text(&self, out: &mut Vec<u8>) -> Result<(), Memory>
         ensures ok { OnOk result (out.new.items ≡ out.old.items ++ handle_text self.now) }
         ensures err { OnErr result (out.new.items ≡ out.old.items) }

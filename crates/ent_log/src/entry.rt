@@ -1,7 +1,7 @@
 use ent_alloc::Refused;
 use ent_handle::Handle;
 
-/// What a [`Log`](crate::Log) keeps of one call, for the sync point to hand on.
+/// What a [`Log`](crate::Log) keeps of one call, for the sync point to pass on.
 ///
 /// ```
 /// use forgeni::{Entities, Entry, Limits, Log};
@@ -21,7 +21,7 @@ use ent_handle::Handle;
 /// ```
 #[derive(Clone, Copy, Debug, PartialEq, Eq, Hash, Drop)]
 pub enum Entry<C> {
-    /// A handle that a spawn returned. It is alive when the sync point hands on its first entry.
+    /// A handle that a spawn returned. It is alive when the sync point passes on its first entry.
     Spawn(Handle),
     /// Why a spawn returned no handle. Nothing comes to life for it.
     Refused(Refused),

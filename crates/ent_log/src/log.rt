@@ -20,7 +20,7 @@ use std::vec::IntoIter;
 /// The spawns and commands of one system, in the order of issue. `C` is the caller's type of
 /// commands.
 ///
-/// A [`SyncPoint`](crate::SyncPoint) brings to life what was spawned, and hands on the entries. A
+/// A [`SyncPoint`](crate::SyncPoint) brings to life what was spawned, and passes on the entries. A
 /// log can go to another thread. If a worker runs several systems, each has a log.
 ///
 /// ```
@@ -58,7 +58,7 @@ impl<C> Model for Log<C> {
 }
 
 impl<C> Log<C> {
-    /// A log without entries. It takes no memory.
+    /// Creates a log without entries. It doesn't allocate.
     ///
     /// ```
     /// use forgeni::Log;
@@ -78,7 +78,7 @@ impl<C> Log<C> {
         }
     }
 
-    /// The entries, in the order of issue.
+    /// Returns the entries, in the order of issue.
     ///
     /// ```
     /// use forgeni::{Entry, Log};
@@ -100,7 +100,7 @@ impl<C> Log<C> {
         &self.entries
     }
 
-    /// How many entries there are.
+    /// Returns the number of entries.
     ///
     /// ```
     /// use forgeni::Log;
@@ -118,7 +118,7 @@ impl<C> Log<C> {
         self.entries.len()
     }
 
-    /// Whether there is none.
+    /// Returns `true` if there are no entries.
     ///
     /// ```
     /// use forgeni::Log;
@@ -134,7 +134,7 @@ impl<C> Log<C> {
         self.entries.is_empty()
     }
 
-    /// How many of its spawns were refused.
+    /// Returns the number of its spawns that were refused.
     ///
     /// ```
     /// use forgeni::{Entities, Limits, Log};
@@ -183,7 +183,7 @@ impl<C> Log<C> {
     /// - [`ReserveError::Memory`] if there is no room for the entry. The log is as it was, and
     ///   nothing was reserved.
     /// - [`ReserveError::Space`] and [`ReserveError::Quota`] as the reservation returns them. The
-    ///   log has an entry for the [refusal](Entry::Refused), which the sync point hands on in its
+    ///   log has an entry for the [refusal](Entry::Refused), which the sync point passes on in its
     ///   turn. [`ReserveError::or_memory`] lets the system go on.
     pub fn spawn<S: Reserves>(&mut self, source: &mut S) -> Result<Handle, ReserveError>
         ensures ok { IfOk result (λ handle. self.new ≡ self.old ++ Spawn handle ∷ []) }
@@ -215,7 +215,8 @@ impl<C> Log<C> {
     /// - [`ReserveError::Memory`] if there is no room for the entry. The log is as it was, and
     ///   nothing was reserved.
     /// - [`ReserveError::Space`] and [`ReserveError::Quota`] as the source returns them. The log
-    ///   has an entry for the [refusal](Entry::Refused), which the sync point hands on in its turn.
+    ///   has an entry for the [refusal](Entry::Refused), which the sync point passes on in its
+    ///   turn.
     pub fn spawn_from<S: Source>(
         &mut self,
         source: &S,
@@ -244,7 +245,7 @@ impl<C> Log<C> {
         }
     }
 
-    /// The entries, to be taken out one by one.
+    /// The entries, to be removed one by one.
     pub(crate) fn into_entries(self) -> IntoIter<Entry<C>, Global>
         ensures { into_iter_items result ≡ self }
     {
@@ -269,7 +270,7 @@ impl<C> Log<C> {
 }
 
 impl<C: Drop> Log<C> {
-    /// Adds a command, which the sync point hands on in its turn.
+    /// Adds a command, which the sync point passes on in its turn.
     ///
     /// ```
     /// use forgeni::{Handle, Log};
@@ -300,14 +301,14 @@ impl<C: Drop> Log<C> {
         Ok(())
     }
 
-    /// Drops all entries, and keeps their room. So adding as many entries again takes no memory.
+    /// Drops all entries, and keeps their room. So adding as many entries again doesn't allocate.
     ///
     /// ```
     /// use forgeni::Log;
     ///
     /// let mut log = Log::new();
     /// for frame in 0..3 {
-    ///     // From the second frame on it takes no memory.
+    ///     // From the second frame on it doesn't allocate.
     ///     log.clear();
     ///     log.push(frame)?;
     /// }

@@ -19,9 +19,9 @@ use std::alloc::Global;
 use std::marker::Model;
 use std::mem;
 
-/// A sync point of logs: the entries that are still to be handed on.
+/// A sync point of logs: the entries that are still to be passed on.
 ///
-/// [`begin`](Self::begin) brings to life what is reserved, and [`apply`](Self::apply) hands on the
+/// [`begin`](Self::begin) brings to life what is reserved, and [`apply`](Self::apply) passes on the
 /// entries. It doesn't own the allocator, so the allocator isn't lost if a caller returns early.
 /// The entries that are left are dropped then.
 ///
@@ -98,7 +98,7 @@ impl<C: Drop> SyncPoint<C> {
     /// comes to life too.
     ///
     /// It tests each spawn of the logs: its handle has to be reserved in this allocator. So when
-    /// the first entry is handed on, each of these handles is alive.
+    /// the first entry is passed on, each of these handles is alive.
     ///
     /// ```
     /// use forgeni::{Entities, Log, SyncPoint};
@@ -118,7 +118,7 @@ impl<C: Drop> SyncPoint<C> {
     /// The list has its logs, and nothing has changed.
     ///
     /// - [`BeginError::NotReserved`] if the handle of a spawn isn't reserved.
-    /// - [`BeginError::Memory`] if there is no memory for what is born.
+    /// - [`BeginError::Memory`] if there isn't enough memory for what is born.
     pub fn begin(
         alloc: Global,
         entities: &mut Entities,
@@ -161,7 +161,7 @@ impl<C: Drop> SyncPoint<C> {
     ///
     /// # Errors
     ///
-    /// [`OutOfMemory`](Memory) if there is no memory for what is born. Nothing has changed.
+    /// [`OutOfMemory`](Memory) if there isn't enough memory for what is born. Nothing has changed.
     pub fn begin_reserved(
         alloc: Global,
         entities: &mut Entities,
@@ -196,7 +196,7 @@ impl<C: Drop> SyncPoint<C> {
     /// entities.
     ///
     /// `run` hands an entry back with its error. That entry is then the first one that is left, and
-    /// a later call goes on with it. [`take_next`](Self::take_next) removes it instead.
+    /// the next call begins with it. [`take_next`](Self::take_next) removes it instead.
     ///
     /// ```
     /// use forgeni::{Entities, Entry, HandleMap, Log, SyncPoint};
@@ -223,12 +223,12 @@ impl<C: Drop> SyncPoint<C> {
     ///
     /// # Errors
     ///
-    /// That of `run`. It was called with the entries before that one, and not with those behind it,
+    /// That of `run`. It was called with the entries before that one, and not with those after it,
     /// which are left.
     ///
     /// # Panics
     ///
-    /// A panic of `run` is handed on. The entry at which it panicked is gone, and those behind it
+    /// A panic in `run` is propagated. The entry on which it panicked is lost, and those after it
     /// are left.
     pub fn apply<E: Drop, F: FnMut(&mut Entities, Entry<C>) -> Result<(), (Entry<C>, E)>>(
         &mut self,

@@ -1,4 +1,4 @@
--- Commands: what a system asks of the world. A queue of them stands for their list.
+-- Commands: what a system asks of the world. A queue of them represents their list.
 use Rattle.std.specs.Prelude.{◌≡◌, ℕ, ◌^◌, ◌<◌, List, length}
 use Rattle.std.specs.List.{All}
 use Rattle.ent_handle.specs.declared.component.ComponentId.{ComponentId}
@@ -8,8 +8,8 @@ use Rattle.ent_alloc.specs.declared.refused.Refused.{Refused as Refusal}
 use Rattle.ent_alloc.specs.declared.refused.Refused.TheVariants.{Space, Quota}
 
 -- Spawn and SpawnMany give what was reserved its components, Insert sets components of an entity,
--- Remove takes one away, Despawn takes the entity. Refused stands for a request that was
--- refused: for how many handles, and why.
+-- Remove takes one away, Despawn takes the entity. Refused is a request that was refused: for how
+-- many handles, and why.
 pub data Command : Type 0 where
   Spawn : Handle → Bundle → Command
   SpawnMany : List Handle → Bundle → Command

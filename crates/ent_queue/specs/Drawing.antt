@@ -18,7 +18,7 @@ used_by (Despawn h) = 0
 used_by (Refused wanted why) = 0
 
 -- Its handles are the next ones of the block. A refusal says how many were left of it, and that is
--- less than was wanted.
+-- fewer than were requested.
 abbrev pub IsDrawnBy : Allocator → Block → Command → Type 0
 IsDrawnBy s b (Spawn h items) = h ∷ [] ≡ take 1 (rest_of s.pool b)
 IsDrawnBy s b (SpawnMany hs items) = hs ≡ listed s.made (take (length hs) (rest_of s.pool b))

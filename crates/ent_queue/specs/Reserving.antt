@@ -16,7 +16,7 @@ use Rattle.ent_alloc.specs.Fault.{as_reserve_error}
 use Rattle.ent_alloc.specs.Serving.{Request}
 use Rattle.ent_queue.specs.Command.{Command, Spawn, SpawnMany, Insert, Remove, Despawn, Refused}
 
--- the requests for which a command stands
+-- the requests that a command represents
 abbrev pub requests_of : Command → List Request
 requests_of (Spawn h items) = (1, Ok (h ∷ [])) ∷ []
 requests_of (SpawnMany hs items) = (length hs, Ok hs) ∷ []
@@ -43,7 +43,7 @@ abbrev pub cost : Command → ℕ
 cost c = sum_by (λ (request : ℕ × Result (List Handle) OutOfSpace). request.0) (stands_for c)
 
 -- It fits the quota that was left; a refusal for lack of quota says what was left, and more was
--- wanted.
+-- requested.
 abbrev pub FitsQuota : ℕ → Command → Type 0
 FitsQuota left (Refused wanted (Quota rest)) = (rest ≡ left) × (left < wanted)
 FitsQuota left (Refused wanted (Space same rest)) = wanted ≤ left
@@ -70,7 +70,7 @@ pub record Gains (before : Record) (commands : List Command) (after : Record) : 
   pub left : after.left + sum_by cost commands ≡ before.left
   pub within : FitQuota before.left commands
 
--- the result of a reservation as the queue hands it on
+-- the result of a reservation as the queue returns it
 abbrev pub queued : {X : Type 0} → Result X Refusal → Result X QueueFault
 queued (Ok x) = Ok x
 queued (Err why) = Err (as_reserve_error why)

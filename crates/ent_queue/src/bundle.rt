@@ -1,6 +1,6 @@
-/// Components and their values, by strictly rising number.
+/// Components and their values, in strictly ascending order of number.
 ///
-/// A bundle of up to four components takes no memory.
+/// A bundle of up to four components needs no allocation.
 ///
 /// ```
 /// use forgeni::{run_frame, system, Bundle, ComponentId, World};

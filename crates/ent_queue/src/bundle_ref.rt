@@ -50,21 +50,21 @@ impl<'a> BundleRef<'a> {
         (BundleRef { items }, rest)
     }
 
-    /// How many components there are.
+    /// Returns the number of components.
     pub fn len(&self) -> usize
         ensures { result ≡ length self.now }
     {
         self.items.len()
     }
 
-    /// Whether there is none.
+    /// Returns `true` if there is none.
     pub fn is_empty(&self) -> bool
         ensures { IsTrue result ↔ (self.now ≡ []) }
     {
         self.items.is_empty()
     }
 
-    /// The components and their values, by strictly rising number.
+    /// Returns the components and their values, in strictly ascending order of number.
     pub fn iter(&self) -> BundleItems<'a>
         ensures items { result ≡ self.now }
         ensures rising { T (is_sorted component_cmp self.now) }
@@ -73,7 +73,7 @@ impl<'a> BundleRef<'a> {
     }
 }
 
-/// Yields the components of one command and their values, by strictly rising number.
+/// Yields the components of one command and their values, in strictly ascending order of number.
 #[derive(Drop)]
 pub struct BundleItems<'a> {
     left: &'a [[u8; ITEM]],

@@ -76,7 +76,7 @@ impl<'a, O, S: Source> Commands<'a, O, S> {
         }
     }
 
-    /// Whether the entity was alive when the phase was opened. It takes constant time.
+    /// Returns `true` if the entity was alive when the phase was opened. It takes constant time.
     ///
     /// ```
     /// use forgeni::{run_logs, Entities, Handle, LogCommands};
@@ -96,8 +96,8 @@ impl<'a, O, S: Source> Commands<'a, O, S> {
         self.source.was_alive(handle)
     }
 
-    /// The row that was kept with the entity when the phase was opened. `None` if the entity was
-    /// not alive then, or had no row. It takes constant time.
+    /// Returns the row that the entity had when the phase was opened, or `None` if it wasn't alive
+    /// then or had no row. It takes constant time.
     ///
     /// ```
     /// use forgeni::{run_logs, Entities, Entry, LogCommands};

@@ -48,14 +48,14 @@ impl<'a> HandlesRef<'a> {
         (HandlesRef { handles }, rest)
     }
 
-    /// How many handles there are.
+    /// Returns the number of handles.
     pub fn len(&self) -> usize
         ensures { result ≡ length self.now }
     {
         self.handles.len()
     }
 
-    /// Whether there is none.
+    /// Returns `true` if there is none.
     pub fn is_empty(&self) -> bool
         ensures { IsTrue result ↔ (self.now ≡ []) }
     {

@@ -83,7 +83,7 @@ impl<S: Source> Commands<'_, CommandQueue, S> {
     ///
     /// # Errors
     ///
-    /// As of [`Commands::spawn`].
+    /// The same as for [`Commands::spawn`].
     #[tactic(auto, using(crate::proofs::Extending::extends_nothing))]
     pub fn spawn_with(&mut self, components: &[(ComponentId, i64)]) -> Result<Handle, QueueFault>
         requires { IsReady S.serves self.old }
@@ -126,7 +126,7 @@ impl<S: Source> Commands<'_, CommandQueue, S> {
     ///
     /// # Errors
     ///
-    /// As of [`Commands::spawn`].
+    /// The same as for [`Commands::spawn`].
     pub fn spawn_many<const INLINE: usize>(
         &mut self,
         n: u32,
@@ -171,7 +171,7 @@ impl<S: Source> Commands<'_, CommandQueue, S> {
     ///
     /// # Errors
     ///
-    /// As of [`Commands::spawn_many`].
+    /// The same as for [`Commands::spawn_many`].
     #[tactic(auto, using(crate::proofs::Extending::extends_nothing))]
     pub fn spawn_many_with(
         &mut self,
@@ -217,7 +217,7 @@ impl<S: Source> Commands<'_, CommandQueue, S> {
     ///
     /// # Errors
     ///
-    /// `Memory`, and then nothing has changed.
+    /// `Memory`. Nothing has changed then.
     pub fn insert<const INLINE: usize>(
         &mut self,
         handle: Handle,
@@ -255,7 +255,7 @@ impl<S: Source> Commands<'_, CommandQueue, S> {
     ///
     /// # Errors
     ///
-    /// `Memory`, and then nothing has changed.
+    /// `Memory`. Nothing has changed then.
     #[tactic(auto, using(crate::proofs::Extending::extends_nothing))]
     pub fn insert_with(
         &mut self,
@@ -289,7 +289,7 @@ impl<S: Source> Commands<'_, CommandQueue, S> {
     ///
     /// # Errors
     ///
-    /// `Memory`, and then nothing has changed.
+    /// `Memory`. Nothing has changed then.
     pub fn remove(&mut self, handle: Handle, id: ComponentId) -> Result<(), Memory>
         requires { IsReady S.serves self.old }
         ensures extends { Extends Issues S.serves S.may_reply self.old self.new }
@@ -322,7 +322,7 @@ impl<S: Source> Commands<'_, CommandQueue, S> {
     ///
     /// # Errors
     ///
-    /// `Memory`, and then nothing has changed.
+    /// `Memory`. Nothing has changed then.
     pub fn despawn(&mut self, handle: Handle) -> Result<(), Memory>
         requires { IsReady S.serves self.old }
         ensures extends { Extends Issues S.serves S.may_reply self.old self.new }

@@ -8,7 +8,7 @@ use crate::commands::Commands;
 use ent_blocks::Blocks;
 
 impl<O, J: BlockNumbering> Commands<'_, O, Blocks<J>> {
-    /// How many handles of the block are left.
+    /// Returns the number of handles that are left of the block.
     ///
     /// ```
     /// # #[cfg(feature = "std")] {

@@ -16,7 +16,7 @@ use ent_log::{Entry, Log};
 use std::fmt;
 
 impl<C, S: Source> Commands<'_, Log<C>, S> {
-    /// The entries so far, in the order of issue.
+    /// Returns the entries so far, in the order of issue.
     ///
     /// ```
     /// use forgeni::{run_logs, Entities, Entry, LogCommands, OutOfMemory};
@@ -65,8 +65,8 @@ impl<C, S: Source> Commands<'_, Log<C>, S> {
     /// - [`ReserveError::Memory`] if there is no room for the entry. The log is as it was, and
     ///   nothing was reserved.
     /// - [`ReserveError::Space`] and [`ReserveError::Quota`] as the source returns them. The log
-    ///   has an entry for the [refusal](Entry::Refused), which the sync point hands on in its turn.
-    ///   [`ReserveError::or_memory`] lets the system go on.
+    ///   has an entry for the [refusal](Entry::Refused), which the sync point passes on in its
+    ///   turn. [`ReserveError::or_memory`] lets the system go on.
     pub fn spawn(&mut self) -> Result<Handle, ReserveError>
         requires { IsReady S.serves self.old }
         ensures extends { Extends Logs S.serves S.may_reply self.old self.new }
@@ -87,7 +87,7 @@ impl<C, S: Source> Commands<'_, Log<C>, S> {
 }
 
 impl<C: Drop, S: Source> Commands<'_, Log<C>, S> {
-    /// Adds a command, which the sync point hands on in its turn.
+    /// Adds a command, which the sync point passes on in its turn.
     ///
     /// ```
     /// use forgeni::{run_logs, Entities, Entry, LogCommands, SyncPoint};

@@ -13,7 +13,7 @@ pub trait Output: Drop {
     /// What was added, for these requests.
     ghost adds: { Self → List Request → Self → Type 0 };
 
-    /// One without entries. It takes no memory.
+    /// One without entries. It doesn't allocate.
     fn unfilled(alloc: Global) -> Self
         ensures { result ≡ empty };
 

@@ -1,4 +1,4 @@
--- What a checker stands for, and what it says of a trace that doesn't agree.
+-- What a checker represents, and what it reports about a trace that doesn't agree.
 use Rattle.std.specs.Prelude.{◌≡◌, ℕ, zero, suc, ◌+◌, ◌^◌}
 use Rattle.std.specs.Prelude.{◌<◌, ◌≤◌, ◌==◌, if◌then◌else◌, ◌⊎◌, false}
 use Rattle.std.specs.Prelude.{List, [], ◌∷◌, ◌++◌, map, slice_get, take, Some, refl}
@@ -57,8 +57,8 @@ pub record AllFollow (old : Checked) (lines : List Call) (new : Checked) : Type 
   pub sound : (rest : List Call) → AgreesWith new rest → AgreesWith old (lines ++ rest)
   pub complete : (rest : List Call) → AgreesWith old (lines ++ rest) → AgreesWith new rest
 
--- In some order all reservations of the run were answered so, and this is the state after them, as
--- after any such order.
+-- In some order all reservations of the run were answered like this, and this is the state after
+-- them, as after any such order.
 pub record IsSettled (c : Checked) (after : Allocator) : Type 0 where
   pub order : List Call
   pub is_order : IsOrderOf (reserve_lines c.run) order
@@ -82,7 +82,7 @@ ReachesAll old (l ∷ lines) new = (next : Checked) × Reaches old l next × Rea
 
 -- ---- where a trace doesn't agree
 
--- what a stop for a difference has to say
+-- what a stop for a difference reports
 abbrev pub OnDiffers : CheckError → (Difference → Type 0) → Type 0
 OnDiffers (stop.Differs d) P = P d
 OnDiffers other P = Unit {0}
@@ -102,7 +102,7 @@ pub record Differs (s : Allocator) (number : ℕ) (l : Call) (d : Difference) : 
   pub front_is : d.front ≡ take 8 s.pool
   pub cursor_is : d.cursor ≡ cursor s
 
--- in no order the reservations of the run were answered so
+-- there is no order in which the reservations of the run were answered like this
 abbrev pub HasNoOrder : Checked → Type 0
 HasNoOrder c = (order : List Call) → IsOrderOf (reserve_lines c.run) order
     → AreAnswered c.allocator order → ⊥
@@ -136,7 +136,7 @@ NoneFollows c l = (rest : List Call) → AgreesWith c (l ∷ rest) → ⊥
 
 -- ---- where more is requested than an allocator counts
 
--- what a stop for too many requests has to say
+-- what a stop for too many requests reports
 abbrev pub OnTooMany : CheckError → Type 0 → Type 0
 OnTooMany stop.TooMany P = P
 OnTooMany other P = Unit {0}

@@ -1,5 +1,5 @@
--- The handles that are kept for open calls: given by their steps, and not yet told by an answer.
--- Only the invariant of `Machine` and proofs use this.
+-- The handles that are kept for open calls: given by their steps, and not yet returned by an
+-- answer. Only the invariant of `Machine` and proofs use this.
 use Rattle.std.specs.Prelude.{ℕ, zero, suc, List, [], ◌++◌, Option, Some, None}
 use Rattle.std.specs.Ordering.{nat_cmp}
 use Rattle.std.specs.FinMap as finite

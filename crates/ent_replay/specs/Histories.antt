@@ -52,15 +52,15 @@ last_of caller [] = None
 last_of caller (call ∷ calls) =
     option_or (last_of caller calls) (if call.caller == caller then Some call else None)
 
--- what may be told of the caller's request: that a request for none gave none; of another the reply
--- to the caller's last reservation, which was for as many
+-- the possible answers to the caller's request: none for a request for none, and otherwise the
+-- reply to the caller's last reservation, which was for as many
 abbrev pub TellsOf : List Call → ℕ → ℕ → Outcome → Type 0
 TellsOf calls caller requested told =
     ((requested ≡ 0) × (told ≡ outcome.Handles []))
     ⊎ ((call : Call) × (last_of caller calls ≡ Some call) × (call.requested ≡ requested)
     × (told ≡ reported call.reply))
 
--- An answer tells of the request of the caller's open call.
+-- An answer is to the request of the caller's open call.
 abbrev pub TellsReply : MachineState → List Call → Event → Result Outcome ReplayFault → Type 0
 TellsReply s calls (event.Answer caller) (Ok told) =
     (call : OpenCall) × (map.get s.calls caller ≡ Some call)
@@ -68,7 +68,7 @@ TellsReply s calls (event.Answer caller) (Ok told) =
 TellsReply s calls e result = Unit {0}
 
 -- After each event the reservations of the phase, in the order of their steps, are a legal history
--- that leads from its start to the allocator, and each answer tells a reply of that history: so it
+-- that leads from its start to the allocator, and each answer is a reply of that history: so it
 -- doesn't matter when a call is answered.
 abbrev pub StandInHistory : Phase → MachineState → List Event
     → List (Result Outcome ReplayFault) → Type 0

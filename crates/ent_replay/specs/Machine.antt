@@ -1,4 +1,4 @@
--- What the fields of a `Machine` stand for, and when they stand for something. Only its model,
+-- What the fields of a `Machine` represent, and when they represent anything. Only its model,
 -- private contracts and proofs use this.
 use Rattle.std.specs.Prelude.{◌≡◌, ℕ, ◌+◌, ◌^◌, ◌<◌, ◌≤◌, pos, ◌-ℤ◌, ◌≤ℤ◌, neg_ℤ, true, map, Option}
 use Rattle.std.specs.Prelude.{Some, None, Result, Err, ◌⊎◌}
@@ -22,7 +22,7 @@ use Rattle.ent_replay.specs.Held.{all_held}
 abbrev pub map_values : {X Y : Type 0} → (X → Y) → finite.FinMap nat_cmp X → finite.FinMap nat_cmp Y
 map_values f m = finite.from_entries (map (λ e. (e.0, f e.1)) (finite.entries m))
 
--- The positions that a call's step passed tell its reply, whatever was taken since.
+-- The positions that a call's step passed determine its reply, whatever was taken since.
 abbrev pub open_call_of : Allocator → StoredCall → OpenCall
 open_call_of s call = record {
   requested = call.requested;

@@ -32,13 +32,13 @@ pub record OpenCall : Type 0 where
   pub reply : Option Reply
 
 -- The allocator, what each caller has requested since the last flush, and the calls that are open.
--- A caller that stands in neither map has requested nothing and has no call open.
+-- A caller that is in neither map has requested nothing and has no open call.
 pub record MachineState : Type 0 where
   pub allocator : Allocator
   pub spent : map.FinMap nat_cmp ℕ
   pub calls : map.FinMap nat_cmp OpenCall
 
--- nobody has asked for anything
+-- no caller has requested anything
 abbrev pub starting : Limits → MachineState
 starting limits = record { allocator = opening limits; spent = map.empty; calls = map.empty }
 

@@ -55,11 +55,11 @@ without_empty_end [] = []
 without_empty_end (part ∷ []) = if length part == 0 then [] else part ∷ []
 without_empty_end (part ∷ next ∷ more) = part ∷ without_empty_end (next ∷ more)
 
--- what stands between the line feeds, and after the last of them if that is not empty
+-- what is between the line feeds, and after the last of them if that is not empty
 abbrev pub lines_of : List ℕ → List (List ℕ)
 lines_of text = without_empty_end (slice_split (λ byte. byte == 10) text)
 
--- what stands between the spaces
+-- what is between the spaces
 abbrev pub words_of : List ℕ → List (List ℕ)
 words_of line = slice_split (λ byte. byte == 32) line
 
@@ -145,7 +145,7 @@ line_cause_text cause.Handle = codes "handle"
 
 -- ---- what the reader's parts give
 
--- the words after a first one, if something stands after it
+-- the words after a first one, if anything follows it
 abbrev pub words_after : Option (List ℕ) → List (List ℕ)
 words_after None = []
 words_after (Some others) = words_of others

@@ -1,4 +1,4 @@
--- What a table with a place for each number stands for. Only the model of `CallerTable`, private
+-- What a table with a place for each number represents. Only the model of `CallerTable`, private
 -- contracts and proofs use this.
 use Rattle.std.specs.Prelude.{ℕ, ◌+◌, List, [], ◌∷◌, Option, Some, None}
 use Rattle.std.specs.List.{sum_by}

@@ -65,7 +65,7 @@ state_words state.Gone = codes "gone" ∷ []
 abbrev pub len_words : ℕ → List Word
 len_words len = decimal len ∷ []
 
--- the word `=>` and the answer, if it is told
+-- the word `=>` and the answer, if there is one
 abbrev pub told_words : {A : Type 0} → (A → List Word) → Option A → List Word
 told_words words None = []
 told_words words (Some reply) = codes "=>" ∷ words reply
@@ -99,7 +99,7 @@ without_return (byte ∷ []) = if byte == 13 then [] else byte ∷ []
 without_return (byte ∷ next ∷ more) = byte ∷ without_return (next ∷ more)
 
 -- The lines, by the parts between the line feeds. A carriage return before a line feed is part of
--- the line's end. What stands after the last line feed is a line if it isn't empty.
+-- the line's end. What follows the last line feed is a line if it isn't empty.
 abbrev pub ended : List (List ℕ) → List (List ℕ)
 ended [] = []
 ended (last ∷ []) = if length last == 0 then [] else last ∷ []
@@ -112,7 +112,7 @@ lines_of text = ended (slice_split (λ byte. byte == 10) text)
 abbrev pub is_blank : ℕ → Bool
 is_blank byte = byte == 32 || byte == 9
 
--- what stands between blanks
+-- what is between blanks
 abbrev pub words_in : List ℕ → List Word
 words_in text = filter (λ word. not (length word == 0)) (slice_split is_blank text)
 
@@ -247,13 +247,13 @@ abbrev pub len_told : List Word → Result ℕ Cause
 len_told (word ∷ []) = number_told word
 len_told _ = Err cause.Reply
 
--- an answer, if one is told
+-- an answer, if there is one
 abbrev pub optional : {A : Type 0} → (List Word → Result A Cause) → Option (List Word)
     → Result (Option A) Cause
 optional told None = Ok None
 optional told (Some words) = told words >>= λ reply. Ok (Some reply)
 
--- an answer that has to be told
+-- an answer that has to be there
 abbrev pub required : {A : Type 0} → (List Word → Result A Cause) → Option (List Word)
     → Result A Cause
 required told None = Err cause.Reply
@@ -285,7 +285,7 @@ abbrev pub two : {A : Type 0} → A → List Word → Result (Word × Word × A)
 two x (first ∷ second ∷ []) = Ok (first, second, x)
 two x _ = Err cause.Count
 
--- the words of a call, and those of its answer if it is told
+-- the words of a call, and those of its answer if there is one
 abbrev pub no_argument : List Word → Result (Option (List Word)) Cause
 no_argument words = none (after_arrow words) (before_arrow words)
 

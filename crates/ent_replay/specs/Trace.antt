@@ -53,7 +53,7 @@ after_line s (line.Len told) = s
 
 -- ---- what was written against it
 
--- `freed` alone says nothing of what comes next
+-- `freed` alone says nothing about the next handle
 abbrev pub FitsFreed : FreeReply → FreeReply → Type 0
 FitsFreed free.Freed (free.Next h) = Unit {0}
 FitsFreed free.Freed free.Retired = Unit {0}
@@ -74,7 +74,7 @@ FitsReserved reserve.Space (Err space) = Unit {0}
 FitsReserved (reserve.SpaceLeft told) (Ok given) = ⊥
 FitsReserved (reserve.SpaceLeft told) (Err space) = told ≡ space.left
 
--- What a line says was answered is what the allocator answers. A line may say nothing of it.
+-- The answer that a line has is the allocator's. A line may have no answer.
 abbrev pub Fits : Allocator → Call → Type 0
 Fits s (line.Alloc told) = IfSome told (λ reply. reply ≡ alloc_reply s)
 Fits s (line.Free h told) = IfSome told (λ reply. FitsFreed reply (free_reply s h))
@@ -113,8 +113,8 @@ abbrev pub IsAlone : Call → Type 0
 IsAlone (line.Reserve r) = ⊥
 IsAlone other = Unit {0}
 
--- The first may have come before the second, which stands before it: both are reservations, of
--- different callers.
+-- The first may have come before the second, although it is listed after it: both are reservations,
+-- of different callers.
 abbrev pub MayPass : Call → Call → Type 0
 MayPass (line.Reserve r) (line.Reserve before) = before.caller ≢ r.caller
 MayPass (line.Reserve r) other = ⊥

@@ -14,7 +14,7 @@ AreFew (few.Three first second third) words = words ≡ first.now ∷ second.now
 AreFew few.More words = (first : Word) × (second : Word) × (third : Word) × (fourth : Word)
     × (others : List Word) × (words ≡ first ∷ second ∷ third ∷ fourth ∷ others)
 
--- the words of what stands after `=>`, if it is there
+-- the words of what follows `=>`, if it is there
 abbrev pub words_told : Option (Bor (List ℕ)) → Option (List Word)
 words_told None = None
 words_told (Some told) = Some (words_in told.now)

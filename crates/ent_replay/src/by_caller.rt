@@ -25,7 +25,7 @@ impl<V> Model for ByCaller<V> {
 }
 
 impl<V: Copy> ByCaller<V> {
-    /// No caller has a value. It takes no memory.
+    /// No caller has a value. It doesn't allocate.
     pub fn new(alloc: Global) -> Self
         ensures { result ≡ map.empty }
     {
@@ -34,7 +34,7 @@ impl<V: Copy> ByCaller<V> {
         }
     }
 
-    /// Whether no caller has a value.
+    /// Returns `true` if no caller has a value.
     pub fn is_empty(&self) -> bool
         ensures { IsTrue result ↔ (self.now ≡ map.empty) }
     {
@@ -61,7 +61,7 @@ impl<V: Copy> ByCaller<V> {
         Ok(())
     }
 
-    /// Writes the value of a caller that has one. It takes no memory.
+    /// Writes the value of a caller that has one. It doesn't allocate.
     pub fn replace(&mut self, caller: u32, value: V)
         requires { IsSome (map.get self.old caller) }
         ensures { self.new ≡ map.insert self.old caller value }

@@ -34,7 +34,7 @@ impl<V> Model for CallerTable<V> {
 }
 
 impl<V: Copy> CallerTable<V> {
-    /// No caller has a value. It takes no memory.
+    /// No caller has a value. It doesn't allocate.
     pub(crate) fn new(alloc: Global) -> Self
         ensures { result ≡ map.empty }
     {
@@ -78,7 +78,7 @@ impl<V: Copy> CallerTable<V> {
         Ok(())
     }
 
-    /// Writes the value of a caller that has one. It takes no memory.
+    /// Writes the value of a caller that has one. It doesn't allocate.
     pub(crate) fn replace(&mut self, caller: u32, value: V)
         requires { IsSome (map.get self.old caller) }
         ensures { self.new ≡ map.insert self.old caller value }

@@ -14,7 +14,7 @@ pub enum Event {
     Flush,
     /// Opens a call of this caller for `n` handles.
     Begin {
-        /// Who calls.
+        /// The caller.
         caller: u32,
         /// How many handles it requests.
         n: u32,

@@ -35,7 +35,7 @@ impl Model for HandleList {
 }
 
 impl HandleList {
-    /// The list of these handles. It takes no memory.
+    /// Creates a list of these handles. It doesn't allocate.
     ///
     /// ```
     /// use forgeni::trace;
@@ -51,7 +51,7 @@ impl HandleList {
         HandleList { handles }
     }
 
-    /// The handles.
+    /// Returns the handles as a slice.
     ///
     /// ```
     /// use forgeni::{trace, Handle};
@@ -68,7 +68,15 @@ impl HandleList {
         &self.handles
     }
 
-    /// How many there are.
+    /// Returns the number of handles.
+    ///
+    /// ```
+    /// use forgeni::trace;
+    ///
+    /// let list = trace::HandleList::new(vec!["0v1".parse()?, "1v1".parse()?]);
+    /// assert_eq!(list.len(), 2);
+    /// # Ok::<(), forgeni::ParseHandleError>(())
+    /// ```
     #[must_use]
     pub fn len(&self) -> usize
         ensures { result ≡ length self.now }
@@ -76,7 +84,13 @@ impl HandleList {
         self.handles.len()
     }
 
-    /// Whether there is none.
+    /// Returns `true` if there are no handles.
+    ///
+    /// ```
+    /// use forgeni::trace;
+    ///
+    /// assert!(trace::HandleList::new(Vec::new()).is_empty());
+    /// ```
     #[must_use]
     pub fn is_empty(&self) -> bool
         ensures { IsTrue result ↔ (self.now ≡ []) }
@@ -93,7 +107,7 @@ impl HandleList {
         Ok(HandleList { handles })
     }
 
-    /// Returns the handles, with their memory.
+    /// Returns the handles, without copying them.
     ///
     /// ```
     /// use forgeni::{trace, Entities};

@@ -64,7 +64,7 @@ impl Machine {
     ///
     /// # Errors
     ///
-    /// None: it takes no memory.
+    /// None: it doesn't allocate.
     pub fn new(alloc: Global, limits: Limits) -> Result<Self, Memory>
         ensures { result ≡ Ok (starting limits) }
     {

@@ -6,9 +6,10 @@ use Rattle.ent_runner.proofs.Common.{◌-◌, ◌<◌, ◌∙◌, ◌∷◌, ◌
 use Rattle.ent_runner.proofs.Common.{slice_get_within, flat_map, range_with_len, IsPermutation}
 use Rattle.ent_runner.proofs.Common.{Call, Allocator, all_sorted, as_call, history_of, own_of_all}
 use Rattle.ent_runner.proofs.Common.{reservations_of, opened, own_reservations, opened_records}
-use Rattle.ent_runner.proofs.Common.{Record, Own, Reservation, DidAll, DidUntil, OfEach}
+use Rattle.ent_runner.proofs.Common.{Record, Own, Reservation, DidAll, DidUntil, Ended, OfEach}
+use Rattle.ent_runner.proofs.Common.{Option, Stopped}
 use Rattle.ent_runner.proofs.Lists.{at_within, all_flat}
-use Rattle.ent_runner.proofs.EachOutput.{did_either, each_held}
+use Rattle.ent_runner.proofs.EachOutput.{did_either, did_mapped, each_held}
 
 -- the reservations of a record that was opened, and has met nobody
 pub own_mapped : (rs : List Reservation) → own_reservations (map Own rs) ≡ rs
@@ -29,15 +30,25 @@ module _ {E : Type 0} (Adds : Record → List E → Record → Type 0) where
   abbrev pub Does : (ℕ → List E → Type 0) → ℕ → Record → List E → Record → Type 0
   Does P n before output after = Adds before output after × P n output
 
-  module _ (P Q : ℕ → List E → Type 0) (outputs : List (List E)) where
-    abbrev Either : ℕ → List E → Type 0
-    Either n output = P n output ⊎ Q n output
+  -- one that adds its output, which is as it may be with this error
+  abbrev pub Leaves : {F : Type 0} → (ℕ → List E → F → Type 0) → ℕ → Record → List E → F → Record
+      → Type 0
+  Leaves Q n before output error after = Adds before output after × Q n output error
+
+  module _ {F : Type 0} (P : ℕ → List E → Type 0) (Q : ℕ → List E → F → Type 0)
+      (made : List (List E × Option F)) where
+    abbrev pub Either : ℕ → List E → Type 0
+    Either n output = P n output ⊎ ((error : F) × Q n output error)
 
     pub all_either : (a : Record) (mine : List ℕ) (b : Record)
-        → DidAll (Does P) outputs a mine b ⊎ DidUntil (Does P) (Does Q) outputs a mine b
-        → DidAll (Does Either) outputs a mine b
-    all_either =
-        did_either _ _ _ (λ n a o b it. (it.0, inl it.1)) (λ n a o b it. (it.0, inr it.1)) _
+        → DidAll (Ended (Does P)) made a mine b
+        ⊎ DidUntil (Ended (Does P)) (Stopped (Leaves Q)) made a mine b
+        → DidAll (Does Either) (map (λ (one : List E × Option F). one.0) made) a mine b
+    all_either a mine b did = did_mapped (λ (one : List E × Option F). one.0)
+        (λ n a one b. Does Either n a one.0 b) (Does Either) (λ n a one b it. it) made a mine b
+        (did_either (Ended (Does P)) (Stopped (Leaves Q)) (λ n a one b. Does Either n a one.0 b)
+        (λ n a one b it. (it.1.0, inl it.1.1)) (λ n a one b it. (it.2.0, inr (it.0, it.2.1))) made a
+        mine b did)
 
   module _ (nothing : (a : Record) → Adds a [] a)
       (joined : (a b c : Record) (xs ys : List E) → Adds a xs b

@@ -2,10 +2,10 @@
 -- Declares nothing.
 pub use Rattle.std.proofs.Common.{Bool, Global, List, None, Option, Result, Some, Vec, [], ap}
 pub use Rattle.std.proofs.Common.{append-nil, append_assoc, arith, cond, drop, eq-eqb, false}
-pub use Rattle.std.proofs.Common.{get_or, inl, inr, is_err, le-ltb, length, lt-ltb, map, ne_eqb}
-pub use Rattle.std.proofs.Common.{not, refl, remove, reverse, rules, set, subst, suc, swap, sym}
-pub use Rattle.std.proofs.Common.{take, true≢false, vec_len, zero, ℕ, ⊎_elim, ◌%◌, ◌*◌, ◌++◌, ◌+◌}
-pub use Rattle.std.proofs.Common.{◌-◌, ◌<◌, ◌^◌, ◌∙◌, ◌∷◌, ◌≡◌, ◌≢◌, ◌≤◌, ◌⊎◌}
+pub use Rattle.std.proofs.Common.{get_or, inl, inr, is_err, is_some, le-ltb, length, lt-ltb, map}
+pub use Rattle.std.proofs.Common.{ne_eqb, not, refl, remove, reverse, rules, set, subst, suc, swap}
+pub use Rattle.std.proofs.Common.{sym, take, true≢false, vec_len, zero, ℕ, ⊎_elim, ◌%◌, ◌*◌, ◌++◌}
+pub use Rattle.std.proofs.Common.{◌+◌, ◌-◌, ◌<◌, ◌^◌, ◌∙◌, ◌∷◌, ◌≡◌, ◌≢◌, ◌≤◌, ◌⊎◌}
 pub use Rattle.std.proofs.Math.ListN.{drop_of_length-le}
 pub use Rattle.std.proofs.Math.Nat.{mod-eq_of_lt}
 pub use Rattle.std.proofs.Math.Seq.{get_or-append_seam}
@@ -122,10 +122,11 @@ pub use Rattle.ent_runner.specs.Blocks.{HaveFilled, blocks_after}
 pub use Rattle.ent_runner.specs.Blocks.Filling.{Draws, FitBlock}
 pub use Rattle.ent_runner.specs.Blocks.Queues.{HaveIssued, HaveStopped, blocks_after_queues}
 pub use Rattle.ent_runner.specs.Blocks.Unframed.{IsWhyUnended}
-pub use Rattle.ent_runner.specs.Crew.{AreBrokenOff, AreDone, Crew, DidAll, DidUntil, DoesAt, OfEach}
+pub use Rattle.ent_runner.specs.Crew.{AreBrokenOff, AreDone, Crew, DidAll, DidUntil, DoesAt, Ended}
+pub use Rattle.ent_runner.specs.Crew.{OfEach, Stopped}
 pub use Rattle.ent_runner.specs.Crew.Claims.{AreFirst, Claimer, Claims, IsClaimedBy}
 pub use Rattle.ent_runner.specs.Crew.Claims.{IsClaimerHolding, IsClaimerOf}
-pub use Rattle.ent_runner.specs.Crew.Collecting.{outputs_put}
+pub use Rattle.ent_runner.specs.Crew.Collecting.{AreCollected, error_in, first_error, outputs_put}
 pub use Rattle.ent_runner.specs.Crew.Record.{after_claim, claims_of, nothing_claimed}
 pub use Rattle.ent_runner.specs.Crew.Rule.{AfterClaim, AreClaimsClosed, AreClaimsRuled, ClaimTells}
 pub use Rattle.ent_runner.specs.Crew.Rule.{IsClaimKept, ended_in}
@@ -133,11 +134,12 @@ pub use Rattle.ent_runner.specs.Crew.Worker.{HasClaimed, HasStoppedAt, HasWorked
 pub use Rattle.ent_runner.specs.Crew.Worker.{HaveDoneFirst, HaveEnded, IsLostFor, IsNewWorker}
 pub use Rattle.ent_runner.specs.Crew.Worker.{IsRoom, IsRoomForOne, IsUnused, all_done, numbers_of}
 pub use Rattle.ent_runner.specs.Frame.{Ends, EndsInOrder, IsBrokenOff, IsFrame, IsLost, IsWork}
-pub use Rattle.ent_runner.specs.Frame.{StopsAt, SystemMayIssue, calls_in_order, commands_of}
-pub use Rattle.ent_runner.specs.Frame.{first_call, queue_at, requests_by, reserved_by, view_of}
+pub use Rattle.ent_runner.specs.Frame.{StopsAt, SystemMayIssue, SystemMayLeave, calls_in_order}
+pub use Rattle.ent_runner.specs.Frame.{commands_of, first_call, queue_at, requests_by, reserved_by}
+pub use Rattle.ent_runner.specs.Frame.{view_of}
 pub use Rattle.ent_runner.specs.Logs.{HaveLogged, HaveRun, SystemMayLog, entries_by, given_to}
 pub use Rattle.ent_runner.specs.Logs.{log_at, requests_in}
-pub use Rattle.ent_runner.specs.Runs.{AreRun, StopShort}
+pub use Rattle.ent_runner.specs.Runs.{AreRun, StopShort, first_some}
 pub use Rattle.ent_runner.specs.Stage.{AreReady, IsDealt, IsFilled}
 pub use Rattle.ent_runner.specs.declared.crew.record.ClaimRecord.{ClaimRecord}
 pub use Rattle.ent_runner.specs.declared.crew.record.ClaimRecord.{ClaimRecord as Claimed}

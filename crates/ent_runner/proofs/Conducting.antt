@@ -25,17 +25,11 @@ pub written_back : {X : Type 0} (n : ℕ) (old new : List X) → n ≡ length ol
     → length new ≡ length old → take n (new ++ drop (length new) old) ≡ new
 written_back n old new n_is same = search (rules, take-append-le, take_all)
 
--- what follows from what an error has, follows if there is one
-pub err_follows : {T E Q : Type 0} {P : E → Type 0} (r : Result T E) → ((e : E) → P e → Q)
-    → IfErr r P → OnErr r Q
-err_follows (Ok t) follows p = tt
-err_follows (Err e) follows p = follows e p
-
 module _ {O : Type 0} where
   -- A crew is made: its claims are open, its workers are ready, and there is room for all outputs.
-  pub room_of : (claims seen : Claims) (jobs workers : ℕ) (team : List (Worker O))
+  pub room_of : {P : Type 0} (claims seen : Claims) (jobs workers : ℕ) (team : List (Worker O))
       (fresh : List Claimer) (claimers : Vec Claimer Global) (by_number : List (Option O))
-      (outputs : Vec O Global) → claims ≡ seen → claims.numbers ≡ jobs → claims.workers ≡ workers
+      (outputs : Vec P Global) → claims ≡ seen → claims.numbers ≡ jobs → claims.workers ≡ workers
       → 0 < workers → length fresh ≡ workers → All (IsClaimerOf claims) fresh → All IsUnused fresh
       → map (λ (w : Worker O). w.claimer) team ≡ reverse fresh
       → All (λ (w : Worker O). IsRoomForOne w.done) team → claimers.items ≡ []

@@ -6,16 +6,25 @@ use Rattle.ent_runner.proofs.Common.{sym, ℕ, ⊎_elim, ◌<◌, ◌∙◌, ◌
 use Rattle.ent_runner.proofs.Common.{get_or_from_slice_get, slice_get-get_or, slice_get_within}
 use Rattle.ent_runner.proofs.Common.{Block, Phase, after_use, blocks_of, spawned_in, Entry, Command}
 use Rattle.ent_runner.proofs.Common.{after_commands, AreBrokenOff, AreDone, Draws, AreReady}
-use Rattle.ent_runner.proofs.Common.{IsDealt, Logs, HaveFilled, blocks_after, SystemMayIssue, View}
+use Rattle.ent_runner.proofs.Common.{IsDealt, Logs, HaveFilled, blocks_after, Ended, Stopped, None}
+use Rattle.ent_runner.proofs.Common.{ap, first_error, SystemMayIssue, SystemMayLeave, View}
 use Rattle.ent_runner.proofs.Common.{HaveIssued, HaveStopped, blocks_after_queues}
 use Rattle.ent_runner.specs.Blocks.{IsBrokenOff}
-use Rattle.ent_runner.specs.Logs.{SystemMayLog}
+use Rattle.ent_runner.specs.Logs.{SystemMayLog, SystemMayLeave as LoggerMayLeave}
 use Rattle.ent_blocks.specs.Blocks.{Reserver}
-use Rattle.ent_runner.proofs.EachOutput.{HoldsAt, each_done, each_either, stop_short}
+use Rattle.ent_runner.proofs.EachOutput.{HoldsAt, each_done, each_either, first_of, stop_short}
 use Rattle.ent_runner.proofs.Lists.{at_within, get_mapped, mapped_at}
 use Rattle.ent_runner.proofs.Drawn.{log_draws, queue_draws}
 use Rattle.ent_queue.specs.Drawing.{AreDrawnBy}
 use Rattle.ent_queue.specs.Issuing.{Issues}
+
+-- what the jobs made, and the errors that they returned
+module _ {X F : Type 0} where
+  abbrev ones_of : List (X × Option F) → List X
+  ones_of made = map (λ (one : X × Option F). one.0) made
+
+  abbrev errors_of : List (X × Option F) → List (Option F)
+  errors_of made = map (λ (one : X × Option F). one.1) made
 
 module _ {E : Type 0} where
   -- the lists that systems hand back, and the reservers
@@ -75,10 +84,9 @@ module _ {E : Type 0} where
             rw (filled_is all n one.0 one.1, sym r.2) (((each one.0 one.1).2 r.0 r.1).0)
 
       module _ {L : Type 0} (before after : List L) (same : length after ≡ length before) (jobs : ℕ)
-          (count : length reservers ≡ jobs) (Fits Left : ℕ → List E × Reserver → Type 0)
-          (May Leave : ℕ → List E → Type 0)
-          (fits : (n : ℕ) (one : List E × Reserver) → Fits n one → Fills May n one)
-          (left : (n : ℕ) (one : List E × Reserver) → Left n one → Fills Leave n one) where
+          (count : length reservers ≡ jobs) (Fits : ℕ → List E × Reserver → Type 0)
+          (May : ℕ → List E → Type 0)
+          (fits : (n : ℕ) (one : List E × Reserver) → Fits n one → Fills May n one) where
         done_all : (all : List (List E × Reserver))
             → AreDone (λ n a one b. Fits n one) jobs before all after
             → ((n : ℕ) → n < jobs → May n (get_or (filled_of all) n []))
@@ -111,34 +119,57 @@ module _ {E : Type 0} where
                   of_phase,
             )
 
-        lost_all : (left_out : List (Option (List E × Reserver)))
-            → (done : AreBrokenOff (λ n a one b. Fits n one) (λ n a one b. Left n one) jobs before
-            left_out after)
-            → StopShort May Leave (filled_of done.outputs) [] jobs done.count done.ran
-            × ((n : ℕ) (block : Block) → n < done.count
-            → slice_get (blocks_of reservers) n ≡ Some block
-            → Drawn block (get_or (filled_of done.outputs) n []))
-        lost_all left_out done =
-            let Either : ℕ → List E → Type 0 = λ n l. May n l ⊎ Leave n l in
-            let each : (n : ℕ) → n < done.count
-            → HoldsAt (Fills Either) done.outputs n = λ n less one at. ⊎_elim
-            (λ f. let g = fits n one f in (inl g.0, g.1, g.2))
-            (λ f. let g = left n one f in (inr g.0, g.1, g.2))
-            (each_either Fits Left jobs before left_out after same done n less one at) in
-            let here = filled_is done.outputs in (
-              stop_short _ _ May Leave jobs before left_out after same done (filled_of done.outputs)
-                  []
-                  (length-map done.outputs (λ (one : List E × Reserver). one.0) ∙ done.each_output)
-                  (λ n a one b at f. rw (here n one at) ((fits n one f).0))
-                  (λ n a one b at f. rw (here n one at) ((left n one f).0)),
-              λ n block less. drawn_at Either done.outputs n (omega (arith, less, done.each_output))
-                  (each n less)
-                  block,
-            )
+        module _ {F : Type 0} (Left : ℕ → List E × Reserver → F → Type 0)
+            (Leave : ℕ → List E → F → Type 0)
+            (left : (n : ℕ) (one : List E × Reserver) (error : F) → Left n one error
+            → Fills (λ n l. Leave n l error) n one) where
+          lost_all : (left_out : List (Option ((List E × Reserver) × Option F)))
+              → (done : AreBrokenOff (Ended (λ n a one b. Fits n one))
+              (Stopped (λ n a one error b. Left n one error)) jobs
+              before left_out after)
+              → StopShort May Leave (filled_of (ones_of done.outputs)) [] (errors_of done.outputs)
+              jobs done.count
+              done.ran (first_error left_out)
+              × ((n : ℕ) (block : Block) → n < done.count
+              → slice_get (blocks_of reservers) n ≡ Some block
+              → Drawn block (get_or (filled_of (ones_of done.outputs)) n []))
+          lost_all left_out done =
+              let made : List ((List E × Reserver) × Option F) = done.outputs in
+              let ones : List (List E × Reserver) = ones_of made in
+              let errors : List (Option F) = errors_of made in
+              let Either : ℕ → List E → Type 0 = λ n l. May n l ⊎ ((error : F) × Leave n l error) in
+              let each : (n : ℕ) → n < done.count → HoldsAt (Fills Either) ones n = λ n less one at.
+              let it = mapped_at (λ (x : (List E × Reserver) × Option F). x.0) made n one at in
+              rw (sym it.2) (⊎_elim
+              (λ f. let g = fits n it.0.0 f.1 in (inl g.0, g.1, g.2))
+              (λ f. let g = left n it.0.0 f.0 f.2 in (inr (f.0, g.0), g.1, g.2))
+              (each_either (λ n x. (x.1 ≡ None) × Fits n x.0)
+              (λ n x. (error : F) × (x.1 ≡ Some error) × Left n x.0 error) jobs before left_out
+              after same done n less
+              it.0 it.1)) in
+              let here =
+              λ (n : ℕ) (x : (List E × Reserver) × Option F) (at : slice_get made n ≡ Some x).
+              filled_is ones n x.0
+              (get_mapped (λ (x : (List E × Reserver) × Option F). x.0) made n x at) in
+              let failed =
+              λ (n : ℕ) (x : (List E × Reserver) × Option F) (at : slice_get made n ≡ Some x).
+              get_or_from_slice_get errors n x.1 None
+              (get_mapped (λ (x : (List E × Reserver) × Option F). x.1) made n x at) in
+              let long : length ones ≡ done.count = length-map made (λ x. x.0) ∙ done.each_output in (
+                stop_short _ _ May Leave jobs before left_out after same done (filled_of ones) []
+                    errors
+                    (length-map ones (λ (one : List E × Reserver). one.0) ∙ long)
+                    (length-map made (λ x. x.1) ∙ done.each_output)
+                    (λ n a x b at f. (failed n x at ∙ f.0, rw (here n x at) ((fits n x.0 f.1).0)))
+                    (λ n a x b at f.
+                    (f.0, failed n x at ∙ f.1, rw (here n x at) ((left n x.0 f.0 f.2).0)))
+                    (first_error left_out) (ap first_error done.left_are ∙ first_of made _),
+                λ n block less. drawn_at Either ones n (omega (arith, less, long)) (each n less)
+                    block,
+              )
 
 -- logs
-module _ {C S L : Type 0} (may leave : S → List (Entry C) → Type 0) (systems : List S)
-    (phase : Phase)
+module _ {C S L : Type 0} (may : S → List (Entry C) → Type 0) (systems : List S) (phase : Phase)
     (reservers : List Reserver) (ready : AreReady phase (length systems) reservers)
     (before after : List L)
     (same : length after ≡ length before) where
@@ -165,32 +196,37 @@ module _ {C S L : Type 0} (may leave : S → List (Entry C) → Type 0) (systems
       let d =
       done_all DrawsLog uses blocks_after refl (λ b bs l ls. refl) phase.number reservers before
       after same _
-      ready.count _ _ _ _ (fits_log may) (fits_log leave) all done in
+      ready.count _ _ (fits_log may) all done in
       (search (rules, d.0, d.1, d.2, done.count, length-map, slice_get_within), d.3)
 
-  pub lost_off : (workers : ℕ) → length before ≡ workers
-      → (left : List (Option (List (Entry C) × Reserver)))
-      → AreBrokenOff (λ n a one b. IsDealt Logs [] (SystemMayLog may systems) phase reservers n one)
-      (λ n a one b. IsDealt Logs [] (SystemMayLog leave systems) phase reservers n one)
-      (length systems) before left after
+  pub lost_off : {F : Type 0} (leave : S → List (Entry C) → F → Type 0) (workers : ℕ)
+      → length before ≡ workers → (left : List (Option ((List (Entry C) × Reserver) × Option F)))
+      → AreBrokenOff
+      (Ended (λ n a one b. IsDealt Logs [] (SystemMayLog may systems) phase reservers n one))
+      (Stopped
+      (λ n a one error b. IsDealt Logs [] (λ n log. LoggerMayLeave leave systems n log error) phase
+      reservers n one)) (length systems) before left after
       → IsBrokenOff may leave systems workers phase.phase.start.pool (blocks_of reservers)
-  lost_off workers team left done =
+      (first_error left)
+  lost_off leave workers team left done =
       let d =
       lost_all DrawsLog uses blocks_after refl (λ b bs l ls. refl) phase.number reservers before
       after same _
-      ready.count _ _ _ _ (fits_log may) (fits_log leave) left done in
+      ready.count _ _ (fits_log may) _ (LoggerMayLeave leave systems)
+      (λ n one error. fits_log (λ s log. leave s log error) n one) left done in
       record {
         ran = done.ran;
         count = done.count;
         run = rw team at done.run;
-        logs = filled_of done.outputs;
+        logs = filled_of (ones_of done.outputs);
+        errors = errors_of done.outputs;
         short = d.0;
         draws = d.1;
       }
 
 -- queues
-module _ {S L : Type 0} (may leave : S → View → List Command → Type 0) (systems : List S)
-    (view : View) (phase : Phase)
+module _ {S L : Type 0} (may : S → View → List Command → Type 0) (systems : List S) (view : View)
+    (phase : Phase)
     (reservers : List Reserver) (ready : AreReady phase (length systems) reservers)
     (before after : List L)
     (same : length after ≡ length before) where
@@ -217,28 +253,33 @@ module _ {S L : Type 0} (may leave : S → View → List Command → Type 0) (sy
       let d =
       done_all (AreDrawnBy phase.phase.start) after_commands blocks_after_queues refl
       (λ b bs l ls. refl)
-      phase.number reservers before after same _ ready.count _ _ _ _ (fits_queue may)
-      (fits_queue leave) all done in
+      phase.number reservers before after same _ ready.count _ _ (fits_queue may) all done in
       (search (rules, d.0, d.1, d.2, done.count, length-map, slice_get_within), d.3)
 
-  pub issued_lost : (workers : ℕ) → length before ≡ workers
-      → (left : List (Option (List Command × Reserver)))
+  pub issued_lost : {F : Type 0} (leave : S → View → List Command → F → Type 0) (workers : ℕ)
+      → length before ≡ workers → (left : List (Option ((List Command × Reserver) × Option F)))
       → AreBrokenOff
-      (λ n a one b. IsDealt Issues [] (SystemMayIssue may systems view) phase reservers n one)
-      (λ n a one b. IsDealt Issues [] (SystemMayIssue leave systems view) phase reservers n one)
-      (length systems) before left after
+      (Ended
+      (λ n a one b. IsDealt Issues [] (SystemMayIssue may systems view) phase reservers n one))
+      (Stopped
+      (λ n a one error b. IsDealt Issues []
+      (λ n queue. SystemMayLeave leave systems view n queue error) phase reservers n one)) (length
+      systems) before left after
       → HaveStopped may leave systems workers view phase.phase.start (blocks_of reservers)
-  issued_lost workers team left done =
+      (first_error left)
+  issued_lost leave workers team left done =
       let d =
       lost_all (AreDrawnBy phase.phase.start) after_commands blocks_after_queues refl
       (λ b bs l ls. refl)
-      phase.number reservers before after same _ ready.count _ _ _ _ (fits_queue may)
-      (fits_queue leave) left done in
+      phase.number reservers before after same _ ready.count _ _ (fits_queue may) _
+      (SystemMayLeave leave systems view)
+      (λ n one error. fits_queue (λ s v queue. leave s v queue error) n one) left done in
       record {
         ran = done.ran;
         count = done.count;
         run = rw team at done.run;
-        queues = filled_of done.outputs;
+        queues = filled_of (ones_of done.outputs);
+        errors = errors_of done.outputs;
         short = d.0;
         draws = d.1;
       }

@@ -1,24 +1,29 @@
 -- What a crew did whose jobs are the systems of a frame, and the history of its reservers, are a
 -- frame. What a frame leaves if no queue was applied.
-use Rattle.ent_runner.proofs.Common.{rules, ◌≡◌, ℕ, List, [], OnErr, IsFilled, IsReturned, Shared}
+use Rattle.ent_runner.proofs.Common.{rules, ◌≡◌, ℕ, List, [], IsFilled, IsReturned, Shared}
 use Rattle.ent_runner.proofs.Common.{Reserver, records_of, gains_of, Record, Command, Gains, View}
-use Rattle.ent_runner.proofs.Common.{SystemMayIssue, Result, All, slice_get, Some, length, map, ◌<◌}
+use Rattle.ent_runner.proofs.Common.{SystemMayIssue, SystemMayLeave, Ended, Stopped, first_error}
+use Rattle.ent_runner.proofs.Common.{length-map, Result, All, slice_get, Some, length, map, ◌<◌}
 use Rattle.ent_runner.proofs.Common.{◌∙◌, slice_get_within, flat_map, range_with_len, IsPermutation}
 use Rattle.ent_runner.proofs.Common.{Call, IsLegal, gains_nothing, gains_then, Respects, history_of}
 use Rattle.ent_runner.proofs.Common.{reservations_by, reservations_of, opened_records, Reservation}
 use Rattle.ent_runner.proofs.Common.{World, AreBrokenOff, AreDone, DidAll, OfEach, IsBrokenOff}
-use Rattle.ent_runner.proofs.Common.{IsFrame, IsWork, get_or_from_slice_get, ◌⊎◌, queue_at}
-use Rattle.ent_runner.proofs.Common.{requests_by, view_of, sym, Option, Vec, Global, ap, IfOk}
-use Rattle.ent_runner.proofs.Common.{IfErr, IfOk-weaker, IsErr, drop_of_length-le, IsSound}
-use Rattle.ent_runner.proofs.Common.{after_history, after_takes-sound, available-after_takes}
-use Rattle.ent_runner.proofs.Common.{limits-after_takes, live-after_takes, made-after_takes}
-use Rattle.ent_runner.proofs.Common.{length-taken, after_history-takes, OpenWorld, world_at_start}
-use Rattle.ent_runner.proofs.Common.{IsLost, reserved_by}
+use Rattle.ent_runner.proofs.Common.{IsFrame, IsWork, get_or_from_slice_get, queue_at, requests_by}
+use Rattle.ent_runner.proofs.Common.{view_of, sym, Option, Vec, Global, ap, IfOk, IfErr}
+use Rattle.ent_runner.proofs.Common.{IfErr-weaker, IfOk-weaker, Err, None, Ok, drop_of_length-le}
+use Rattle.ent_runner.proofs.Common.{IsSound, after_history, after_takes-sound}
+use Rattle.ent_runner.proofs.Common.{available-after_takes, limits-after_takes, live-after_takes}
+use Rattle.ent_runner.proofs.Common.{made-after_takes, length-taken, after_history-takes, OpenWorld}
+use Rattle.ent_runner.proofs.Common.{world_at_start, IsLost, reserved_by}
+use Rattle.ent_runner.proofs.Common.{IfStopped, IsErrOf, IsStop, StopsAt, SyncFault, SyncReport}
+use Rattle.ent_runner.proofs.Common.{born}
 use Rattle.ent_queue.specs.Issuing as issuing
-use Rattle.ent_runner.proofs.Lists.{each_of_all, filter_map_is, map_map_is}
-use Rattle.ent_runner.proofs.Adding.{own_mapped, all_either, added_at, ours, each_may}
-use Rattle.ent_runner.proofs.Conducting.{err_follows}
-use Rattle.ent_runner.proofs.EachOutput.{done_seen, broken_off_seen, stop_short}
+use Rattle.ent_runner.specs.Frame.{IsHalf}
+use Rattle.ent_world.specs.Sync.{sync_until}
+use Rattle.ent_world.specs.declared.fault.SyncFault.TheVariants as stop
+use Rattle.ent_runner.proofs.Lists.{each_of_all, filter_map_is, get_mapped, map_map_is}
+use Rattle.ent_runner.proofs.Adding.{Either, own_mapped, all_either, added_at, ours, each_may}
+use Rattle.ent_runner.proofs.EachOutput.{done_seen, broken_off_seen, first_of, stop_short}
 
 -- the calls of one caller in the history
 by_caller : (k : ℕ) (records : List Record)
@@ -47,24 +52,41 @@ module _ {S : Type 0} (may : S → View → List Command → Type 0) (systems : 
       system,
     )
 
-module _ {S : Type 0} (may leave : S → View → List Command → Type 0) (systems : List S)
-    (view : View) (shared : Shared)
-  where
-    pub all_gained : (jobs : ℕ) (before : List Reserver) (queues : List (List Command))
-        (after : List Reserver) → AreDone (Fills may systems view shared) jobs before queues after
-        → AreDone (Issues may systems view) jobs (records_of before) queues (records_of after)
-    all_gained = done_seen (λ (r : Reserver). r.own) _ _ _ _ (fills_gain may systems view shared)
-        (fills_gain leave systems view shared)
+module _ {S E : Type 0} (leave : S → View → List Command → E → Type 0) where
+  -- what it may leave with this error
+  abbrev Left : E → S → View → List Command → Type 0
+  Left error system view queue = leave system view queue error
 
-    pub some_gained : (jobs : ℕ) (before : List Reserver) (left : List (Option (List Command)))
-        (after : List Reserver)
-        → AreBrokenOff (Fills may systems view shared) (Fills leave systems view shared) jobs before
-        left after
-        → AreBrokenOff (Issues may systems view) (Issues leave systems view) jobs
-        (records_of before) left (records_of after)
-    some_gained =
-        broken_off_seen (λ (r : Reserver). r.own) _ _ _ _ (fills_gain may systems view shared)
-        (fills_gain leave systems view shared)
+  module _ (systems : List S) (view : View) where
+    -- a job that stopped
+    abbrev pub Leaves : ℕ → Record → List Command × Option E → Record → Type 0
+    Leaves =
+        Stopped
+        (λ n before queue error after. Issues (Left error) systems view n before queue after)
+
+    abbrev pub LeavesFilled : Shared → ℕ → Reserver → List Command × Option E → Reserver → Type 0
+    LeavesFilled shared =
+        Stopped
+        (λ n before queue error after. Fills (Left error) systems view shared n before queue after)
+
+module _ {S : Type 0} (may : S → View → List Command → Type 0) (systems : List S) (view : View)
+    (shared : Shared) where
+  pub all_gained : (jobs : ℕ) (before : List Reserver) (queues : List (List Command))
+      (after : List Reserver) → AreDone (Fills may systems view shared) jobs before queues after
+      → AreDone (Issues may systems view) jobs (records_of before) queues (records_of after)
+  all_gained = done_seen (λ (r : Reserver). r.own) _ _ (fills_gain may systems view shared)
+
+  pub some_gained : {E : Type 0} (leave : S → View → List Command → E → Type 0) (jobs : ℕ)
+      (before : List Reserver) (left : List (Option (List Command × Option E)))
+      (after : List Reserver)
+      → AreBrokenOff (Ended (Fills may systems view shared))
+      (LeavesFilled leave systems view shared) jobs before left after
+      → AreBrokenOff (Ended (Issues may systems view)) (Leaves leave systems view) jobs
+      (records_of before) left (records_of after)
+  some_gained leave = broken_off_seen (λ (r : Reserver). r.own) _ _
+      (λ n a one b it. (it.0, fills_gain may systems view shared n a one.0 b it.1)) _ _
+      (λ n a one b it.
+      (it.0, it.1, fills_gain (λ s v q. leave s v q it.0) systems view shared n a one.0 b it.2))
 
 -- what the workers gained, and their histories
 module _ (before : World) (workers : ℕ) (opens records : List Record)
@@ -122,33 +144,42 @@ module _ (before : World) (workers : ℕ) (opens records : List Record)
           (length systems) done.run.once n (slice_get_within systems n system at) system at;
     }
 
-    pub broken_off : (leave : S → View → List Command → Type 0)
-        (left : List (Option (List Command)))
-        → AreBrokenOff (Issues may systems (view_of before)) (Issues leave systems (view_of before))
-        (length systems) opens left records
-        → IsBrokenOff may leave systems workers before (history_of records)
-    broken_off leave left done =
-        let Leave : ℕ → List Command → Type 0 = SystemMayIssue leave systems (view_of before) in
-        let Left : ℕ → List Command → Type 0 = λ n queue. May n queue ⊎ Leave n queue in
+    pub broken_off : {E : Type 0} (leave : S → View → List Command → E → Type 0)
+        (left : List (Option (List Command × Option E)))
+        → AreBrokenOff (Ended (Issues may systems (view_of before)))
+        (Leaves leave systems (view_of before)) (length systems) opens left records
+        → IsBrokenOff may leave systems workers before (history_of records) (first_error left)
+    broken_off {E} leave left done =
+        let Leave : ℕ → List Command → E → Type 0 = SystemMayLeave leave systems (view_of before) in
+        let Left : ℕ → List Command → Type 0 = Either Gains May Leave done.outputs in
+        let made : List (List Command × Option E) = done.outputs in
+        let queues : List (List Command) = map (λ (one : List Command × Option E). one.0) made in
+        let errors : List (Option E) = map (λ (one : List Command × Option E). one.1) made in
         let did : OfEach done.ran opens records
         (λ mine a b. DidAll (λ n before queue after. Gains before queue after
-        × Left n queue) done.outputs a mine b) =
-        λ k mine a b at at_a at_b. all_either Gains May Leave done.outputs a mine b
+        × Left n queue) queues a mine b) =
+        λ k mine a b at at_a at_b. all_either Gains May Leave made a mine b
         (done.did k mine a b at at_a at_b) in
-        let here =
-        λ (n : ℕ) (queue : List Command). get_or_from_slice_get done.outputs n queue [] in
+        let here = λ (n : ℕ) (one : List Command × Option E) (at : slice_get made n ≡ Some one).
+        get_or_from_slice_get queues n one.0 [] (get_mapped (λ one. one.0) made n one at) in
+        let failed = λ (n : ℕ) (one : List Command × Option E) (at : slice_get made n ≡ Some one).
+        get_or_from_slice_get errors n one.1 None (get_mapped (λ one. one.1) made n one at) in
         record {
           legal = legal;
-          callers = callers Left done.outputs done.ran done.run.each_worker did;
+          callers = callers Left queues done.ran done.run.each_worker did;
           ran = done.ran;
           count = done.count;
           run = rw many at done.run;
-          queues = done.outputs;
+          queues = queues;
+          errors = errors;
           short =
-              stop_short _ _ May Leave _ opens left records (long ∙ sym many) done done.outputs []
-              done.each_output (λ n a queue b at it. rw (here n queue at) it.1)
-              (λ n a queue b at it. rw (here n queue at) it.1);
-          work = worked Left done.outputs done.ran done.run.each_worker did;
+              stop_short _ _ May Leave _ opens left records (long ∙ sym many) done queues [] errors
+              (length-map made (λ one. one.0) ∙ done.each_output)
+              (length-map made (λ one. one.1) ∙ done.each_output)
+              (λ n a one b at it. (failed n one at ∙ it.0, rw (here n one at) it.1.1))
+              (λ n a one b at it. (it.0, failed n one at ∙ it.1, rw (here n one at) it.2.1))
+              (first_error left) (ap first_error done.left_are ∙ first_of made _);
+          work = worked Left queues done.ran done.run.each_worker did;
         }
 
 pub is_lost : (before w : World) (history : List Call) → IsSound before.allocator
@@ -167,15 +198,16 @@ is_lost before w history sound flushed changed = search (
 )
 
 -- what a crew returns whose outputs are queues
-abbrev pub Queues : Type 0
-Queues = Result (Vec (List Command) Global) (Vec (Option (List Command)) Global)
+abbrev pub Queues : Type 0 → Type 0
+Queues E = Result (Vec (List Command) Global) (Vec (Option (List Command × Option E)) Global)
 
 -- What is known of a world that was opened and closed again, and of the queues, if there are any.
-abbrev pub ClosedAgain : {S : Type 0} → (S → View → List Command → Type 0)
-    → (S → View → List Command → Type 0) → List S → OpenWorld → World → Queues → Type 0
+abbrev pub ClosedAgain : {S E : Type 0} → (S → View → List Command → Type 0)
+    → (S → View → List Command → E → Type 0) → List S → OpenWorld → World → Queues E → Type 0
 ClosedAgain may leave systems world after got = (history : List Call)
-    × OnErr got (IsBrokenOff may leave systems world.shared.count (world_at_start world) history)
-    × (after ≡ reserved_by history (world_at_start world))
+    × IfErr got
+    (λ left. IsBrokenOff may leave systems world.shared.count (world_at_start world) history
+    (first_error left.items)) × (after ≡ reserved_by history (world_at_start world))
     × IfOk got (λ q. IsFrame may systems world.shared.count (world_at_start world) q.items history)
 
 pub view_is : (world : OpenWorld) (view : View) → view.phase ≡ world.phase
@@ -183,14 +215,15 @@ pub view_is : (world : OpenWorld) (view : View) → view.phase ≡ world.phase
 view_is world view phase entities = (λ i. record { phase = phase i; entities = entities i })
 
 -- The crew has worked, and the world was closed: so it is closed again.
-pub closed_again : {S : Type 0} (may leave : S → View → List Command → Type 0) (systems : List S)
-    (world : OpenWorld) (after : World) (got : Queues) (opens records : List Record) (jobs : ℕ)
-    (view : View) → jobs ≡ length systems → view ≡ view_of (world_at_start world)
+pub closed_again : {S E : Type 0} (may : S → View → List Command → Type 0)
+    (leave : S → View → List Command → E → Type 0) (systems : List S) (world : OpenWorld)
+    (after : World) (got : Queues E) (opens records : List Record) (jobs : ℕ) (view : View)
+    → jobs ≡ length systems → view ≡ view_of (world_at_start world)
     → opens ≡ opened_records world.shared.start 0 world.shared.count
     → length opens ≡ world.shared.count → length records ≡ world.shared.count
     → IfOk got (λ q. AreDone (Issues may systems view) jobs opens q.items records)
     → IfErr got
-    (λ left. AreBrokenOff (Issues may systems view) (Issues leave systems view) jobs opens
+    (λ left. AreBrokenOff (Ended (Issues may systems view)) (Leaves leave systems view) jobs opens
     left.items records) → after.phase ≡ world.phase → after.entities ≡ world.entities
     → after.allocator ≡ after_history world.shared.start (history_of records)
     → IsLegal world.shared.start (history_of records)
@@ -200,17 +233,15 @@ closed_again may leave systems world after got opens records jobs view all seen 
     done lost phase
     entities allocator legal respects =
     let start = world_at_start world in
-    let lost_by : (left : Vec (Option (List Command)) Global)
-    → AreBrokenOff (Issues may systems view)
-    (Issues leave systems view) jobs opens left.items records
-    → IsBrokenOff may leave systems world.shared.count start (history_of records) =
-    λ left done. broken_off start world.shared.count opens records opened many long legal respects
-    may systems
-    leave left.items (rw (seen, all) at done) in
-    search (rules, err_follows got lost_by lost, IfOk-weaker, frame_is)
+    let lost_by = IfErr-weaker got _ (λ left. IsBrokenOff may leave systems world.shared.count start
+    (history_of records) (first_error left.items)) (λ left done.
+    broken_off start world.shared.count opens records
+    opened many long legal respects may systems leave left.items (rw (seen, all) at done)) lost in
+    search (rules, lost_by, IfOk-weaker, frame_is)
 
-module _ {S : Type 0} (may leave : S → View → List Command → Type 0) (systems : List S)
-    (before after : World) (world : OpenWorld) (got : Queues)
+module _ {S E : Type 0} (may : S → View → List Command → Type 0)
+    (leave : S → View → List Command → E → Type 0)
+    (systems : List S) (before after : World) (world : OpenWorld) (got : Queues E)
     (same : world_at_start world ≡ before) (closed : ClosedAgain may leave systems world after got)
   where
     abbrev changed : after ≡ reserved_by closed.0 before
@@ -219,7 +250,49 @@ module _ {S : Type 0} (may leave : S → View → List Command → Type 0) (syst
     pub lost_again : IsSound world.shared.start → before.allocator.asked ≡ 0 → IsLost before after
     lost_again sound flushed = search (rules, is_lost before after closed.0, changed)
 
-    pub broken_again : (workers : ℕ) → world.shared.count ≡ workers → IsErr got
-        → (history : List Call) × IsBrokenOff may leave systems workers before history
+    pub broken_again : (workers : ℕ) → world.shared.count ≡ workers
+        → (left : Vec (Option (List Command × Option E)) Global) → got ≡ Err left
+        → (error : Option E) → error ≡ first_error left.items
+        → (history : List Call) × IsBrokenOff may leave systems workers before history error
         × (after ≡ reserved_by history before)
-    broken_again workers count none = search (rules, closed, changed)
+    broken_again workers count left is error first =
+        let broken = rw is at closed.1 in search (rules, broken, changed, closed)
+
+    pub framed_again : (workers : ℕ) → world.shared.count ≡ workers
+        → (queues : Vec (List Command) Global) → got ≡ Ok queues
+        → (history : List Call) × IsFrame may systems workers before queues.items history
+        × (after ≡ reserved_by history before)
+    framed_again workers count queues is =
+        let frame = rw is at closed.3 in search (rules, frame, changed, closed)
+
+-- All systems ran, and the sync point of their queues stopped.
+module _ (queues : List (List Command)) (before after : World) (fault : SyncFault)
+    (flush : IsErrOf {T = SyncReport} (Err fault) stop.FlushMemory → after ≡ before)
+    (at : IfStopped {X = SyncReport} (Err fault)
+    (λ system command done _. IsStop system command done queues))
+    (world : IfStopped {X = SyncReport} (Err fault)
+    (λ system command done _. after ≡ (sync_until system command done queues before).world))
+    (came : IfStopped {X = SyncReport} (Err fault)
+    (λ _ _ _ so_far. so_far.born.items ≡ born before.allocator))
+    (faults : IfStopped {X = SyncReport} (Err fault)
+    (λ system command done so_far.
+    so_far.faults.items ≡ (sync_until system command done queues before).faults)) where
+  half : (system command done : ℕ) (so_far : SyncReport)
+      → fault ≡ stop.Memory system command done so_far
+      → IsHalf queues before system command done so_far after
+  half system command done so_far is = record {
+    stop = rw is at at;
+    so = record { world = rw is at world; faults_are = rw is at faults };
+    born_are = rw is at came;
+  }
+
+  pub stops_at : {S : Type 0} (may : S → View → List Command → Type 0) (systems : List S)
+      (workers : ℕ) (start : World)
+      → (history : List Call) × IsFrame may systems workers start queues history
+      × (before ≡ reserved_by history start) → StopsAt may systems workers start queues after fault
+  stops_at may systems workers start (history, frame, reserved) = record {
+    history = history;
+    frame = frame;
+    flush_memory = λ is. flush (ap Err is) ∙ reserved;
+    memory = λ system command done so_far is. rw reserved at half system command done so_far is;
+  }

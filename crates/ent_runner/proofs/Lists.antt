@@ -92,14 +92,3 @@ at_within (x ∷ xs) (suc k) within = at_within xs k (omega arith)
 pub all_below : (many : ℕ) → All (λ n. n < many) (range_with_len 0 many)
 all_below many k d within =
     search (rules, arith, get_or-range_with_len 0 many k d, length-range_with_len 0 many)
-
-pub last_pushed : {X : Type 0} (xs : List X) (y : X)
-    → slice_get (xs ++ y ∷ []) (length (xs ++ y ∷ []) - 1) ≡ Some y
-last_pushed xs y =
-    search (
-      rules,
-      arith,
-      length-append xs (y ∷ []),
-      slice_get-get_or (xs ++ y ∷ []) (length xs) y,
-      get_or_push xs y y,
-    )

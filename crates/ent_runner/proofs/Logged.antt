@@ -1,21 +1,22 @@
 -- What a crew did whose jobs are systems that fill logs, and the history of its reservers.
 use Rattle.ent_runner.proofs.Common.{rules, [], IsFilled, IsReturned, Shared, Reserver, records_of}
 use Rattle.ent_runner.proofs.Common.{All, slice_get, List, Some, Option, Vec, Global, Result, IfOk}
-use Rattle.ent_runner.proofs.Common.{IfErr, OnErr, IfOk-weaker, ap, length, sym, ℕ, ◌<◌, ◌∙◌, ◌≡◌}
+use Rattle.ent_runner.proofs.Common.{IfErr, IfErr-weaker, IfOk-weaker, None, length-map, Ended}
+use Rattle.ent_runner.proofs.Common.{Stopped, first_error, ap, length, sym, ℕ, ◌<◌, ◌∙◌, ◌≡◌}
 use Rattle.ent_runner.proofs.Common.{slice_get_within, flat_map, ◌==◌, Call, IsLegal, after_history}
 use Rattle.ent_runner.proofs.Common.{given_in, Allocator, spawned_in, Entry, map, AreBrokenOff}
 use Rattle.ent_runner.proofs.Common.{AreDone, DidAll, OfEach, Respects, as_call, handles_of}
 use Rattle.ent_runner.proofs.Common.{history_of, reservations_by, reservations_of, opened}
 use Rattle.ent_runner.proofs.Common.{opened_records, Record, Reservation, requests_by, quota}
-use Rattle.ent_runner.proofs.Common.{HaveLogged, HaveRun, AreRun, get_or_from_slice_get, ◌⊎◌}
+use Rattle.ent_runner.proofs.Common.{HaveLogged, HaveRun, AreRun, get_or_from_slice_get}
 use Rattle.ent_runner.proofs.Common.{SystemMayLog, entries_by, given_to, log_at, requests_in}
 use Rattle.ent_queue.specs.Logging as logging
 use Rattle.ent_shared.specs.Requests.{stands_for, FitQuota}
-use Rattle.ent_runner.specs.Logs.{IsBrokenOff}
-use Rattle.ent_runner.proofs.Adding.{added_at, all_either, each_may, of_each, ours, own_mapped}
-use Rattle.ent_runner.proofs.Conducting.{err_follows}
-use Rattle.ent_runner.proofs.EachOutput.{done_seen, broken_off_seen, stop_short}
-use Rattle.ent_runner.proofs.Lists.{each_of_all, filter_map_is, map_map_is}
+use Rattle.ent_runner.specs.Logs.{IsBrokenOff, SystemMayLeave}
+use Rattle.ent_runner.proofs.Adding.{Either, added_at, all_either, each_may, of_each, ours}
+use Rattle.ent_runner.proofs.Adding.{own_mapped}
+use Rattle.ent_runner.proofs.EachOutput.{done_seen, broken_off_seen, first_of, stop_short}
+use Rattle.ent_runner.proofs.Lists.{each_of_all, filter_map_is, get_mapped, map_map_is}
 use Rattle.ent_runner.proofs.Gaining.{LogGains, log_gains, log_gains_nothing, log_gains_then}
 use Rattle.ent_runner.proofs.Gaining.{one_each as each_one, spawned}
 
@@ -42,21 +43,38 @@ module _ {C S : Type 0} (may : S → List (Entry C) → Type 0) (systems : List 
       → Fills n before log after → Logs may systems n before.own log after.own
   fills_gain n before log after (f, system) = (log_gains shared before after log f, system)
 
-module _ {C S : Type 0} (may leave : S → List (Entry C) → Type 0) (systems : List S)
+module _ {C S E : Type 0} (leave : S → List (Entry C) → E → Type 0) where
+  -- what it may leave with this error
+  abbrev Left : E → S → List (Entry C) → Type 0
+  Left error system log = leave system log error
+
+  module _ (systems : List S) where
+    -- a job that stopped
+    abbrev pub Leaves : ℕ → Record → List (Entry C) × Option E → Record → Type 0
+    Leaves = Stopped (λ n before log error after. Logs (Left error) systems n before log after)
+
+    abbrev pub LeavesFilled : Shared → ℕ → Reserver → List (Entry C) × Option E → Reserver → Type 0
+    LeavesFilled shared =
+        Stopped (λ n before log error after. Fills (Left error) systems shared n before log after)
+
+module _ {C S : Type 0} (may : S → List (Entry C) → Type 0) (systems : List S)
     (shared : Shared) where
   pub all_gained : (jobs : ℕ) (before : List Reserver) (logs : List (List (Entry C)))
       (after : List Reserver) → AreDone (Fills may systems shared) jobs before logs after
       → AreDone (Logs may systems) jobs (records_of before) logs (records_of after)
-  all_gained = done_seen (λ (r : Reserver). r.own) _ _ _ _ (fills_gain may systems shared)
-      (fills_gain leave systems shared)
+  all_gained = done_seen (λ (r : Reserver). r.own) _ _ (fills_gain may systems shared)
 
-  pub some_gained : (jobs : ℕ) (before : List Reserver) (left : List (Option (List (Entry C))))
+  pub some_gained : {E : Type 0} (leave : S → List (Entry C) → E → Type 0) (jobs : ℕ)
+      (before : List Reserver) (left : List (Option (List (Entry C) × Option E)))
       (after : List Reserver)
-      → AreBrokenOff (Fills may systems shared) (Fills leave systems shared) jobs before left after
-      → AreBrokenOff (Logs may systems) (Logs leave systems) jobs (records_of before) left
+      → AreBrokenOff (Ended (Fills may systems shared)) (LeavesFilled leave systems shared) jobs
+      before left after
+      → AreBrokenOff (Ended (Logs may systems)) (Leaves leave systems) jobs (records_of before) left
       (records_of after)
-  some_gained = broken_off_seen (λ (r : Reserver). r.own) _ _ _ _ (fills_gain may systems shared)
-      (fills_gain leave systems shared)
+  some_gained leave = broken_off_seen (λ (r : Reserver). r.own) _ _
+      (λ n a one b it. (it.0, fills_gain may systems shared n a one.0 b it.1)) _ _
+      (λ n a one b it.
+      (it.0, it.1, fills_gain (λ s log. leave s log it.0) systems shared n a one.0 b it.2))
 
 module _ {C : Type 0} (start after : Allocator) (workers : ℕ) (opens records : List Record)
     (opened_are : opens ≡ opened_records start 0 workers) (many : length opens ≡ workers)
@@ -127,12 +145,14 @@ module _ {C : Type 0} (start after : Allocator) (workers : ℕ) (opens records :
         each_may LogGains (log_gains_nothing C) log_gains_then P logs start workers opens records
         opened_are many long ran each did count runs.once
 
-  module _ {S : Type 0} (may leave : S → List (Entry C) → Type 0) (systems : List S) where
+  module _ {S E : Type 0} (may : S → List (Entry C) → Type 0)
+      (leave : S → List (Entry C) → E → Type 0)
+      (systems : List S) where
     abbrev May : ℕ → List (Entry C) → Type 0
     May n log = SystemMayLog may systems n log
 
-    abbrev Leave : ℕ → List (Entry C) → Type 0
-    Leave n log = SystemMayLog leave systems n log
+    abbrev Leave : ℕ → List (Entry C) → E → Type 0
+    Leave n log error = SystemMayLeave leave systems n log error
 
     logged : (logs : List (List (Entry C)))
         → AreDone (Logs may systems) (length systems) opens logs records
@@ -146,37 +166,55 @@ module _ {C : Type 0} (start after : Allocator) (workers : ℕ) (opens records :
       slice_get_within,
     )
 
-    broken_off : (left : List (Option (List (Entry C))))
-        → AreBrokenOff (Logs may systems) (Logs leave systems) (length systems) opens left records
-        → IsBrokenOff may leave systems workers start after
+    broken_off : (left : List (Option (List (Entry C) × Option E)))
+        → AreBrokenOff (Ended (Logs may systems)) (Leaves leave systems) (length systems) opens left
+        records → IsBrokenOff may leave systems workers start after (first_error left)
     unfolding run_is
     broken_off left done =
-        let logs : List (List (Entry C)) = done.outputs in
-        let Left : ℕ → List (Entry C) → Type 0 = λ n log. May n log ⊎ Leave n log in
+        let made : List (List (Entry C) × Option E) = done.outputs in
+        let logs : List (List (Entry C)) = map (λ (one : List (Entry C) × Option E). one.0) made in
+        let errors : List (Option E) = map (λ (one : List (Entry C) × Option E). one.1) made in
+        let Left : ℕ → List (Entry C) → Type 0 = Either LogGains May Leave made in
         let did : OfEach done.ran opens records
         (λ mine a b. DidAll (λ n before log after. LogGains before log after
         × Left n log) logs a mine b) =
-        λ k mine a b at at_a at_b. all_either LogGains May Leave logs a mine b
+        λ k mine a b at at_a at_b. all_either LogGains May Leave made a mine b
         (done.did k mine a b at at_a at_b) in
-        let here = λ (n : ℕ) (log : List (Entry C)). get_or_from_slice_get logs n log [] in
+        let here = λ (n : ℕ) (one : List (Entry C) × Option E) (at : slice_get made n ≡ Some one).
+        get_or_from_slice_get logs n one.0 [] (get_mapped (λ one. one.0) made n one at) in
+        let failed = λ (n : ℕ) (one : List (Entry C) × Option E) (at : slice_get made n ≡ Some one).
+        get_or_from_slice_get errors n one.1 None (get_mapped (λ one. one.1) made n one at) in
+        let long_logs : length logs ≡ done.count = length-map made (λ one. one.0)
+        ∙ done.each_output in
         record {
           count = done.count;
           logs = logs;
           run =
               run_is Left done.count logs done.ran done.run.each_worker (rw many at done.run)
-              done.each_output did;
+              long_logs did;
+          errors = errors;
           short =
-              stop_short _ _ May Leave _ opens left records (long ∙ sym many) done logs []
-              done.each_output (λ n a log b at it. rw (here n log at) it.1)
-              (λ n a log b at it. rw (here n log at) it.1);
+              stop_short _ _ May Leave _ opens left records (long ∙ sym many) done logs [] errors
+              long_logs (length-map made (λ one. one.1) ∙ done.each_output)
+              (λ n a one b at it. (failed n one at ∙ it.0, rw (here n one at) it.1.1))
+              (λ n a one b at it. (it.0, failed n one at ∙ it.1, rw (here n one at) it.2.1))
+              (first_error left) (ap first_error done.left_are ∙ first_of made _);
         }
 
     -- the crew has worked, and the allocator was closed
-    pub ran : (got : Result (Vec (List (Entry C)) Global) (Vec (Option (List (Entry C))) Global))
-        (jobs : ℕ) → jobs ≡ length systems
+    pub ran :
+        (got : Result (Vec (List (Entry C)) Global)
+        (Vec (Option (List (Entry C) × Option E)) Global)) (jobs : ℕ) → jobs ≡ length systems
         → IfOk got (λ logs. AreDone (Logs may systems) jobs opens logs.items records)
         → IfErr got
-        (λ left. AreBrokenOff (Logs may systems) (Logs leave systems) jobs opens left.items records)
+        (λ left. AreBrokenOff (Ended (Logs may systems)) (Leaves leave systems) jobs opens
+        left.items records)
         → IfOk got (λ logs. HaveLogged may systems workers start logs.items after)
-        × OnErr got (IsBrokenOff may leave systems workers start after)
-    ran got jobs all done lost = search (rules, err_follows, broken_off, IfOk-weaker, logged)
+        × IfErr got
+        (λ left. IsBrokenOff may leave systems workers start after (first_error left.items))
+    ran got jobs all done lost = (
+      search (rules, IfOk-weaker, logged),
+      IfErr-weaker got _
+          (λ left. IsBrokenOff may leave systems workers start after (first_error left.items))
+          (λ left it. broken_off left.items (rw all at it)) lost,
+    )

@@ -1,15 +1,17 @@
 -- Outputs put at the numbers of their jobs, which were done once each: each is there at its number.
 use Rattle.ent_runner.proofs.Common.{common_steps, rules, append_assoc, ◌≡◌, ℕ, ◌+◌, ◌<◌, ◌≤◌, List}
-use Rattle.ent_runner.proofs.Common.{[], ◌∷◌, ◌++◌, length, map, get_or, refl, ap, arith, Option}
-use Rattle.ent_runner.proofs.Common.{Some, cond, eq-eqb, suc, slice_set, ◌==◌, All, sum_by, All-nil}
-use Rattle.ent_runner.proofs.Common.{All-cons, All-rest, sum_by-cons, get_or-set_same}
+use Rattle.ent_runner.proofs.Common.{[], ◌∷◌, ◌++◌, length, map, get_or, refl, ap, ◌∙◌, arith}
+use Rattle.ent_runner.proofs.Common.{Option, Some, cond, eq-eqb, suc, slice_set, ◌==◌, All, sum_by}
+use Rattle.ent_runner.proofs.Common.{All-nil, All-cons, All-rest, sum_by-cons, get_or-set_same}
 use Rattle.ent_runner.proofs.Common.{get_or-set_other, length-set, map-append, Done, outputs_put}
-use Rattle.ent_runner.proofs.Common.{None, inl, inr, ne_eqb, slice_get, replicate, IsSome}
-use Rattle.ent_runner.proofs.Common.{range_with_len, IsPermutation, cases_eq, slice_get-get_or}
-use Rattle.ent_runner.proofs.Common.{length-replicate, replicate-append-replicate, set-append_left}
-use Rattle.ent_runner.proofs.Common.{◌-◌, length-map, get_or-replicate, All-head, All-right}
-use Rattle.ent_runner.proofs.Common.{All-tail, sym, sum_by-IsPermutation, All-permutation}
-use Rattle.ent_runner.proofs.Common.{IsPermutation-sym, DidAll, numbers_of, HaveEnded}
+use Rattle.ent_runner.proofs.Common.{AreCollected, error_in, first_error, first_some, is_some, true}
+use Rattle.ent_runner.proofs.Common.{false, true≢false, None, inl, inr, ne_eqb, slice_get}
+use Rattle.ent_runner.proofs.Common.{replicate, IsSome, range_with_len, IsPermutation, cases_eq}
+use Rattle.ent_runner.proofs.Common.{slice_get-get_or, length-replicate, replicate-append-replicate}
+use Rattle.ent_runner.proofs.Common.{set-append_left, ◌-◌, length-map, get_or-replicate, All-head}
+use Rattle.ent_runner.proofs.Common.{All-right, All-tail, sym, sum_by-IsPermutation}
+use Rattle.ent_runner.proofs.Common.{All-permutation, IsPermutation-sym, DidAll, numbers_of}
+use Rattle.ent_runner.proofs.Common.{HaveEnded}
 use Rattle.ent_runner.proofs.Lists.{each_of_all, sum_map, mapped_at, of_mapped, all_below}
 use Rattle.ent_runner.proofs.Counting.{is, in_range}
 
@@ -84,10 +86,18 @@ module _ {O : Type 0} where
       )
 
 -- one more output is moved out
-pub collected_on : {O : Type 0} (rest new : List (Option O)) (q : O) (before after : List O)
-    (all : List (Option O)) → rest ≡ Some q ∷ new → after ≡ before ++ q ∷ []
-    → map Some before ++ rest ≡ all → (map Some after ++ new ≡ all) × (length rest ≡ length new + 1)
-collected_on rest new q before after all front push same = search (rules, map-append, append_assoc)
+pub collected_on : {O E : Type 0} (rest new : List (Option (O × Option E))) (q : O × Option E)
+    (before after : List O) (all : List (Option (O × Option E))) → rest ≡ Some q ∷ new
+    → after ≡ before ++ q.0 ∷ [] → AreCollected all rest before
+    → AreCollected all new after × (length rest ≡ length new + 1)
+collected_on rest new q before after all front push same = (
+  record {
+    made = same.made ++ q ∷ [];
+    all = search (rules, same.all, front, map-append, append_assoc);
+    outputs_are = search (rules, same.outputs_are, push, map-append);
+  },
+  ap length front ∙ omega arith,
+)
 
 -- the next one is there, if all are
 pub next_there : {O : Type 0} (before : List O) (rest new all : List (Option O)) (front : Option O)
@@ -212,3 +222,28 @@ module _ {O : Type 0} where
       All-head (λ (d : Done O). slice_get outputs d.number ≡ Some d.output) d done at,
       All-tail (λ (d : Done O). slice_get outputs d.number ≡ Some d.output) d done at,
     )
+
+-- Whether the first of these is there, it is the first one.
+first_here : {X : Type 0} (x : Option X) (more : List (Option X)) → is_some x ≡ true
+    → first_some (x ∷ more) ≡ x
+first_here None more there = absurd (true≢false (sym there))
+first_here (Some x) more there = refl
+
+first_next : {X : Type 0} (x : Option X) (more : List (Option X)) → is_some x ≡ false
+    → first_some (x ∷ more) ≡ first_some more
+first_next None more none = refl
+first_next (Some x) more none = absurd (true≢false none)
+
+-- the first error is that of the front, or of the rest
+module _ {O E : Type 0} (rest new : List (Option (O × Option E))) (made : Option (O × Option E))
+    (error : Option E)
+    (front : rest ≡ made ∷ new) (is : error ≡ error_in made) where
+  pub error_here : is_some error ≡ true → error ≡ first_error rest
+  error_here there =
+      is
+      ∙ (sym (first_here (error_in made) (map error_in new) (rw is at there))
+      ∙ ap first_error (sym front))
+
+  pub error_later : is_some error ≡ false → first_error new ≡ first_error rest
+  error_later none = sym (first_next (error_in made) (map error_in new) (rw is at none))
+      ∙ ap first_error (sym front)

@@ -1,5 +1,5 @@
 -- What a system filled that began with nothing, as a job of a crew: if it ended, and if it stopped.
-use Rattle.ent_runner.proofs.Common.{rules, ◌≡◌, ◌∙◌, ap, ℕ, List, Result, Ok, Err, OnOk, OnErr}
+use Rattle.ent_runner.proofs.Common.{rules, ◌≡◌, ◌∙◌, ap, ℕ, List, Result, Ok, Err, IfErr, OnOk}
 use Rattle.ent_runner.proofs.Common.{Some, slice_get, get_or, get_or_from_slice_get, Replying}
 use Rattle.ent_runner.proofs.Common.{Request, Phase, IsDrawn, IsOfPhase, Commands, Extends}
 use Rattle.ent_runner.proofs.Common.{output_of, reserver_of, source_of, IsDealt, IsFilled}
@@ -15,10 +15,14 @@ module _ {S O : Type 0} (may : S → O → Type 0) (systems : List S) (n : ℕ) 
   may_ok (Ok x) ran = λ system at. search (rules, get_or_from_slice_get)
   may_ok (Err why) ran = tt
 
-  pub may_err : {A E : Type 0} (r : Result A E) → OnErr r (may (get_or systems n d) output)
-      → OnErr r May
-  may_err (Ok x) ran = tt
-  may_err (Err why) ran = λ system at. search (rules, get_or_from_slice_get)
+-- and what with its error
+pub may_err : {S O A E : Type 0} (leave : S → O → E → Type 0) (systems : List S) (n : ℕ) (d : S)
+    (output : O) (r : Result A E) → IfErr r (leave (get_or systems n d) output)
+    → IfErr r (λ error. (system : S) → slice_get systems n ≡ Some system
+    → leave system output error)
+may_err leave systems n d output (Ok x) ran = tt
+may_err leave systems n d output (Err error) ran =
+    λ system at. search (rules, get_or_from_slice_get)
 
 module _ {O : Type 0} (Adds : O → List Request → O → Type 0) (empty : O) where
   module _ {S R : Type 0} (serves : S → R → Type 0) (may : S → Replying R) (a b : Commands O S R)
@@ -28,21 +32,22 @@ module _ {O : Type 0} (Adds : O → List Request → O → Type 0) (empty : O) w
 
     module _ (source : S) (before after : R) (output : O) (of : source ≡ source_of a)
         (first : before ≡ reserver_of a) (same : output ≡ output_of b)
-        (last : after ≡ reserver_of b)
-        (P : O → Type 0) where
-      abbrev Fills : Type 0
-      Fills = IsFilled Adds empty (may source) before output after × P output
+        (last : after ≡ reserver_of b) where
+      abbrev Fills : (O → Type 0) → Type 0
+      Fills P = IsFilled Adds empty (may source) before output after × P output
 
-      fills : P (output_of b) → Fills
-      fills ran = rw (of, first, same, last) (filled, ran)
+      fills : (P : O → Type 0) → P (output_of b) → Fills P
+      fills P ran = rw (of, first, same, last) (filled, ran)
 
-      pub filled_ok : {A E : Type 0} (r : Result A E) → OnOk r (P (output_of b)) → OnOk r Fills
-      filled_ok (Ok x) ran = fills ran
-      filled_ok (Err why) ran = tt
+      pub filled_ok : {A E : Type 0} (P : O → Type 0) (r : Result A E) → OnOk r (P (output_of b))
+          → OnOk r (Fills P)
+      filled_ok P (Ok x) ran = fills P ran
+      filled_ok P (Err error) ran = tt
 
-      pub filled_err : {A E : Type 0} (r : Result A E) → OnErr r (P (output_of b)) → OnErr r Fills
-      filled_err (Ok x) ran = tt
-      filled_err (Err why) ran = fills ran
+      pub filled_err : {A E : Type 0} (Q : O → E → Type 0) (r : Result A E)
+          → IfErr r (Q (output_of b)) → IfErr r (λ error. Fills (λ output. Q output error))
+      filled_err Q (Ok x) ran = tt
+      filled_err Q (Err error) ran = fills (λ output. Q output error) ran
 
   -- with the reserver at its number
   module _ (phase : Phase) (reservers : List Reserver) (n : ℕ) (a b : Commands O Phase Reserver)
@@ -50,21 +55,24 @@ module _ {O : Type 0} (Adds : O → List Request → O → Type 0) (empty : O) w
       (source : source_of a ≡ phase)
       (is : (r : Reserver) → slice_get reservers n ≡ Some r → reserver_of a ≡ r) (output : O)
       (after : Reserver)
-      (same : output ≡ output_of b) (last : after ≡ reserver_of b) (may : ℕ → O → Type 0) where
-    abbrev Dealt : Type 0
-    Dealt = IsDealt Adds empty may phase reservers n (output, after)
+      (same : output ≡ output_of b) (last : after ≡ reserver_of b) where
+    abbrev Dealt : (ℕ → O → Type 0) → Type 0
+    Dealt may = IsDealt Adds empty may phase reservers n (output, after)
 
-    dealt : may n (output_of b) → Dealt
-    dealt ran = rw (same, last) (record {
+    dealt : (may : ℕ → O → Type 0) → may n (output_of b) → Dealt may
+    dealt may ran = rw (same, last) (record {
       system = ran;
       of_phase = e.ready ∙ ap (λ (p : Phase). p.number) (e.source ∙ source);
       filled = λ r at. rw (source, is r at) at (filled IsOfPhase IsDrawn a b none e);
     })
 
-    pub dealt_ok : {A E : Type 0} (r : Result A E) → OnOk r (may n (output_of b)) → OnOk r Dealt
-    dealt_ok (Ok x) ran = dealt ran
-    dealt_ok (Err why) ran = tt
+    pub dealt_ok : {A E : Type 0} (may : ℕ → O → Type 0) (r : Result A E)
+        → OnOk r (may n (output_of b)) → OnOk r (Dealt may)
+    dealt_ok may (Ok x) ran = dealt may ran
+    dealt_ok may (Err error) ran = tt
 
-    pub dealt_err : {A E : Type 0} (r : Result A E) → OnErr r (may n (output_of b)) → OnErr r Dealt
-    dealt_err (Ok x) ran = tt
-    dealt_err (Err why) ran = dealt ran
+    pub dealt_err : {A E : Type 0} (leave : ℕ → O → E → Type 0) (r : Result A E)
+        → IfErr r (leave n (output_of b))
+        → IfErr r (λ error. Dealt (λ n output. leave n output error))
+    dealt_err leave (Ok x) ran = tt
+    dealt_err leave (Err error) ran = dealt (λ n output. leave n output error) ran

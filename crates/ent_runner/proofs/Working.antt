@@ -1,9 +1,9 @@
 -- A worker does one job after the other. Two parts of the workers have worked, so all of them have.
 use Rattle.ent_runner.proofs.Common.{rules, ◌≡◌, ℕ, List, [], ◌∷◌, ◌++◌, is_err, false, true≢false}
-use Rattle.ent_runner.proofs.Common.{OnOk, OnErr, FoldsTo-push, map-append, Done, numbers_of}
-use Rattle.ent_runner.proofs.Common.{HaveEnded, HasStoppedAt, Result, ◌-◌, length, arith, sym}
-use Rattle.ent_runner.proofs.Common.{cases_lt, length-append, get_or_append_left}
-use Rattle.ent_runner.proofs.Common.{get_or-append_right, Claims, Worker, HaveAllWorked}
+use Rattle.ent_runner.proofs.Common.{OnOk, FoldsTo-push, map-append, Done, numbers_of, HaveEnded}
+use Rattle.ent_runner.proofs.Common.{HasStoppedAt, Result, ◌-◌, length, arith, sym, cases_lt}
+use Rattle.ent_runner.proofs.Common.{length-append, get_or_append_left, get_or-append_right, Claims}
+use Rattle.ent_runner.proofs.Common.{Worker, HaveAllWorked}
 
 module _ {O : Type 0} where
   pub numbers_more : (done next : List (Done O)) (d : Done O) (claims more : List ℕ)
@@ -21,9 +21,6 @@ module _ {O : Type 0} where
     pub stopped_at : (a b c : L) (done next : List (Done O)) (d : Done O) → HaveEnded may a done b
         → leave d.number b d.output c → next ≡ done ++ d ∷ [] → HasStoppedAt may leave a next c
     stopped_at a b c done next d ended left pushed = search rules
-
-pub on_err : {A E : Type 0} {P : Type 0} (r : Result A E) → P → OnErr r P
-on_err it p = search rules
 
 -- what a test of a result tells
 pub on_ok : {X E : Type 0} {P : Type 0} (r : Result X E) → is_err r ≡ false → OnOk r P → P

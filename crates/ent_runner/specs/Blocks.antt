@@ -6,13 +6,13 @@ pub mod Queues
 pub mod Frame
 pub mod Unframed
 pub mod Refusing
-use Rattle.std.specs.Prelude.{◌≡◌, ℕ, ◌<◌, List, [], ◌∷◌, length, slice_get, Some}
+use Rattle.std.specs.Prelude.{◌≡◌, ℕ, ◌<◌, List, [], ◌∷◌, length, Option, slice_get, Some}
 use Rattle.ent_handle.specs.Handle.{Handle}
 use Rattle.ent_blocks.specs.Blocks.{Block, after_use}
 use Rattle.ent_log.specs.declared.entry.Entry.{Entry}
 use Rattle.ent_log.specs.Logs.{spawned_in}
 use Rattle.ent_runner.specs.Blocks.Filling.{Draws}
-use Rattle.ent_runner.specs.Logs.{log_at, SystemMayLog}
+use Rattle.ent_runner.specs.Logs.{log_at, SystemMayLog, SystemMayLeave}
 use Rattle.ent_runner.specs.Runs.{AreRun, StopShort}
 
 module _ {C : Type 0} where
@@ -36,16 +36,21 @@ module _ {C : Type 0} where
         → Draws pool block (log_at logs n) (after_use block (length (spawned_in (log_at logs n))))
     pub used : after ≡ blocks_after before logs
 
-  -- That many workers have run some of the systems, and stopped.
-  pub record IsBrokenOff {S : Type 0} (may leave : S → List (Entry C) → Type 0) (systems : List S)
-      (workers : ℕ) (pool : List Handle) (before : List Block) : Type 0 where
+  -- That many workers have run some of the systems, and stopped, with this error if one of them
+  -- returned one.
+  pub record IsBrokenOff {S E : Type 0} (may : S → List (Entry C) → Type 0)
+      (leave : S → List (Entry C) → E → Type 0) (systems : List S) (workers : ℕ)
+      (pool : List Handle)
+      (before : List Block) (error : Option E) : Type 0 where
     -- for each worker the systems that it ran
     pub ran : List (List ℕ)
     pub count : ℕ
     pub run : AreRun workers count ran
     -- what each of them had entered when it ended or stopped
     pub logs : List (List (Entry C))
-    pub short : StopShort (SystemMayLog may systems) (SystemMayLog leave systems) logs []
-        (length systems) count ran
+    -- the error that each of them returned, if it did
+    pub errors : List (Option E)
+    pub short : StopShort (SystemMayLog may systems) (SystemMayLeave leave systems) logs [] errors
+        (length systems) count ran error
     pub draws : (n : ℕ) (block : Block) → n < count → slice_get before n ≡ Some block
         → Draws pool block (log_at logs n) (after_use block (length (spawned_in (log_at logs n))))

@@ -21,6 +21,16 @@ OfEach {L} ran before after P = (worker : ℕ) (mine : List ℕ) (a b : L)
     → slice_get ran worker ≡ Some mine → slice_get before worker ≡ Some a
     → slice_get after worker ≡ Some b → P mine a b
 
+module _ {O E L : Type 0} where
+  -- The job of this number made this output and returned no error, and did what it may.
+  abbrev pub Ended : (ℕ → L → O → L → Type 0) → ℕ → L → O × Option E → L → Type 0
+  Ended may number before made after = (made.1 ≡ None) × may number before made.0 after
+
+  -- It made this output, returned this error, and left both as it may.
+  abbrev pub Stopped : (ℕ → L → O → E → L → Type 0) → ℕ → L → O × Option E → L → Type 0
+  Stopped leave number before made after =
+      (error : E) × (made.1 ≡ Some error) × leave number before made.0 error after
+
 module _ {O L : Type 0} where
   -- what the job of this number may do, whose output is the one at its number
   abbrev pub DoesAt : (ℕ → L → O → L → Type 0) → List O → L → ℕ → L → Type 0
@@ -31,7 +41,7 @@ module _ {O L : Type 0} where
   abbrev pub DidAll : (ℕ → L → O → L → Type 0) → List O → L → List ℕ → L → Type 0
   DidAll may outputs before numbers after = FoldsTo (DoesAt may outputs) before numbers after
 
-  -- These jobs were done, one after the other, and the last one ran out of memory.
+  -- These jobs were done, one after the other, and the last one stopped.
   pub record DidUntil (may leave : ℕ → L → O → L → Type 0) (outputs : List O)
       (before : L) (numbers : List ℕ) (after : L) : Type 0 where
     pub earlier : List ℕ
@@ -68,9 +78,8 @@ module _ {O L : Type 0} where
     -- A worker did a job after another one only if that one had ended.
     pub did : OfEach ran before after (λ mine a b. DidAll may outputs a mine b
         ⊎ DidUntil may leave outputs a mine b)
-    -- Why: the last job of a worker ran out of memory, or some are left that no worker has room
-    -- for. If some are left, each worker has done at least one, for whose output it had room from
-    -- the beginning.
+    -- Why: the last job of a worker stopped, or some are left that no worker has room for. If some
+    -- are left, each worker has done at least one, for whose output it had room from the beginning.
     pub why : ((worker : ℕ) × (mine : List ℕ) × (a : L) × (b : L)
         × (slice_get ran worker ≡ Some mine) × (slice_get before worker ≡ Some a)
         × (slice_get after worker ≡ Some b) × DidUntil may leave outputs a mine b)

@@ -2,7 +2,7 @@
 -- point applies the queues in the order of the systems.
 use Rattle.std.specs.Prelude.{◌≡◌, ℕ, ◌<◌, ◌≤◌, ◌==◌, List, [], length, map, filter}
 use Rattle.std.specs.Prelude.{Result, Ok, Err}
-use Rattle.std.specs.Prelude.{slice_get, slice_index_or, Some}
+use Rattle.std.specs.Prelude.{Option, slice_get, slice_index_or, Some}
 use Rattle.std.specs.List.{All, flat_map}
 use Rattle.ent_handle.specs.Handle.{Handle}
 use Rattle.ent_alloc.specs.declared.space.Space.{Space}
@@ -75,10 +75,18 @@ abbrev pub SystemMayIssue : {S : Type 0} → (S → View → List Command → Ty
 SystemMayIssue {S} may systems view n queue =
     (system : S) → slice_get systems n ≡ Some system → may system view queue
 
--- A frame that was broken off: that many workers ran some of the systems, and stopped. The history
--- has what these systems asked for, and nothing else.
-pub record IsBrokenOff {S : Type 0} (may leave : S → View → List Command → Type 0)
-    (systems : List S) (workers : ℕ) (before : World) (history : List Call) : Type 0 where
+-- it may leave the commands, and return this error
+abbrev pub SystemMayLeave : {S E : Type 0} → (S → View → List Command → E → Type 0) → List S → View
+    → ℕ → List Command → E → Type 0
+SystemMayLeave leave systems view n queue error =
+    SystemMayIssue (λ system view queue. leave system view queue error) systems view n queue
+
+-- A frame that was broken off: that many workers ran some of the systems, and stopped, with this
+-- error if one of them returned one. The history has what these systems asked for, and nothing
+-- else.
+pub record IsBrokenOff {S E : Type 0} (may : S → View → List Command → Type 0)
+    (leave : S → View → List Command → E → Type 0) (systems : List S) (workers : ℕ) (before : World)
+    (history : List Call) (error : Option E) : Type 0 where
   pub legal : IsLegal before.allocator history
   pub callers : All (λ (call : Call). call.caller < workers) history
   -- for each worker the systems that it ran
@@ -87,12 +95,16 @@ pub record IsBrokenOff {S : Type 0} (may leave : S → View → List Command →
   pub run : AreRun workers count ran
   -- what each of them had issued when it ended or stopped
   pub queues : List (List Command)
+  -- the error that each of them returned, if it did
+  pub errors : List (Option E)
   pub short : StopShort (SystemMayIssue may systems (view_of before))
-      (SystemMayIssue leave systems (view_of before)) queues [] (length systems) count ran
+      (SystemMayLeave leave systems (view_of before)) queues [] errors (length systems) count ran
+      error
   pub work : (worker : ℕ) (mine : List ℕ) → slice_get ran worker ≡ Some mine
       → IsWork queues history worker mine
 
--- The sync of the queues stands up to that handle of that command of that system, and no further.
+-- The sync of the queues has been done up to that handle of that command of that system, and no
+-- further.
 pub record IsHalf (queues : List (List Command)) (before : World) (system command done : ℕ)
     (so_far : SyncReport) (after : World) : Type 0 where
   pub stop : IsStop system command done queues
@@ -118,7 +130,7 @@ first_call request = record { caller = 0; requested = request.0; reply = request
 abbrev pub calls_in_order : List (List Command) → List Call
 calls_in_order queues = map first_call (flat_map stands_for (flat_map (λ queue. queue) queues))
 
--- With one worker the reservations stand in the order of the systems. So what the frame ends with
+-- With one worker the reservations are in the order of the systems. So what the frame ends with
 -- follows from the queues.
 pub record EndsInOrder (before : World) (queues : List (List Command)) (after : World)
     (came : List Handle) (faults : List Fault) : Type 0 where
@@ -153,16 +165,23 @@ pub record StopsAt {S : Type 0} (may : S → View → List Command → Type 0) (
       → IsHalf queues (reserved_by history before) system command done so_far after
 
 -- what holds of a frame whose sync point stopped
-abbrev pub IfSyncStopped : {X : Type 0} → Result X FrameFault
+abbrev pub IfSyncStopped : {X E : Type 0} → Result X (FrameFault E)
     → (SyncFault → List (List Command) → Type 0) → Type 0
 IfSyncStopped (Ok x) P = Unit {0}
 IfSyncStopped (Err frame.Memory) P = Unit {0}
-IfSyncStopped (Err frame.Lost) P = Unit {0}
+IfSyncStopped (Err (frame.Lost error)) P = Unit {0}
 IfSyncStopped (Err (frame.Sync fault queues)) P = P fault queues.items
 
 -- what holds of one whose sync point stopped at a command
-abbrev pub IfStoppedAt : {X : Type 0} → Result X FrameFault
+abbrev pub IfStoppedAt : {X E : Type 0} → Result X (FrameFault E)
     → (ℕ → ℕ → ℕ → SyncReport → List (List Command) → Type 0) → Type 0
 IfStoppedAt {X} result P = IfSyncStopped result (λ fault queues.
     IfStopped {X = X} (Err fault) (λ system command done so_far.
     P system command done so_far queues))
+
+-- what holds of a frame that was broken off, with this error if there is one
+abbrev pub IfLost : {X E : Type 0} → Result X (FrameFault E) → (Option E → Type 0) → Type 0
+IfLost (Ok x) P = Unit {0}
+IfLost (Err frame.Memory) P = Unit {0}
+IfLost (Err (frame.Lost error)) P = P error
+IfLost (Err (frame.Sync fault queues)) P = Unit {0}

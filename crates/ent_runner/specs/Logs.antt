@@ -1,7 +1,7 @@
 -- Systems that fill logs: they run on workers, each with a log of its own, over one shared
 -- allocator.
 use Rattle.std.specs.Prelude.{◌≡◌, ℕ, ◌<◌, ◌==◌, List, [], ◌++◌, length, filter}
-use Rattle.std.specs.Prelude.{slice_get, slice_index_or, Some}
+use Rattle.std.specs.Prelude.{Option, slice_get, slice_index_or, Some}
 use Rattle.std.specs.List.{All, flat_map}
 use Rattle.ent_handle.specs.Handle.{Handle}
 use Rattle.ent_alloc.specs.Limits.{quota}
@@ -13,6 +13,8 @@ use Rattle.ent_alloc.specs.Serving.{Request}
 use Rattle.ent_queue.specs.Logging.{request_of}
 use Rattle.ent_runner.specs.Frame.{requests_by}
 use Rattle.ent_runner.specs.Runs.{AreRun, StopShort}
+use Rattle.ent_runner.specs.declared.logs.log_error.LogError.{LogError}
+use Rattle.ent_runner.specs.declared.logs.log_error.LogError.TheVariants as failed
 use Rattle.ent_shared.specs.Requests.{stands_for, FitQuota}
 
 -- the handles that one caller was given in a history, in order
@@ -28,7 +30,7 @@ module _ {C : Type 0} where
   abbrev pub entries_by : List (List (Entry C)) → List ℕ → List (Entry C)
   entries_by logs systems = flat_map (log_at logs) systems
 
-  -- the requests for which these entries stand
+  -- the requests that these entries represent
   abbrev pub requests_in : List (Entry C) → List Request
   requests_in entries = flat_map request_of entries
 
@@ -38,10 +40,16 @@ module _ {C : Type 0} where
   SystemMayLog {S} may systems n log =
       (system : S) → slice_get systems n ≡ Some system → may system log
 
-  -- That many workers ran the first systems, each once, and filled these logs. The history has
-  -- what they reserved, and leads from the one allocator to the other. The calls of each worker are
-  -- those for which the spawns and refusals of its systems' logs stand, in order, and no others. So
-  -- it was given the handles that these spawns returned.
+  -- it may leave this in its log, and return this error
+  abbrev pub SystemMayLeave : {S E : Type 0} → (S → List (Entry C) → E → Type 0) → List S → ℕ
+      → List (Entry C) → E → Type 0
+  SystemMayLeave leave systems n log error =
+      SystemMayLog (λ system log. leave system log error) systems n log
+
+  -- That many workers ran the first systems, each once, and filled these logs. The history has what
+  -- they reserved, and leads from the one allocator to the other. The calls of each worker are
+  -- exactly those that the spawns and refusals of its systems' logs represent, in order. So it was
+  -- given the handles that these spawns returned.
   pub record HaveRun (workers count : ℕ) (before : Allocator) (logs : List (List (Entry C)))
       (after : Allocator) : Type 0 where
     -- all reservations of the workers, in one order
@@ -71,15 +79,18 @@ module _ {C : Type 0} where
     pub each_system : (n : ℕ) (system : S) → slice_get systems n ≡ Some system
         → may system (log_at logs n)
 
-  -- Some systems have run, at least one if there are any, and the workers stopped. A log is what
-  -- the system had entered when it ended or stopped.
-  pub record IsBrokenOff {S : Type 0} (may leave : S → List (Entry C) → Type 0) (systems : List S)
-      (workers : ℕ) (before after : Allocator) : Type 0 where
+  -- Some systems have run, at least one if there are any, and the workers stopped, with this error
+  -- if one of them returned one. A log is what the system had entered when it ended or stopped.
+  pub record IsBrokenOff {S E : Type 0} (may : S → List (Entry C) → Type 0)
+      (leave : S → List (Entry C) → E → Type 0) (systems : List S) (workers : ℕ)
+      (before after : Allocator) (error : Option E) : Type 0 where
     pub count : ℕ
     pub logs : List (List (Entry C))
     pub run : HaveRun workers count before logs after
-    pub short : StopShort (SystemMayLog may systems) (SystemMayLog leave systems) logs []
-        (length systems) count run.ran
+    -- the error that each of them returned, if it did
+    pub errors : List (Option E)
+    pub short : StopShort (SystemMayLog may systems) (SystemMayLeave leave systems) logs [] errors
+        (length systems) count run.ran error
 
   -- All systems have run, and each filled a log that it may fill so. The flush brought to life what
   -- they had reserved, and listed it behind what was in the list. The entries are those of all
@@ -93,3 +104,21 @@ module _ {C : Type 0} where
     pub entries_are : entries ≡ entries_of logs
     pub after_is : after ≡ after_flush filled
     pub list_is : list ≡ listed ++ born filled
+
+-- what holds if the systems were broken off, with this error if there is one
+abbrev pub IfLost : {E : Type 0} → (Option E → Type 0) → LogError E → Type 0
+IfLost P failed.NeedsFlush = Unit {0}
+IfLost P failed.Workers = Unit {0}
+IfLost P failed.Systems = Unit {0}
+IfLost P failed.Memory = Unit {0}
+IfLost P (failed.Lost error) = P error
+IfLost P failed.Unborn = Unit {0}
+
+-- what holds of another error
+abbrev pub IfNotLost : {E : Type 0} → Type 0 → LogError E → Type 0
+IfNotLost P failed.NeedsFlush = P
+IfNotLost P failed.Workers = P
+IfNotLost P failed.Systems = P
+IfNotLost P failed.Memory = P
+IfNotLost P (failed.Lost error) = Unit {0}
+IfNotLost P failed.Unborn = P

@@ -6,8 +6,8 @@ use Rattle.ent_blocks.specs.Blocks.{Phase, Reserver}
 use Rattle.ent_blocks.specs.Drawing.{IsDrawn}
 
 module _ {O : Type 0} (Adds : O → List Request → O → Type 0) (empty : O) where
-  -- The output was filled from nothing on, and the reserver has made the requests for which it
-  -- stands and no others.
+  -- The output was filled from nothing on, and the reserver has made exactly the requests that it
+  -- represents.
   pub record IsFilled {R : Type 0} (may : Replying R) (before : R) (output : O) (after : R)
       : Type 0 where
     pub requests : List Request

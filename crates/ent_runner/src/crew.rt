@@ -2,8 +2,8 @@
 ghost use Rattle.std.specs.Prelude.{◌≡◌, ◌<◌, ◌≤◌, ◌^◌, ◌-◌, [], length, map, reverse, replicate};
 ghost use Rattle.std.specs.Prelude.{All, Any, IfOk, IfErr, OnErr, None, true, false, flat_map};
 ghost use Rattle.std.specs.Prelude.{vec_capacity};
-ghost use Rattle.ent_runner.specs.Crew.Collecting.{outputs_put};
-ghost use Rattle.ent_runner.specs.Crew.{AreDone, AreBrokenOff};
+ghost use Rattle.ent_runner.specs.Crew.Collecting.{error_in, first_error, outputs_put};
+ghost use Rattle.ent_runner.specs.Crew.{AreDone, AreBrokenOff, Ended, Stopped};
 ghost use Rattle.ent_runner.specs.Crew.Worker.{IsRoomForOne};
 
 mod claimer;
@@ -12,6 +12,7 @@ mod collecting;
 mod jobs;
 mod record;
 mod rule;
+mod steps;
 mod word;
 mod worker;
 
@@ -20,6 +21,7 @@ pub use crate::crew::claims::Claims;
 use crate::crew::collecting::{collect, put_all};
 pub use crate::crew::jobs::Jobs;
 pub use crate::crew::record::ClaimRecord;
+use crate::crew::steps::Kept;
 use crate::crew::worker::{Site, Worker, run_all};
 use ent_handle::Memory;
 use std::alloc::{AllocError, Global};
@@ -28,21 +30,22 @@ use std::thread::Threads;
 
 /// Workers that do jobs side by side, and the room that they need for it.
 ///
-/// A worker does the next job that nobody has claimed yet, until none is left. Each job has one
-/// output of type `O`, and the outputs come back in the order of the jobs.
+/// Each worker does the next job that isn't claimed yet, until none is left. Each job has one
+/// output of type `O`, and the outputs come back in the order of the jobs. A job that stops returns
+/// an error of type `E`.
 #[derive(Drop)]
-pub struct Crew<O> {
+pub struct Crew<O, E> {
     claims: Claims,
     /// Each has room for its first output, so that only a worker that has done a job may stop. If
     /// all workers do as many jobs, no list of outputs grows.
-    workers: Vec<Worker<O>>,
+    workers: Vec<Worker<(O, Option<E>)>>,
     /// Room for the claimers when the work is over.
     claimers: Vec<Claimer>,
-    by_number: Vec<Option<O>>,
+    by_number: Vec<Option<(O, Option<E>)>>,
     outputs: Vec<O>,
 }
 
-impl<O> Model for Crew<O> {
+impl<O, E> Model for Crew<O, E> {
     ghost use Rattle.ent_runner.specs.Crew.{Crew};
     ghost use Rattle.ent_runner.specs.Crew.Worker.{IsRoom};
 
@@ -54,13 +57,13 @@ impl<O> Model for Crew<O> {
         IsRoom c.claims c.workers.items c.claimers c.by_number.items c.outputs };
 }
 
-impl<O: Drop> Crew<O> {
+impl<O: Drop, E: Drop> Crew<O, E> {
     /// A crew of that many workers, 1 to 64, with room for the outputs of that many jobs, at most
     /// 65,536. Both limits are this project's own.
     ///
     /// # Errors
     ///
-    /// [`Memory`] if there is no memory for them.
+    /// [`Memory`] if there isn't enough memory for them.
     pub fn new(alloc: Global, jobs: usize, workers: usize) -> Result<Self, Memory>
         requires jobs { jobs ≤ 2 ^ 16 }
         requires some { 0 < workers }
@@ -86,16 +89,22 @@ impl<O: Drop> Crew<O> {
     ///
     /// # Errors
     ///
-    /// The outputs that were made, each at the number of its job. Memory ran out: a job returned
-    /// `Memory`, or jobs are left and no worker has memory for the output of another one. All
-    /// workers have ended then. What the jobs did to what was lent stays done. The caller drops the
-    /// outputs when it is ready for what their drop may do.
-    pub fn work<R, L, J>(self, rt: &R, lent: &mut [L], jobs: &J) -> Result<Vec<O>, Vec<Option<O>>>
+    /// The outputs that were made, each at the number of its job, with the error of a job that
+    /// stopped. If no job returned one, some weren't done, since no worker has memory for another
+    /// output. All workers have ended then. What the jobs did to what was lent stays done. The
+    /// caller drops the outputs when it is ready for what their drop may do.
+    pub fn work<R, L, J>(
+        self,
+        rt: &R,
+        lent: &mut [L],
+        jobs: &J,
+    ) -> Result<Vec<O>, Vec<Option<(O, Option<E>)>>>
     where
         R: Threads + Sync,
         O: Send,
+        E: Send,
         L: Send,
-        J: Jobs<O, L> + Sync,
+        J: Jobs<O, L, E> + Sync,
         requires jobs { J.count jobs.now ≡ self.jobs }
         requires workers { length lent.old ≡ self.workers }
         requires lent { All (J.may_have jobs.now) lent.old }
@@ -103,8 +112,8 @@ impl<O: Drop> Crew<O> {
         ensures lent { All (J.may_have jobs.now) lent.new }
         ensures done { IfOk result (λ outputs. AreDone (J.may_do jobs.now) self.jobs
             lent.old outputs.items lent.new) }
-        ensures broken_off { IfErr result (λ left. AreBrokenOff (J.may_do jobs.now)
-            (J.may_leave jobs.now) self.jobs lent.old left.items lent.new) }
+        ensures broken_off { IfErr result (λ left. AreBrokenOff (Ended (J.may_do jobs.now))
+            (Stopped (J.may_leave jobs.now)) self.jobs lent.old left.items lent.new) }
 
         // So late, memory runs out only in a job, or in workers that have done one.
         ensures some { OnErr result (0 < self.jobs) }
@@ -118,9 +127,10 @@ impl<O: Drop> Crew<O> {
         } = self;
         // More threads than jobs would find nothing to do.
         let threads = by_number.len();
+        let kept = Kept { jobs };
         let site = Site {
             claims: &claims,
-            jobs,
+            jobs: &kept,
         };
         run_all(rt, &site, &mut workers, lent, threads);
         let stopped = some_stopped(&workers);
@@ -168,7 +178,30 @@ fn without_outputs<O>(alloc: Global, count: usize) -> Result<Vec<Option<O>>, All
     Ok(by_number)
 }
 
-/// Whether a job of a worker has stopped because memory ran out.
+/// The error of the first job that returned one. All else is dropped.
+pub(crate) fn first_error<O: Drop, E: Drop>(by_number: Vec<Option<(O, Option<E>)>>) -> Option<E>
+    ensures { result ≡ first_error by_number.items }
+{
+    for made in by_number {
+        let error = error_of(made);
+        if error.is_some() {
+            return error;
+        }
+    }
+    None
+}
+
+/// The error of a job that made something, if it returned one.
+fn error_of<O: Drop, E: Drop>(made: Option<(O, Option<E>)>) -> Option<E>
+    ensures { result ≡ error_in made }
+{
+    match made {
+        Some((_, error)) => error,
+        None => None,
+    }
+}
+
+/// Whether a job of a worker has stopped.
 fn some_stopped<O>(workers: &[Worker<O>]) -> bool
     ensures going { result ≡ false → All (λ w. w.stopped ≡ false) workers.now }
     ensures some { result ≡ true → Any (λ w. w.stopped ≡ true) workers.now }

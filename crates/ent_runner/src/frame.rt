@@ -4,7 +4,7 @@ ghost use Rattle.std.specs.Prelude.{◌≡◌, ◌≢◌, ◌<◌, ◌≤◌, �
 ghost use Rattle.ent_alloc.specs.History.{Call};
 ghost use Rattle.ent_alloc.specs.Sequential.{born};
 ghost use Rattle.ent_runner.specs.Frame.{Ends, EndsInOrder, IsBrokenOff, IsLost, StopsAt};
-ghost use Rattle.ent_runner.specs.Frame.{IfSyncStopped, IfStoppedAt, reserved_by};
+ghost use Rattle.ent_runner.specs.Frame.{IfLost, IfSyncStopped, IfStoppedAt, reserved_by};
 ghost use Rattle.ent_world.specs.Memory.{TakesMemoryAt};
 ghost use Rattle.ent_world.specs.Sync.{sync, IsStop};
 
@@ -13,7 +13,7 @@ pub(super) mod report;
 mod side;
 pub(super) mod system;
 
-use crate::crew::Crew;
+use crate::crew::{Crew, first_error};
 use crate::frame::gate::Gate;
 use crate::frame::report::{FrameFault, FrameReport};
 use crate::frame::system::System;
@@ -28,8 +28,8 @@ use std::thread::Threads;
 
 /// Runs each system once, on that many workers side by side, and then the sync point.
 ///
-/// A worker has one reserver, and takes the next system that nobody has taken yet until none is
-/// left. Each system fills a queue of its own. The queues are applied in the order of the systems,
+/// A worker has one reserver, and takes the next system that isn't taken yet until none is left.
+/// Each system fills a queue of its own. The queues are applied in the order of the systems,
 /// whatever the order in which they ended. If a thread can't be started, another one does its work.
 ///
 /// There have to be 1 to 64 workers and at most 65,536 systems. No handle may have been requested
@@ -39,25 +39,27 @@ use std::thread::Threads;
 /// # Errors
 ///
 /// - [`FrameFault::Memory`] if memory ran out before any system ran. The world is as it was. A
-///   frame without systems takes no memory.
-/// - [`FrameFault::Lost`] if a system returned `Memory`, or if systems are left and no worker has
-///   memory for the queue of another one. No command was applied. What the systems that ran had
-///   reserved stays reserved, and nothing else is: [`World::flush`] brings it to life.
+///   frame without systems doesn't allocate.
+/// - [`FrameFault::Lost`] if a system returned an error: it has the first one in the order of the
+///   systems. Or if some systems didn't run, since no worker has memory for the queue of another
+///   one: then it has none. No command was applied. What the systems that ran had reserved stays
+///   reserved, and nothing else is: [`World::flush`] brings it to life.
 /// - [`FrameFault::Sync`] if all systems ran and memory ran out in the sync point. The
 ///   fault has the queues. If it stopped before any entity was born ([`SyncFault::FlushMemory`]),
 ///   [`World::apply`] does the sync point. If it stopped at a command, [`World::apply_from`] goes
 ///   on there. Both end as this frame would have.
-pub fn run_frame<R, S, G>(
+pub fn run_frame<R, S, E, G>(
     rt: &R,
     alloc: Global,
     world: &mut World,
     systems: &[S],
     workers: usize,
     gate: &G,
-) -> Result<FrameReport, FrameFault>
+) -> Result<FrameReport, FrameFault<E>>
 where
     R: Threads + Sync,
-    S: System<Shared> + Sync,
+    S: System<Shared, E> + Sync,
+    E: Drop + Send,
     G: Gate + Sync,
     requires flushed { world.old.allocator.asked ≡ 0 }
     requires systems { length systems.now ≤ 2 ^ 16 }
@@ -70,13 +72,13 @@ where
     ensures flushed { OnOk result (world.new.allocator.asked ≡ 0) }
     ensures memory { IsErrOf result FrameFault.Memory → world.new ≡ world.old }
     ensures memory_some { IsErrOf result FrameFault.Memory → 0 < length systems.now }
-    ensures lost { IsErrOf result FrameFault.Lost → (history : List Call)
-        × IsBrokenOff S.may_issue S.may_leave systems.now workers world.old history
-        × (world.new ≡ reserved_by history world.old) }
-    ensures still { IsErrOf result FrameFault.Lost → IsLost world.old world.new }
+    ensures lost { IfLost result (λ error. (history : List Call)
+        × IsBrokenOff S.may_issue S.may_leave systems.now workers world.old history error
+        × (world.new ≡ reserved_by history world.old)) }
+    ensures still { IfLost result (λ _. IsLost world.old world.new) }
 
-    // So late, memory runs out only in a system, or in workers that have run one.
-    ensures lost_some { IsErrOf result FrameFault.Lost → 0 < length systems.now }
+    // So late, memory runs out only in workers that have run a system.
+    ensures lost_some { IfLost result (λ _. 0 < length systems.now) }
 
     ensures stopped { IfSyncStopped result (λ fault queues.
         StopsAt S.may_issue systems.now workers world.old queues world.new fault) }
@@ -121,8 +123,9 @@ where
     };
     let queues = crew.work(rt, &mut reservers, &stage);
     *world = opened.close(reservers);
-    let Ok(queues) = queues else {
-        return Err(FrameFault::Lost);
+    let queues = match queues {
+        Ok(queues) => queues,
+        Err(left) => return Err(FrameFault::Lost(first_error(left))),
     };
     match world.apply(&queues) {
         Ok(sync) => Ok(FrameReport { queues, sync }),

@@ -2,13 +2,13 @@
 ghost use Rattle.std.specs.Prelude.{◌≡◌, ◌≢◌, ◌<◌, ◌≤◌, ◌^◌, ◌↔◌, ◌⊎◌, length};
 ghost use Rattle.std.specs.Prelude.{IfOk, IfErr, IsErrOf, Err, None};
 ghost use Rattle.ent_log.specs.Logs.{entries_of, spawned_in, first_unreserved};
-ghost use Rattle.ent_runner.specs.Logs.{HaveLogged, IsBrokenOff};
+ghost use Rattle.ent_runner.specs.Logs.{HaveLogged, IfLost, IfNotLost, IsBrokenOff};
 
 pub(super) mod beginning;
 pub(super) mod log_error;
 pub(super) mod system;
 
-use crate::crew::Crew;
+use crate::crew::{Crew, first_error};
 use crate::logs::log_error::LogError;
 use crate::logs::system::LogSystem;
 use crate::stage::SharedStage;
@@ -30,8 +30,8 @@ const SYSTEMS: usize = 65_536;
 /// are in the order of the systems, whatever the order in which they ended, and
 /// [`SyncPoint::begin`](ent_log::SyncPoint::begin) takes them.
 ///
-/// A worker takes the next system that nobody has taken yet, until none is left. If a thread can't
-/// be started, another one does its work. One worker starts no thread.
+/// Each worker takes the next system that isn't taken yet, until none is left. If a thread can't be
+/// started, another one does its work. One worker starts no thread.
 ///
 /// # Errors
 ///
@@ -39,20 +39,22 @@ const SYSTEMS: usize = 65_536;
 ///
 /// - [`LogError::NeedsFlush`], [`LogError::Workers`], [`LogError::Systems`], [`LogError::Memory`]:
 ///   no system ran, and the allocator is as it was.
-/// - [`LogError::Lost`]: a system returned an error, or systems are left and no worker has memory
-///   for the log of another one. The logs are dropped. What the systems that ran had reserved stays
-///   reserved, and nothing else is: [`Entities::flush`] brings it to life.
-pub fn run_logs<R, C, S>(
+/// - [`LogError::Lost`]: a system returned an error, and this has the first one in the order of the
+///   systems. Or some systems didn't run, since no worker has memory for the log of another one:
+///   then it has none. The logs are dropped. What the systems that ran had reserved stays reserved,
+///   and nothing else is: [`Entities::flush`] brings it to life.
+pub fn run_logs<R, C, S, E>(
     rt: &R,
     alloc: Global,
     entities: &mut Entities,
     systems: &[S],
     workers: usize,
-) -> Result<Vec<Log<C>>, LogError>
+) -> Result<Vec<Log<C>>, LogError<E>>
 where
     R: Threads + Sync,
     C: Drop + Send,
-    S: LogSystem<C, Shared> + Sync,
+    S: LogSystem<C, Shared, E> + Sync,
+    E: Drop + Send,
     ensures ok { IfOk result (λ logs. HaveLogged S.may_log systems.now workers
         entities.old.allocator logs.items entities.new.allocator) }
     ensures rows { entities.new.rows ≡ entities.old.rows }
@@ -69,13 +71,12 @@ where
         ↔ ((entities.old.allocator.asked ≡ 0) × (0 < workers) × (workers ≤ 64)
         × (2 ^ 16 < length systems.now)) }
     ensures memory_some { IsErrOf result LogError.Memory → 0 < length systems.now }
-    ensures nothing { IfErr result (λ error. error ≢ LogError.Lost
-        → entities.new ≡ entities.old) }
+    ensures nothing { IfErr result (IfNotLost (entities.new ≡ entities.old)) }
 
     // What is left of a run that was broken off.
-    ensures lost { IsErrOf result LogError.Lost → IsBrokenOff S.may_log S.may_leave systems.now
-        workers entities.old.allocator entities.new.allocator }
-    ensures lost_some { IsErrOf result LogError.Lost → 0 < length systems.now }
+    ensures lost { IfErr result (IfLost (IsBrokenOff S.may_log S.may_leave systems.now workers
+        entities.old.allocator entities.new.allocator)) }
+    ensures lost_some { IfErr result (IfLost (λ _. 0 < length systems.now)) }
     ensures unborn { result ≢ Err LogError.Unborn }
 {
     if entities.needs_flush() {
@@ -111,8 +112,8 @@ where
     // place.
     let logs = crew.work(rt, &mut reservers, &stage);
     *entities = shared.close(reservers);
-    let Ok(logs) = logs else {
-        return Err(LogError::Lost);
-    };
-    Ok(logs)
+    match logs {
+        Ok(logs) => Ok(logs),
+        Err(left) => Err(LogError::Lost(first_error(left))),
+    }
 }

@@ -8,7 +8,6 @@ use crate::BlockNumbering;
 use crate::crew::Jobs;
 use crate::systems::Systems;
 use ent_blocks::{BlockReserver, Blocks, again};
-use ent_handle::Memory;
 use ent_queue::{Commands, Output};
 use ent_shared::{Reserver, Shared};
 use std::alloc::Global;
@@ -21,7 +20,7 @@ pub(crate) struct SharedStage<'a, 's, T> {
     pub(crate) systems: &'s T,
 }
 
-impl<O: Output, T: Systems<O, Shared>> Jobs<O, Reserver> for SharedStage<'_, '_, T> {
+impl<O: Output, E, T: Systems<O, Shared, E>> Jobs<O, Reserver, E> for SharedStage<'_, '_, T> {
     ghost count = { λ stage. T.count stage.systems.now };
 
     ghost may_have = { λ stage reserver. IsOf stage.shared.now reserver };
@@ -30,12 +29,12 @@ impl<O: Output, T: Systems<O, Shared>> Jobs<O, Reserver> for SharedStage<'_, '_,
         IsFilled O.adds O.empty (IsReturned stage.shared.now) before output after
         × T.may_fill stage.systems.now number output };
 
-    ghost may_leave = { λ stage number before output after.
+    ghost may_leave = { λ stage number before output error after.
         IsFilled O.adds O.empty (IsReturned stage.shared.now) before output after
-        × T.may_leave stage.systems.now number output };
+        × T.may_leave stage.systems.now number output error };
 
     /// Runs the system of this number. Its output has what it added, also if it stopped.
-    fn run(&self, number: usize, reserver: &mut Reserver) -> (O, Result<(), Memory>) {
+    fn run(&self, number: usize, reserver: &mut Reserver) -> (O, Result<(), E>) {
         let mut commands = Commands::new(self.alloc, self.shared, reserver);
         let ran = self.systems.run_at(number, self.alloc, &mut commands);
         (commands.finish(), ran)
@@ -53,8 +52,11 @@ pub(crate) struct BlockStage<'b, 'r, 's, J: BlockNumbering, T> {
 
 /// Nothing is lent to them: each has its own reserver. So there is nothing that workers share but
 /// the claims.
-impl<J: BlockNumbering, O: Output, T: Systems<O, Blocks<J>>> Jobs<(O, BlockReserver<J>), ()>
-    for BlockStage<'_, '_, '_, J, T> {
+impl<J: BlockNumbering, O: Output, E, T: Systems<O, Blocks<J>, E>> Jobs<
+    (O, BlockReserver<J>),
+    (),
+    E,
+> for BlockStage<'_, '_, '_, J, T> {
     ghost count = { λ stage. T.count stage.systems.now };
 
     ghost may_have = { λ stage nothing.
@@ -63,12 +65,13 @@ impl<J: BlockNumbering, O: Output, T: Systems<O, Blocks<J>>> Jobs<(O, BlockReser
     ghost may_do = { λ stage number before done after. IsDealt O.adds O.empty
         (T.may_fill stage.systems.now) stage.blocks.now stage.reservers.now number done };
 
-    ghost may_leave = { λ stage number before done after. IsDealt O.adds O.empty
-        (T.may_leave stage.systems.now) stage.blocks.now stage.reservers.now number done };
+    ghost may_leave = { λ stage number before done error after. IsDealt O.adds O.empty
+        (λ n output. T.may_leave stage.systems.now n output error)
+        stage.blocks.now stage.reservers.now number done };
 
     /// Runs the system of this number, which is run once. Its output has what it added, also if it
     /// stopped.
-    fn run(&self, number: usize, lent: &mut ()) -> ((O, BlockReserver<J>), Result<(), Memory>) {
+    fn run(&self, number: usize, lent: &mut ()) -> ((O, BlockReserver<J>), Result<(), E>) {
         let mut reserver = again(&self.reservers[number]);
         let mut commands = Commands::new(self.alloc, self.blocks, &mut reserver);
         let ran = self.systems.run_at(number, self.alloc, &mut commands);

@@ -3,7 +3,7 @@ use Rattle.std.specs.Prelude.{ℕ, zero, suc}
 use Rattle.serde_json.specs.Data.{Data, null, boolean, number, string, array, object}
 use Rattle.serde_json.specs.Data.{no_items, Members, no_members, member}
 
--- arrays are emptied, and so are the objects that nest deeper than so many levels
+-- arrays are emptied, and so are objects nested deeper than that many levels
 abbrev mutual
   pub cut : ℕ → Data → Data
   cut levels null = null

@@ -1,4 +1,4 @@
--- What stands under the keys of an operation, as it is read.
+-- The values under the keys of an operation, as they are read.
 use Rattle.std.specs.Prelude.{◌≡◌, ℕ, ◌-◌, Bool, true, false, List, [], ◌∷◌, length, codes, Option}
 use Rattle.std.specs.Prelude.{Some}
 use Rattle.std.specs.Prelude.{None, option_map, Result, Ok, Err}
@@ -24,7 +24,7 @@ use Rattle.ent_script.specs.declared.fields.Kinds.{Kinds}
 use Rattle.ent_script.specs.declared.read_fault.ReadFault.{ReadFault}
 use Rattle.ent_script.specs.declared.read_fault.ReadFault.TheVariants as fault
 
--- The field has what stands under the key, cut.
+-- The field has the value under the key, cut.
 abbrev pub IsUnder : List ℕ → Option Part → Members → Type 0
 IsUnder key field ms = option_map data_of field ≡ option_map (cut 1) (get_member key ms)
 
@@ -41,7 +41,7 @@ pub record AreKinds (kinds : Kinds) (ms : Members) : Type 0 where
   pub remove : AreAmong (codes "remove" ∷ codes "on" ∷ []) kinds.remove ms
   pub despawn : AreAmong (codes "despawn" ∷ []) kinds.despawn ms
 
--- The fields have what stands under their keys.
+-- The fields have the values under their keys.
 pub record AreFields (fields : Fields) (ms : Members) : Type 0 where
   pub spawn : IsUnder (codes "spawn") fields.spawn ms
   pub spawn_many : IsUnder (codes "spawn_many") fields.spawn_many ms

@@ -18,7 +18,7 @@ pairs_of (member key d ms) = (key, d) ∷ pairs_of ms
 abbrev pub elements : Data → Option (List Data)
 elements d = option_map list_of (as_array d)
 
--- the elements of an array, if there are at most so many
+-- the elements of an array, if there are at most that many
 abbrev pub at_most : ℕ → Data → Option (List Data)
 at_most most d =
     option_and_then (λ ds. if nat_le (length ds) most then Some ds else None) (elements d)

@@ -6,7 +6,7 @@ use Rattle.std.specs.Borrow.{Bor}
 use Rattle.std.specs.Cmp.Lexicographic.{slice_cmp}
 use Rattle.ent_script.specs.Names.{number_among}
 
--- the map has the number of each name: how many stand before it
+-- the map has the number of each name: how many come before it
 abbrev pub HaveNumbers : List (Bor (List ℕ)) → BTreeMap (Bor (List ℕ)) ℕ → Type 0
 HaveNumbers names numbers = (text : List ℕ)
     → get_by (λ k. slice_cmp nat_cmp text k.now) numbers

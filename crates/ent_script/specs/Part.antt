@@ -1,4 +1,4 @@
--- The data that a part of an operation stands for.
+-- The data that a part of an operation represents.
 use Rattle.std.specs.Prelude.{ℕ, List, [], ◌∷◌}
 use Rattle.std.specs.Borrow.{Bor}
 use Rattle.serde_json.specs.Data.{Data, null, boolean, number, string, array, no_items}

@@ -17,7 +17,7 @@ abbrev pub AllFrom : {A : Type 0} → (ℕ → A → Type 0) → ℕ → List A 
 AllFrom P n [] = Unit {0}
 AllFrom P n (x ∷ xs) = P n x × AllFrom P (n + 1) xs
 
--- each component is one of so many
+-- each component is one of that many
 abbrev pub IsBundleOf : ℕ → List (ComponentId × ℤ) → Type 0
 IsBundleOf components bundle = AllByRecursion (λ item. item.0.0 < components) bundle
 

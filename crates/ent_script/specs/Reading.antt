@@ -60,7 +60,7 @@ abbrev pub or_absent : {A : Type 0} → A → (Data → Option A) → Option Dat
 or_absent absent means None = Some absent
 or_absent absent means (Some d) = means d
 
--- ---- the parts of an operation; a part is what stands under a key of it
+-- ---- the parts of an operation; a part is the value under one of its keys
 
 -- the number of the component of this name
 abbrev pub component_of : List (List ℕ) → List ℕ → Option ComponentId
@@ -295,7 +295,7 @@ abbrev pub format_of : Option Data → Result Format ScriptCause
 format_of part =
     ok_or (option_map numbered_format (or_absent 1 (whole_within 1 2) part)) script_cause.Format
 
--- the heading, after the tests of all that stands before it
+-- the heading, after the tests of all that comes before it
 unfoldable pub heading_of : Data → Result Heading ScriptCause
 heading_of d = do
   ms ← ok_or (members d) script_cause.Top

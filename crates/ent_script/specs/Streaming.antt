@@ -65,7 +65,7 @@ StreamsList (Ok xs) left read rest = (read ≡ Ok xs.items) × (left ≡ rest)
 StreamsList (Err fault.Memory) left read rest = Unit {0}
 StreamsList (Err e) left read rest = (read ≡ Err e) × (left ≡ rest)
 
--- The frames of a script, from what stands under its key.
+-- The frames of a script, from the value under its key.
 abbrev pub frames_of : Format → List (List ℕ) → Option Data
     → Result (List (List (List Operation))) ReadFault
 frames_of format components part = do

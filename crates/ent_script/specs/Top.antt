@@ -4,7 +4,7 @@ use Rattle.std.specs.Str.{bytes_eq}
 use Rattle.serde_json.specs.Data.{Data, null, Members, no_members, member}
 use Rattle.ent_script.specs.Cut.{cut}
 
--- What stands under a key, emptied. The heading doesn't depend on what `components` are.
+-- The value under a key, emptied. The heading doesn't depend on what `components` are.
 abbrev pub head : List ℕ → Data → Data
 head key d = if bytes_eq key (codes "components") then null else cut 0 d
 

@@ -1,4 +1,4 @@
-/// Components and their values, by strictly rising number.
+/// Components and their values, in strictly ascending order of number.
 ///
 /// A long script has millions of bundles, and most are of one component. Such a bundle takes no
 /// memory.

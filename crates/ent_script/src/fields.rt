@@ -40,7 +40,7 @@ impl Kinds {
     }
 }
 
-/// What stands under each key that an operation may have.
+/// What is under each key that an operation may have.
 #[derive(Drop)]
 pub(crate) struct Fields<'a> {
     pub(crate) spawn: Option<Part<'a>>,

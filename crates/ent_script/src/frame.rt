@@ -19,7 +19,7 @@ impl Model for Frame {
 }
 
 impl Frame {
-    /// The frame of these systems. It takes no memory.
+    /// The frame of these systems. It doesn't allocate.
     pub(crate) fn new(systems: Vec<System>) -> Self
         ensures { result ≡ systems.items }
     {

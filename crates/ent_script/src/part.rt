@@ -20,7 +20,7 @@ use json::{Reader, Token};
 use serde_json::Number;
 use std::alloc::Global;
 
-/// What stands under a key of an operation, with its arrays emptied, and the objects in it.
+/// What is under a key of an operation, with its arrays emptied, and the objects in it.
 #[derive(Drop)]
 pub(crate) enum Part<'a> {
     Null,

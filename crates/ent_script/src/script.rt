@@ -27,7 +27,7 @@ impl Model for Script {
 }
 
 impl Script {
-    /// The script of these parts. It takes no memory.
+    /// The script of these parts. It doesn't allocate.
     pub(crate) fn new(limits: Limits, components: Vec<String>, frames: Vec<Frame>) -> Self
         ensures { result ≡ record {
           limits = limits;
@@ -63,7 +63,7 @@ impl Script {
         &self.frames
     }
 
-    /// The limits, the names of the components, and the frames. It takes no memory.
+    /// The limits, the names of the components, and the frames. It doesn't allocate.
     ///
     /// The frames are most of a long script. Their owner can free each one after its run.
     pub fn into_parts(self) -> (Limits, Vec<String>, Vec<Frame>)

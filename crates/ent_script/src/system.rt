@@ -19,7 +19,7 @@ impl Model for System {
 }
 
 impl System {
-    /// The system of these operations. It takes no memory.
+    /// The system of these operations. It doesn't allocate.
     pub(crate) fn new(operations: Vec<Operation>) -> Self
         ensures { result ≡ operations.items }
     {

@@ -59,7 +59,7 @@ pub(crate) fn read_top(
     })
 }
 
-/// The top of an object, of which the brace was taken. Of a key that stands twice the last counts.
+/// The top of an object, of which the brace was taken. Of a key that occurs twice the last counts.
 fn read_members(alloc: Global, reader: &mut Reader<'_>, depth: usize) -> Result<Top, ReadFault>
     ensures ok { IfOk result (λ top. (ms : Members)
         × (converted (λ ms. of_members ms no_members)

@@ -13,8 +13,8 @@ use Rattle.ent_shared.specs.Record.{requested_by}
 use Rattle.ent_shared.specs.Phase.{Shared, Reserver, records_of, after_loss}
 
 -- The phase ended with all its reservers. Their reservations, each once, form one history that is
--- legal and respects each reserver. No handle was given twice, and none was alive. A
--- flush brings to life just what was given.
+-- legal and respects each reserver. No handle was given twice, and none was alive. A flush brings
+-- to life exactly what was given.
 pub record EndsWithAll (opened : Shared) (returned : List Reserver) (after : Allocator)
     : Type 0 where
   pub legal : IsLegal opened.start (history_of (records_of returned))
@@ -31,7 +31,7 @@ pub record EndsWithAll (opened : Shared) (returned : List Reserver) (after : All
 
 -- The phase ended with those of its reservers that are returned. A front of the pool is reserved.
 -- It counts what these have requested, and of the others no more than their quota. It has all
--- handles that these got: they differ, and none was alive. A flush brings to life just what is
+-- handles that these got: they differ, and none was alive. A flush brings to life exactly what is
 -- reserved. If all are returned, it counts exactly what they have requested, and the cursor is
 -- where their history leaves it.
 pub record EndsWithSome (opened : Shared) (returned : List Reserver) (after : Allocator)

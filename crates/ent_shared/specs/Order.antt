@@ -9,7 +9,7 @@ use Rattle.ent_shared.specs.declared.record.RecordEntry.{RecordEntry}
 use Rattle.ent_shared.specs.declared.record.Record.{Record}
 use Rattle.ent_shared.specs.Record.{reservations_in, own_reservations}
 
--- inserts a reservation into others that are sorted by falling cursor
+-- inserts a reservation into others that are sorted by descending cursor
 abbrev pub insert_reservation : Reservation → List Reservation → List Reservation
 insert_reservation c [] = c ∷ []
 insert_reservation c (d ∷ ds) =
@@ -40,7 +40,8 @@ abbrev pub StandsBefore : List Reservation → Reservation → Reservation → T
 StandsBefore reservations earlier later = (i : ℕ) × (j : ℕ) × (i < j)
     × (slice_get reservations i ≡ Some earlier) × (slice_get reservations j ≡ Some later)
 
--- each own reservation of these entries comes after all that an earlier entry names
+-- each of the reserver's own reservations among these entries comes after all that an earlier entry
+-- names
 abbrev pub FollowsEntries : List Reservation → List RecordEntry → Type 0
 FollowsEntries reservations [] = Unit {0}
 FollowsEntries reservations (entry ∷ entries) =

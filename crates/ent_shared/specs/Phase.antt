@@ -53,7 +53,7 @@ pub record IsOf (shared : Shared) (r : Reserver) : Type 0 where
   pub word : r.word ≡ shared.word
   pub start : r.own.start ≡ shared.start
   pub number : r.own.number < shared.count
-  -- the quota adds up: what is left and what it has requested
+  -- the quota adds up from what is left and what it has requested
   pub quota : r.own.left + requested_by r.own ≡ quota
 
 -- no reserver's record

@@ -17,8 +17,8 @@ abbrev served_as : ℕ → List Handle → List (ℕ × Result (List Handle) Out
 served_as zero handles = []
 served_as (suc n) handles = (suc n, Ok handles) ∷ []
 
--- The reservation for which a request stands: a request for no handle is none, nor is one that the
--- quota refuses.
+-- The reservation that a request represents. A request for no handles is none, and neither is one
+-- that the quota refuses.
 abbrev pub stands_for : Request → List (ℕ × Result (List Handle) OutOfSpace)
 stands_for (n, Ok handles) = served_as n handles
 stands_for (n, Err (Space wanted left)) = (n, Err (record { wanted = wanted; left = left })) ∷ []
@@ -29,7 +29,7 @@ abbrev pub cost : Request → ℕ
 cost request = sum_by (λ (one : ℕ × Result (List Handle) OutOfSpace). one.0) (stands_for request)
 
 -- It fits the quota that was left. A refusal for lack of quota says what was left, and more was
--- wanted.
+-- requested.
 abbrev pub FitsQuota : ℕ → Request → Type 0
 FitsQuota left (n, Ok handles) = n ≤ left
 FitsQuota left (n, Err (Space wanted rest)) = n ≤ left
@@ -46,8 +46,8 @@ abbrev pub handles_in : Request → List Handle
 handles_in (n, Ok handles) = handles
 handles_in (n, Err why) = []
 
--- The reserver has made the reservations for which these requests stand and no others, in order,
--- and has met nobody. So it was given the handles of their replies.
+-- The reserver has made exactly the reservations that these requests represent, in order, and has
+-- met no other reserver. So it was given the handles of their replies.
 pub record Gains (before : Record) (requests : List Request) (after : Record) : Type 0 where
   pub start : after.start ≡ before.start
   pub number : after.number ≡ before.number

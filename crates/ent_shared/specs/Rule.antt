@@ -16,7 +16,7 @@ use Rattle.ent_shared.specs.Record.{requested_by, after_reservation}
 unfoldable pub offset : ℕ
 offset = 2 ^ 62
 
--- the cursor that a word stands for
+-- the cursor that a word represents
 abbrev pub cursor_of : ℕ → ℤ
 cursor_of word = pos word -ℤ pos offset
 
@@ -88,7 +88,7 @@ pub record IsStart (start : Allocator) : Type 0 where
   pub flushed : start.asked ≡ 0
   pub top : top start < 2 ^ 32
 
--- the three parts together, and each record stands in one holder at most
+-- the three parts together, and each record is in one holder at most
 pub record IsRuled (start : Allocator) (count : ℕ) (s : State (Unit {0}) (List Record))
     : Type 0 where
   pub begins : IsStart start
@@ -114,7 +114,7 @@ abbrev pub ReserveTells : ℕ → Me (Unit {0}) (List Record) → ℕ → Me (Un
 ReserveTells n before found after =
     (after.1 ≡ before.1) × ((r : Record) → before.0 ≡ r ∷ [] → AfterReserve n r found after.0)
 
--- What the rule says once no thread steps any more, and these records are known.
+-- What the rule says once all threads have stopped, and these records are known.
 pub record IsClosed (start : Allocator) (count : ℕ) (records : List Record) (at : ℤ) : Type 0 where
   pub log : List Reservation
   pub follow : Follow (cursor start) log at

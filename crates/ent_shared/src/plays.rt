@@ -4,7 +4,7 @@ ghost use Rattle.std.specs.Prelude.{◌≡◌, [], ◌++◌, take, drop};
 use atomic_table::{Join, Play, Split};
 use std::collections::LinkedList;
 
-/// What a holder knows: the records of those that it stands for. No value of it is ever made.
+/// What a holder knows: the records of those that it represents. No value of it is ever made.
 pub type HeldRecords<R> = LinkedList<R>;
 
 /// A new holder, which has no record.

@@ -5,7 +5,7 @@ use crate::record::Record;
 use ent_alloc::QUOTA;
 use std::marker::Model;
 
-/// The right of one caller to reserve from a shared allocator, and what is left of its quota.
+/// One caller's right to reserve from a shared allocator, and what is left of its quota.
 ///
 /// [`share`](crate::share) makes them, and [`Shared::close`](crate::Shared::close) takes them back.
 /// A caller that reserves in a thread of its own takes one with it.
@@ -56,15 +56,15 @@ impl Reserver {
         }
     }
 
-    /// Which of the reservers it is: its position in the list that `share` gave, from 0.
+    /// Returns its number: its position in the list that `share` returned, counted from 0.
     pub fn number(&self) -> usize
         ensures { result ≡ self.now.own.number }
     {
         self.number
     }
 
-    /// How many handles it may still request in this phase: [`QUOTA`] less what it has requested,
-    /// served or not.
+    /// Returns the number of handles that it can still request in this phase: [`QUOTA`] minus those
+    /// that it has requested, served or not.
     pub fn left(&self) -> u64
         ensures left { result ≡ self.now.own.left }
         ensures quota { result + requested_by self.now.own ≡ quota }

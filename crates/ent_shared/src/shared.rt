@@ -85,14 +85,15 @@ impl Shared {
     ghost use Rattle.ent_alloc.specs.Sequential.{listed_alone};
     ghost use Rattle.ent_shared.specs.Replies.{Reserves};
 
-    /// How many reservers `share` made for it.
+    /// Returns the number of reservers that `share` made for it.
     pub fn count(&self) -> usize
         ensures { result ≡ self.now.count }
     {
         self.count
     }
 
-    /// The allocator as it was when the phase was opened. It doesn't change until the close.
+    /// Returns the allocator as it was when the phase was opened. It doesn't change until the
+    /// close.
     pub fn opened(&self) -> &Entities
         ensures start { result.now.allocator ≡ self.now.start }
         ensures rows { result.now.rows ≡ self.now.rows }
@@ -100,28 +101,29 @@ impl Shared {
         &self.entities
     }
 
-    /// Whether the handle was alive when the phase was opened. It takes constant time.
+    /// Returns `true` if the handle was alive when the phase was opened. It takes constant time.
     pub fn is_alive(&self, handle: Handle) -> bool
         ensures { result ≡ set.contains self.now.start.live handle }
     {
         self.entities.is_alive(handle)
     }
 
-    /// How many handles were alive when the phase was opened.
+    /// Returns the number of handles that were alive when the phase was opened.
     pub fn len(&self) -> u32
         ensures { result ≡ set.len self.now.start.live }
     {
         self.entities.len()
     }
 
-    /// Whether no handle was alive when the phase was opened.
+    /// Returns `true` if no handle was alive when the phase was opened.
     pub fn is_empty(&self) -> bool
         ensures { IsTrue result ↔ (set.len self.now.start.live ≡ 0) }
     {
         self.entities.is_empty()
     }
 
-    /// The handles that were alive when the phase was opened, by rising slot.
+    /// Returns an iterator over the handles that were alive when the phase was opened, in slot
+    /// order.
     pub fn iter(&self) -> Living<'_>
         ensures living { set.from_list result ≡ self.now.start.live }
         ensures rising { AllPairs (λ g h. g.index < h.index) result }
@@ -130,16 +132,15 @@ impl Shared {
         self.entities.iter()
     }
 
-    /// How many handles the pool had when the phase was opened. It never has more.
+    /// Returns the number of handles in the pool when the phase was opened. It never has more.
     pub fn pool(&self) -> u64
         ensures { result ≡ length self.now.start.pool }
     {
         u64::from(self.entities.top()) + u64::from(self.entities.room())
     }
 
-    /// The row that the program kept with the entity when the phase was opened. `None` if the
-    /// handle was not alive then, or if no row was set since it came to life. It takes constant
-    /// time.
+    /// Returns the row that the entity had when the phase was opened, or `None` if the handle
+    /// wasn't alive then, or if no row was set since it came to life. It takes constant time.
     pub fn row(&self, handle: Handle) -> Option<u32>
         ensures value { result ≡ map.get self.now.rows handle }
         ensures alive { OnSome result (set.contains self.now.start.live handle ≡ true) }
@@ -147,7 +148,7 @@ impl Shared {
         self.entities.row(handle)
     }
 
-    /// Reserves one handle, by one atomic step. It takes no memory, and never waits.
+    /// Reserves one handle, by one atomic step. It neither allocates nor waits.
     ///
     /// The handle is what the allocator would have given to one caller at that moment.
     ///
@@ -182,8 +183,8 @@ impl Shared {
         Ok(handle)
     }
 
-    /// Reserves `n` handles at once, by one atomic step. It takes no memory, and never waits. A
-    /// request for 0 makes no step and is always served.
+    /// Reserves `n` handles at once, by one atomic step. It neither allocates nor waits. A request
+    /// for 0 makes no step and is always served.
     ///
     /// The handles are what the allocator would have given to one caller at that moment, in the
     /// order of [`Entities::reply`]. They borrow from the allocator.
@@ -230,7 +231,7 @@ impl Shared {
     }
 
     /// Orders two reservers: every later reservation by `a` comes after everything that `b` has
-    /// reserved or learned of so far. It makes two atomic steps, takes no memory, and never waits.
+    /// reserved or learned of so far. It makes two atomic steps, and neither allocates nor waits.
     pub fn meet(&self, a: &mut Reserver, b: &mut Reserver)
         requires first { IsOf self.now a.old }
         requires second { IsOf self.now b.old }
@@ -247,7 +248,7 @@ impl Shared {
     }
 
     /// Ends the phase with all its reservers. The allocator is as if their reservations had been
-    /// made one by one, in the order of their atomic steps. It takes no memory.
+    /// made one by one, in the order of their atomic steps. It doesn't allocate.
     pub fn close(self, reservers: Vec<Reserver>) -> Entities
         requires all { length reservers.items ≡ self.count }
         requires own { All (IsOf self) reservers.items }
@@ -290,7 +291,7 @@ impl Shared {
     /// Ends the phase although some reservers may be lost. The cursor tells how many handles were
     /// requested in all, but not which of the lost reservers' requests were refused. So the front
     /// of the pool counts as reserved, as far as it goes, including handles that no caller got. It
-    /// takes no memory.
+    /// doesn't allocate.
     pub fn close_lost(self, reservers: Vec<Reserver>) -> Entities
         requires own { All (IsOf self) reservers.items }
         ensures after { result.allocator ≡ after_loss self.start result.allocator.asked }

@@ -23,7 +23,7 @@ pub use Rattle.std.proofs.lemmas.List.{get_or_append_left, get_or_default, get_o
 pub use Rattle.std.proofs.lemmas.List.{length-append, length-map, length-replicate, length-set}
 pub use Rattle.std.proofs.lemmas.List.{length-take, length-take-le, length_push, map-set, map_more}
 pub use Rattle.std.proofs.lemmas.List.{map_push, nil_from_length, same_lists, take-append-drop}
-pub use Rattle.std.proofs.lemmas.List.{take_all, take_more, take_more_set}
+pub use Rattle.std.proofs.lemmas.List.{set_at, take_all, take_more, take_more_set}
 pub use Rattle.std.proofs.lemmas.List.Concat.{flat_map-append}
 pub use Rattle.std.proofs.lemmas.List.Edits.{get_or-insert_above, get_or-insert_at}
 pub use Rattle.std.proofs.lemmas.List.Edits.{get_or-insert_below, insert_end, length-insert}

@@ -204,9 +204,22 @@ module _ {X : Type 0} where
       → entries_from 0 (padded slots count) ≡ entries_from 0 slots
   entries_padded slots count = entries_more 0 slots (count - length slots)
 
+  pub map_more : (slots : List (Slot X)) (count : ℕ)
+      → map_of_slots (slots ++ replicate count Vacant) ≡ map_of_slots slots
+  map_more slots count = search (rules, entries_more)
+
   pub map_padded : (slots : List (Slot X)) (count : ℕ)
       → map_of_slots (padded slots count) ≡ map_of_slots slots
-  map_padded slots count = search (rules, entries_padded)
+  map_padded slots count = map_more slots (count - length slots)
+
+  -- ---- a slot with a value behind
+
+  pub entries_pushed : (index : ℕ) (slots : List (Slot X)) (generation : ℕ) (value : X)
+      → length (entries_from index (slots ++ Occupied generation value ∷ []))
+      ≡ length (entries_from index slots) + 1
+  entries_pushed index [] generation value = refl
+  entries_pushed index (slot ∷ slots) generation value =
+      search (rules, entries_pushed (index + 1) slots generation value)
 
   -- ---- in pairs
 

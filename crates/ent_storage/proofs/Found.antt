@@ -1,15 +1,16 @@
 -- The slot of a handle that has a value.
-use Rattle.ent_storage.proofs.Common.{common_steps, rules, ◌≡◌, ℕ, ◌+◌, ◌-◌, ◌<◌, ◌≤◌, ◌^◌, true}
+use Rattle.ent_storage.proofs.Common.{common_steps, rules, ◌≡◌, ◌≢◌, ℕ, ◌+◌, ◌-◌, ◌<◌, ◌≤◌, ◌^◌, true}
 use Rattle.ent_storage.proofs.Common.{false, List, [], ◌∷◌, length, get_or, set, Some, is_some}
-use Rattle.ent_storage.proofs.Common.{refl, ap, arith, true≢false, cases_lt, eq-eqb, get_or_past}
+use Rattle.ent_storage.proofs.Common.{refl, sym, ap, ◌∙◌, ◌++◌, arith, true≢false, cases_lt}
+use Rattle.ent_storage.proofs.Common.{eq-eqb, get_or_past, set_at}
 use Rattle.ent_storage.proofs.Common.{length-append, length-replicate, get_or_default, Handle}
 use Rattle.ent_storage.proofs.Common.{handle_cmp_total, handle_cmp-IsAntisymmetric, HandleValues}
 use Rattle.ent_storage.proofs.Common.{without_slot, HasLater, value_under, slot_at, entries_from}
 use Rattle.ent_storage.proofs.Common.{map_of_slots, count_at, AreCounted, padded, generation_of}
-use Rattle.ent_storage.proofs.Common.{Slot, Vacant, Occupied, fin_get, fin_insert, fin_remove}
+use Rattle.ent_storage.proofs.Common.{Slot, Vacant, Occupied, None, fin_get, fin_insert, fin_remove}
 use Rattle.ent_storage.proofs.Common.{fin_same_map, length-set}
 use Rattle.ent_storage.proofs.Entries.{HasValue, get_map, length-set_slot, map_padded, map-put}
-use Rattle.ent_storage.proofs.Entries.{entries_padded}
+use Rattle.ent_storage.proofs.Entries.{entries_padded, entries_pushed, map_more}
 use Rattle.ent_storage.proofs.Keys.{remove_tells}
 
 module _ {X : Type 0} where
@@ -92,20 +93,74 @@ module _ {X : Type 0} where
   pub few_values : (slots : List (Slot X)) (count : ℕ) → AreCounted 0 slots count → count < 2 ^ 32
   few_values slots count are = omega (arith, are.few, are.counted, length-entries_le 0 slots)
 
-  module _ (slots all : List (Slot X)) (h : Handle) (index : ℕ) (before after : Slot X) (value : X)
-      (at : index ≡ h.index) (is : all ≡ padded slots (index + 1))
-      (was : before ≡ get_or all index before)
+  one_value : (slot : Slot X) → count_at slot ≢ 0 → count_at slot ≡ 1
+  one_value Vacant some = absurd (some refl)
+  one_value (Occupied generation value) some = refl
+
+  module _ (slots : List (Slot X)) (h : Handle) (index : ℕ) (before after : Slot X) (value : X)
+      (at : index ≡ h.index) (within : index < length slots)
+      (was : before ≡ get_or slots index before)
       (written : after ≡ Occupied h.generation value) where
     pub put-map : (values : HandleValues X) → map_of_slots slots ≡ values
-        → map_of_slots (set all index after) ≡ fin_insert (without_slot values h.index) h value
-    put-map values stands = search (rules, map-put, map_padded, length-append, length-replicate)
+        → map_of_slots (set slots index after) ≡ fin_insert (without_slot values h.index) h value
+    put-map values stands = search (rules, map-put)
 
     pub put-before : (values : HandleValues X) → map_of_slots slots ≡ values
         → value_under before h.generation ≡ fin_get values h
-    put-before values stands =
-        grind (arith, common_steps, get_map, read, map_padded, length-append, length-replicate)
+    put-before values stands = grind (arith, common_steps, get_map, read)
 
-    pub put-counted : (count lacking : ℕ) → AreCounted 0 slots count → index < 2 ^ 32 - 1
-        → lacking + count_at before ≡ 1 → AreCounted 0 (set all index after) (count + lacking)
-    put-counted count lacking are fits one = search
-        (rules, length-set_slot, read, entries_padded, length-set, length-append, length-replicate)
+    pub put-added : (count : ℕ) → AreCounted 0 slots count → count_at before ≡ 0
+        → AreCounted 0 (set slots index after) (count + 1)
+    put-added count are none = search (rules, length-set_slot, read, length-set)
+
+    pub put-kept : (count : ℕ) → AreCounted 0 slots count → count_at before ≢ 0
+        → AreCounted 0 (set slots index after) count
+    put-kept count are some =
+        search (rules, length-set_slot, read, length-set, one_value before some)
+
+  -- a vacant slot has no value of any handle
+  pub none_under : (slot : Slot X) (generation : ℕ) → count_at slot ≡ 0
+      → value_under slot generation ≡ None
+  none_under Vacant generation is = refl
+  none_under (Occupied other value) generation is = absurd (omega (arith, is))
+
+  -- ---- slots are added
+
+  -- vacant ones
+  pub counted-padded : (slots all : List (Slot X)) (index count : ℕ) → all ≡ padded slots index
+      → length slots ≤ index → index < 2 ^ 32 → AreCounted 0 slots count → AreCounted 0 all count
+  counted-padded slots all index count is past few are =
+      search (rules, entries_padded, length-append, length-replicate)
+
+  -- the next one, with the value of a handle
+  module _ (slots all : List (Slot X)) (h : Handle) (value : X) (at : length slots ≡ h.index)
+      (is : all ≡ slots ++ Occupied h.generation value ∷ []) where
+    abbrev more : List (Slot X)
+    more = slots ++ Vacant ∷ []
+
+    made_next : all ≡ set more h.index (Occupied h.generation value)
+    made_next = is ∙ sym (set_at slots Vacant [] (Occupied h.generation value) h.index at)
+
+    within_more : h.index < length more
+    within_more = omega (arith, at, length-append slots (Vacant ∷ []))
+
+    pub pushed-map : (values : HandleValues X) → map_of_slots slots ≡ values
+        → map_of_slots all ≡ fin_insert (without_slot values h.index) h value
+    pushed-map values stands = ap map_of_slots made_next ∙ map-put more h value within_more
+        ∙ ap (λ (m : HandleValues X). fin_insert (without_slot m h.index) h value)
+        (map_more slots 1 ∙ stands)
+
+    pub pushed-counted : (count : ℕ) → h.index < 2 ^ 32 - 1 → AreCounted 0 slots count
+        → AreCounted 0 all (count + 1)
+    pushed-counted count few are = record {
+      few = omega (
+        arith,
+        few,
+        at,
+        ap length is,
+        length-append slots (Occupied h.generation value ∷ []),
+      );
+      counted = ap (λ n. n + 1) are.counted
+          ∙ sym (ap (λ (s : List (Slot X)). length (entries_from 0 s)) is
+          ∙ entries_pushed 0 slots h.generation value);
+    }

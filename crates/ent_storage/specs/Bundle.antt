@@ -7,7 +7,7 @@ use Rattle.std.specs.FinMap.{is_sorted, put}
 use Rattle.ent_handle.specs.declared.component.ComponentId.{ComponentId}
 use Rattle.ent_handle.specs.Component.{component_cmp}
 
--- components and their values, by strictly rising number
+-- components and their values, in strictly ascending order of number
 abbrev pub Bundle : Type 0
 Bundle = List (ComponentId × ℤ)
 

@@ -12,8 +12,8 @@ use Rattle.ent_storage.specs.declared.image_fault.StorageImageFault.TheVariants.
 use Rattle.ent_storage.specs.declared.image_fault.StorageImageFault.TheVariants.{Entity}
 use Rattle.ent_storage.specs.declared.image_fault.StorageImageFault.TheVariants.{Memory}
 
--- The bytes begin with those of the first entities, so many, after a width that there may be. What
--- is left is told by them.
+-- The bytes begin with those of that many entities, the first ones, after a possible width. They
+-- determine what is left.
 pub record AreFirst (handles : List Handle) (bytes : List ℕ) (count : ℕ) : Type 0 where
   pub width : ℕ
   pub few : width ≤ 256
@@ -37,8 +37,8 @@ abbrev pub IsNoEntity : ℕ → List ℕ → Handle → Type 0
 IsNoEntity width bytes h = (m : EntityMap) (rest : List ℕ) → IsStored m h
     → bytes ≢ entity_bytes width m h ++ rest
 
--- Too few bytes for a width, or bytes behind the entities; a width that there may not be, or not
--- that of the entities; or behind the first entities, so many, the bytes of no entity.
+-- Too few bytes for a width, or bytes behind the entities; an impossible width, or not that of the
+-- entities; or, after that many entities, bytes that are no entity's.
 abbrev pub HasFault : List Handle → List ℕ → StorageImageFault → Type 0
 HasFault handles bytes Length =
     (length bytes < 4) ⊎ ((all : AreFirst handles bytes (length handles)) × (all.left ≢ []))

@@ -30,7 +30,7 @@ handle_map_code {T} code =
     (λ m. (m.values, (m.slots, (m.room, m.limit))))
     (λ p. record { values = p.0; slots = p.1.0; room = p.1.1.0; limit = p.1.1.1 }) (λ _. refl)
 
--- the limit of a map that has none: as many as there are slots
+-- the limit of a map that has none: the greatest number of slots
 abbrev pub no_limit : ℕ
 no_limit = 2 ^ 32 - 1
 

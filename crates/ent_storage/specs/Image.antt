@@ -27,7 +27,7 @@ value_bytes (Some v) = 1 ∷ long (cast_unsigned w64 v)
 abbrev pub component : ℕ → ComponentId
 component number = record { 0 = number }
 
--- the values of the first components, by rising number
+-- the values of the first components, in ascending order of number
 abbrev pub values_bytes : (ComponentId → Option ℤ) → ℕ → List ℕ
 values_bytes value width =
     flat_map (λ number. value_bytes (value (component number))) (range_with_len 0 width)
@@ -66,7 +66,7 @@ pub record IsBirth (b : Birth) : Type 0 where
   pub system : b.system < 2 ^ 32
   pub ordinal : b.ordinal < 2 ^ 32
 
--- The entity is there, and its numbers fit. So it is with each entity of a storage.
+-- The entity is there, and its numbers fit, as those of each entity of a storage do.
 pub record IsStored (m : EntityMap) (h : Handle) : Type 0 where
   pub birth : IsSomeAnd (birth_of m h) IsBirth
   pub numbered : (id : ComponentId) (v : ℤ) → value_of m h id ≡ Some v → id.0 < 256

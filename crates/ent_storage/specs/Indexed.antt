@@ -40,7 +40,7 @@ abbrev pub counted : List LivingEntity → finite.FinMap handle_cmp ℕ → fini
 counted living index =
     finite.retain_keys index (λ h. has_handle_at living h (finite.get index h))
 
--- a pair stands at that position of an index, and it does not count
+-- there is a pair at that position of an index, and it does not count
 pub record IsFree (living : List LivingEntity) (pairs : List (Handle × ℕ)) (position : ℕ)
     : Type 0 where
   pub inside : position < length pairs

@@ -1,4 +1,4 @@
--- The handle that stands for a map's limit.
+-- The handle that represents a map's limit.
 use Rattle.std.specs.Prelude.{◌≡◌, ℕ, ◌==◌, ◌⊎◌, if◌then◌else◌}
 use Rattle.ent_handle.specs.Handle.{Handle, IsHandle}
 use Rattle.ent_storage.specs.HandleMap.{no_limit, placeholder}

@@ -1,4 +1,4 @@
--- The living entities place by place, and the residents and columns that stand for them.
+-- The living entities place by place, and the residents and columns that represent them.
 use Rattle.std.specs.Prelude.{◌≡◌, ◌≢◌, ◌+◌, ◌-◌, ◌<◌, ◌≤◌, ℕ, zero, suc, ℤ, List, [], ◌∷◌, length}
 use Rattle.std.specs.Prelude.{Option, None, Some, refl, ◌⊎◌, Contains}
 use Rattle.std.specs.List.{All, AllPairs}
@@ -83,7 +83,7 @@ pub record AreColumnsOf (count : ℕ) (columns : List Column) : Type 0 where
       → value_at columns place id ≡ None
   pub numbered : length columns ≤ 256
 
--- the columns in use by their rising numbers, and no other column has values or room
+-- the columns in use, in ascending order of number, and no other column has values or room
 pub record AreInUse (used : List ℕ) (columns : List Column) : Type 0 where
   pub inside : All (λ number. number < length columns) used
   pub rising : AllPairs (λ a b. a < b) used

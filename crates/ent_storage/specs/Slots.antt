@@ -1,4 +1,4 @@
--- The vector of slots that stands for a map.
+-- The vector of slots that represents a map.
 use Rattle.std.specs.Prelude.{◌≡◌, ℕ, ◌+◌, ◌-◌, ◌<◌, ◌^◌, ◌==◌, if◌then◌else◌, List, [], ◌∷◌, ◌++◌}
 use Rattle.std.specs.Prelude.{length, replicate, slice_index_or, Option, None, Some}
 use Rattle.std.specs.Bool.{⊤}
@@ -36,7 +36,7 @@ module _ {T : Type 0} where
   value_under Vacant wanted = None
   value_under (Occupied generation value) wanted = if generation == wanted then Some value else None
 
-  -- what stands in the slot of an index
+  -- what is in the slot of an index
   abbrev pub slot_at : List (Slot T) → ℕ → Slot T
   slot_at slots index = slice_index_or slots index Vacant
 
@@ -51,7 +51,7 @@ module _ {T : Type 0} where
   entries_from index (Occupied generation value ∷ slots) =
       (record { index = index; generation = generation }, value) ∷ entries_from (index + 1) slots
 
-  -- the map that the slots stand for
+  -- the map that the slots represent
   abbrev pub map_of_slots : List (Slot T) → HandleValues T
   map_of_slots slots = map.from_sorted (entries_from 0 slots)
 
@@ -59,7 +59,7 @@ module _ {T : Type 0} where
   abbrev pub padded : List (Slot T) → ℕ → List (Slot T)
   padded slots count = slots ++ replicate (count - length slots) Vacant
 
-  -- the slots from an index on are those of handles, and so many have a value
+  -- the slots from an index on are those of handles, and that many have a value
   pub record AreCounted (index : ℕ) (slots : List (Slot T)) (count : ℕ) : Type 0 where
     pub few : index + length slots < 2 ^ 32
     pub counted : count ≡ length (entries_from index slots)

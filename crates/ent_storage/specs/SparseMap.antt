@@ -1,4 +1,4 @@
--- What contracts see of a sparse map, and the two vectors that stand for it.
+-- What contracts see of a sparse map, and the two vectors that represent it.
 use Rattle.std.specs.Prelude.{◌≡◌, ◌≢◌, ℕ, ◌<◌, ◌≤◌, ◌^◌, ◌⊎◌, List, Some, length, slice_get, refl}
 use Rattle.std.specs.Coded.{Coded, code_by, coded×, coded_ℕ}
 use Rattle.std.specs.Prelude.{Option, None, IsSome, cond, is_some}

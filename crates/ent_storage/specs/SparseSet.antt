@@ -1,4 +1,4 @@
--- The values of one component: a finite map from places, and the two vectors that stand for it.
+-- The values of one component: a finite map from places, and the two vectors that represent it.
 use Rattle.std.specs.Prelude.{◌≡◌, ◌≢◌, ℕ, ℤ, ◌<◌, ◌≤◌, ◌⊎◌, List, None, Some, slice_get, refl}
 use Rattle.std.specs.Coded.{Coded, code_by, coded×, coded_ℕ, coded_ℤ}
 use Rattle.std.specs.Ordering.{nat_cmp}
@@ -44,7 +44,7 @@ no_column = record {
   place_room = 0;
 }
 
--- each pair of the dense vector stands where the sparse vector says at the pair's place
+-- each pair of the dense vector is where the sparse vector says at the pair's place
 pub record IsDense (dense : List (ℕ × ℤ)) (sparse : List ℕ) : Type 0 where
   pub entry : (k p : ℕ) (v : ℤ) → slice_get dense k ≡ Some (p, v) → slice_get sparse p ≡ Some k
 

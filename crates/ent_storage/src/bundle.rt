@@ -11,10 +11,10 @@ use smallvec::SmallVec;
 use std::alloc::Global;
 use std::marker::Model;
 
-/// Components and their values, by strictly rising number: what an entity is given. Contracts see
-/// the list of them.
+/// Components and their values, in strictly ascending order of number: what an entity is given.
+/// Contracts see it as a list.
 ///
-/// Up to `INLINE` components lie in the bundle itself, and take no memory.
+/// Up to `INLINE` components are stored in the bundle itself, without an allocation.
 ///
 /// ```
 /// use forgeni::{Bundle, ComponentId};
@@ -45,7 +45,16 @@ impl<const INLINE: usize> Model for Bundle<INLINE> {
 }
 
 impl<const INLINE: usize> Bundle<INLINE> {
-    /// A bundle with no components. It takes no memory.
+    /// Creates a bundle without components. It doesn't allocate.
+    ///
+    /// ```
+    /// use forgeni::{Bundle, ComponentId};
+    ///
+    /// let mut spark = Bundle::new();
+    /// spark.put(ComponentId(0), 900)?;
+    /// assert_eq!(spark.items(), [(ComponentId(0), 900)]);
+    /// # Ok::<(), forgeni::OutOfMemory>(())
+    /// ```
     #[must_use]
     pub fn new(alloc: Global) -> Self
         ensures { result ≡ [] }
@@ -55,7 +64,19 @@ impl<const INLINE: usize> Bundle<INLINE> {
         }
     }
 
-    /// A bundle with no components, and room for that many.
+    /// Creates a bundle without components, with room for that many.
+    ///
+    /// ```
+    /// use forgeni::{Bundle, ComponentId};
+    ///
+    /// let mut all = Bundle::with_capacity(10)?;
+    /// for number in 0..10 {
+    ///     // There is room, so this doesn't allocate.
+    ///     all.put(ComponentId(number), 0)?;
+    /// }
+    /// assert_eq!(all.items().len(), 10);
+    /// # Ok::<(), forgeni::OutOfMemory>(())
+    /// ```
     ///
     /// # Errors
     ///
@@ -69,8 +90,17 @@ impl<const INLINE: usize> Bundle<INLINE> {
         })
     }
 
-    /// A bundle of these components. The list may be in any order. If a component is in it twice,
-    /// its last value counts.
+    /// Creates a bundle of these components. The list may be in any order. If a component is listed
+    /// twice, its last value counts.
+    ///
+    /// ```
+    /// use forgeni::{Bundle, ComponentId};
+    ///
+    /// let [mass, speed] = [ComponentId(0), ComponentId(1)];
+    /// let ball = Bundle::of(&[(speed, 1), (mass, 3), (speed, 2)])?;
+    /// assert_eq!(ball.items(), [(mass, 3), (speed, 2)]);
+    /// # Ok::<(), forgeni::OutOfMemory>(())
+    /// ```
     ///
     /// # Errors
     ///
@@ -91,6 +121,16 @@ impl<const INLINE: usize> Bundle<INLINE> {
 
     /// Sets the component's value. If the component is there already, this value replaces its own.
     ///
+    /// ```
+    /// use forgeni::{Bundle, ComponentId};
+    ///
+    /// let mass = ComponentId(0);
+    /// let mut ball = Bundle::of(&[(mass, 3)])?;
+    /// ball.put(mass, 4)?;
+    /// assert_eq!(ball.items(), [(mass, 4)]);
+    /// # Ok::<(), forgeni::OutOfMemory>(())
+    /// ```
+    ///
     /// # Errors
     ///
     /// Out of memory, only if the component isn't there and at least `INLINE` others are. Nothing
@@ -109,7 +149,15 @@ impl<const INLINE: usize> Bundle<INLINE> {
         Ok(())
     }
 
-    /// The components and their values, by strictly rising number.
+    /// Returns the components and their values, in strictly ascending order of number.
+    ///
+    /// ```
+    /// use forgeni::{Bundle, ComponentId};
+    ///
+    /// let ball = Bundle::of(&[(ComponentId(7), 2), (ComponentId(3), 1)])?;
+    /// assert!(ball.items().iter().map(|(id, _)| id.0).eq([3, 7]));
+    /// # Ok::<(), forgeni::OutOfMemory>(())
+    /// ```
     #[must_use]
     pub fn items(&self) -> &[(ComponentId, i64)]
         ensures items { result.now ≡ self.now }

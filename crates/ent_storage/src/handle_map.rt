@@ -9,7 +9,7 @@ ghost use Rattle.std.specs.FinMap as map;
 ghost use Rattle.ent_handle.specs.Handle.{Handle};
 ghost use Rattle.ent_storage.specs.HandleMap.{no_limit, IsBeyond, without_slot, HasLater, error_of};
 ghost use Rattle.ent_storage.specs.Retained.{Retains};
-ghost use Rattle.ent_storage.specs.Slots.{generation_of, slot_at, value_in};
+ghost use Rattle.ent_storage.specs.Slots.{value_in};
 
 mod emptying;
 mod entry;
@@ -27,7 +27,7 @@ pub use crate::handle_map::error::InsertError;
 pub use crate::handle_map::iter::Iter;
 pub use crate::handle_map::keys::Keys;
 use crate::handle_map::retaining::retain_slots;
-use crate::handle_map::slot::{Slot, append_clones, make_slot};
+use crate::handle_map::slot::{Slot, add_slots, append_clones};
 pub use crate::handle_map::values::Values;
 use crate::limit::Limit;
 use ent_handle::{HandedBack, Handle, Memory};
@@ -35,8 +35,8 @@ use std::alloc::Global;
 use std::marker::Model;
 use std::mem;
 
-/// A value of any type for each of some handles: a component. At most one handle of a slot has a
-/// value.
+/// A map from handles to values of any type, for a component that many entities have. At most one
+/// handle of a slot has a value.
 ///
 /// It is what this package recommends for components: one map for each type, beside an
 /// [`Entities`](forgeni::Entities) or in what a program calls its world. A look-up is one access to
@@ -46,6 +46,21 @@ use std::mem;
 /// It does not know which handles an allocator has given or freed. A value that isn't removed stays
 /// until a later occupant of its slot gets one, and that occupant's handle doesn't find it.
 /// [`Follows::despawn`](forgeni::Follows::despawn) frees an entity and removes its value.
+///
+/// ```
+/// use forgeni::{Entities, HandleMap};
+///
+/// let mut entities = Entities::new();
+/// let mut names = HandleMap::new();
+/// let cart = entities.alloc()?;
+/// names.insert(cart, "cart")?;
+/// assert_eq!(names.get(cart), Some(&"cart"));
+/// assert_eq!(names.remove(cart), Some("cart"));
+/// assert_eq!(names.get(cart), None);
+/// # Ok::<(), Box<dyn std::error::Error + Send + Sync>>(())
+/// ```
+///
+/// An entity can have a value in each of several maps:
 ///
 /// ```
 /// use forgeni::{Entities, HandleMap};
@@ -66,18 +81,14 @@ use std::mem;
 ///     body.place[0] += body.speed[0];
 ///     body.place[1] += body.speed[1];
 /// });
-/// assert_eq!(bodies[ball].place, [1.0, 2.0]);
-///
-/// entities.free(ball)?;
-/// assert_eq!(names.remove(ball), Some("ball"));
-/// assert!(!names.contains(ball));
+/// assert_eq!((names[ball], bodies[ball].place), ("ball", [1.0, 2.0]));
 /// # Ok::<(), Box<dyn std::error::Error + Send + Sync>>(())
 /// ```
 ///
-/// **A handle from a save or a network can make the map take much memory.** The map takes room for
-/// all slots up to the handle's index, and `200000000v1` is a well-formed handle. So give a map for
-/// such handles a [limit](Self::with_limit). The map refuses each handle whose slot is at or above
-/// the limit:
+/// **A handle from a save or a network can make the map take a lot of memory.** The map takes room
+/// for all slots up to the handle's index, and `200000000v1` is a well-formed handle. So give a map
+/// for such handles a [limit](Self::with_limit). The map refuses each handle whose slot is at or
+/// above the limit:
 ///
 /// ```
 /// use forgeni::{Entities, Handle, HandleMap, InsertError};
@@ -92,8 +103,8 @@ use std::mem;
 /// # Ok::<(), Box<dyn std::error::Error + Send + Sync>>(())
 /// ```
 ///
-/// A value takes 4 bytes more than its size, for its generation, and what alignment adds. A slot
-/// has 8 bytes for values of up to 4 bytes, and 16 bytes for values of 8.
+/// A slot takes the size of a value, 4 bytes for the generation, and what alignment adds: 8 bytes
+/// for values of up to 4 bytes, and 16 bytes for values of 8.
 ///
 /// Contracts see a finite map from handles to values (`values`), how many slots there are
 /// (`slots`), for how many slots there is room (`room`), and for how many slots there may be values
@@ -128,7 +139,7 @@ impl<T> Model for HandleMap<T> {
 impl<T> HandleMap<T> {
     ghost use Rattle.ent_storage.specs.Lends.{lends_get, lends_value};
 
-    /// A map without values, and without a limit. It takes no memory.
+    /// Creates a map without values and without a limit. It doesn't allocate.
     ///
     /// ```
     /// use forgeni::HandleMap;
@@ -148,8 +159,8 @@ impl<T> HandleMap<T> {
         HandleMap::with_limit(alloc, u32::MAX)
     }
 
-    /// A map without values, which refuses each handle whose slot is at or above this limit. It
-    /// takes no memory.
+    /// Creates a map without values, which refuses each handle whose slot is at or above this
+    /// limit. It doesn't allocate.
     ///
     /// [`Entities::total`](forgeni::Entities::total) is a limit that fits an allocator as long as
     /// it makes no new slots. [`set_limit`](Self::set_limit) changes the limit.
@@ -174,8 +185,8 @@ impl<T> HandleMap<T> {
         }
     }
 
-    /// A map without values and without a limit, with room for exactly that many slots. For 0 slots
-    /// it takes no memory.
+    /// Creates a map without values and without a limit, with room for exactly that many slots. For
+    /// 0 slots it doesn't allocate.
     ///
     /// ```
     /// use forgeni::{Entities, HandleMap};
@@ -184,7 +195,7 @@ impl<T> HandleMap<T> {
     /// let all = entities.alloc_many(1_000)?;
     /// let mut healths = HandleMap::with_capacity(entities.total() as usize)?;
     /// for one in all {
-    ///     // There is room, so this takes no memory.
+    ///     // There is room, so this doesn't allocate.
     ///     healths.insert(one, 100)?;
     /// }
     /// assert_eq!(healths.capacity(), 1_000);
@@ -208,8 +219,8 @@ impl<T> HandleMap<T> {
         })
     }
 
-    /// For how many slots the map may have values, from slot 0 on: 4,294,967,295, which is no
-    /// limit, or the limit that was set.
+    /// Returns the limit: for how many slots, from slot 0 on, the map takes values. It is the limit
+    /// that was set, or 4,294,967,295, which is no limit.
     ///
     /// ```
     /// use forgeni::HandleMap;
@@ -245,7 +256,7 @@ impl<T> HandleMap<T> {
         self.limit = Limit::of(limit);
     }
 
-    /// How many values there are. It takes constant time.
+    /// Returns the number of values. It takes constant time.
     ///
     /// ```
     /// use forgeni::HandleMap;
@@ -264,7 +275,7 @@ impl<T> HandleMap<T> {
         self.len
     }
 
-    /// Whether there is no value.
+    /// Returns `true` if the map has no values.
     ///
     /// ```
     /// use forgeni::HandleMap;
@@ -283,8 +294,8 @@ impl<T> HandleMap<T> {
         self.len() == 0
     }
 
-    /// How many slots there is room for. Inserting a handle whose index is below it takes no
-    /// memory.
+    /// Returns the number of slots that there is room for. Inserting a handle with an index below
+    /// it doesn't allocate.
     ///
     /// ```
     /// use forgeni::{Handle, HandleMap};
@@ -303,8 +314,8 @@ impl<T> HandleMap<T> {
         self.slots.capacity()
     }
 
-    /// How many slots there are. They reach up to the slot with the greatest index of those that
-    /// were given a value since the map was made or cleared.
+    /// Returns the number of slots. The last one is the slot with the greatest index among those
+    /// that were given a value since the map was made or cleared.
     ///
     /// ```
     /// use forgeni::HandleMap;
@@ -327,7 +338,7 @@ impl<T> HandleMap<T> {
         self.slots.len()
     }
 
-    /// Whether the handle has a value. It takes constant time.
+    /// Returns `true` if the handle has a value. It takes constant time.
     ///
     /// ```
     /// use forgeni::HandleMap;
@@ -345,7 +356,7 @@ impl<T> HandleMap<T> {
         self.get(handle).is_some()
     }
 
-    /// The value of the handle, if it has one. It takes constant time.
+    /// Returns a reference to the handle's value, if it has one. It takes constant time.
     ///
     /// ```
     /// use forgeni::{Entities, HandleMap};
@@ -367,7 +378,7 @@ impl<T> HandleMap<T> {
         find(&self.slots, handle)
     }
 
-    /// The value of the handle, if it has one, to be changed. It takes constant time.
+    /// Returns a mutable reference to the handle's value, if it has one. It takes constant time.
     ///
     /// ```
     /// use forgeni::HandleMap;
@@ -405,8 +416,8 @@ impl<T> HandleMap<T> {
         self.slots[handle.index() as usize].value_mut()
     }
 
-    /// Makes room for that many slots more than there [are](Self::slots), as `Vec::reserve` does.
-    /// It takes no memory if there is room.
+    /// Makes room for that many more slots than there [are](Self::slots), like `Vec::reserve`. It
+    /// doesn't allocate if there is room.
     ///
     /// ```
     /// use forgeni::{Handle, HandleMap};
@@ -435,8 +446,8 @@ impl<T> HandleMap<T> {
         Ok(())
     }
 
-    /// Frees the room that no slot needs, as `Vec::shrink_to_fit` does. If there is no memory to
-    /// move the slots to, the room stays.
+    /// Frees the room that no slot needs, like `Vec::shrink_to_fit`. If there isn't enough memory
+    /// to move the slots to, the room stays.
     ///
     /// ```
     /// use forgeni::{Handle, HandleMap};
@@ -456,7 +467,8 @@ impl<T> HandleMap<T> {
         self.slots.shrink_to_fit();
     }
 
-    /// The handles and their values, by rising slot. It takes time for each slot.
+    /// Returns an iterator over the handles and their values, in slot order. It takes time for each
+    /// slot.
     ///
     /// ```
     /// use forgeni::{Entities, HandleMap};
@@ -477,7 +489,7 @@ impl<T> HandleMap<T> {
         Iter::new(&self.slots, self.len)
     }
 
-    /// The handles that have a value, by rising slot.
+    /// Returns an iterator over the handles that have a value, in slot order.
     ///
     /// ```
     /// use forgeni::{Entities, HandleMap};
@@ -496,7 +508,7 @@ impl<T> HandleMap<T> {
         Keys::new(self.iter())
     }
 
-    /// The values, by rising slot.
+    /// Returns an iterator over the values, in slot order.
     ///
     /// ```
     /// use forgeni::HandleMap;
@@ -520,8 +532,8 @@ impl<T: Drop> HandleMap<T> {
     /// Gives the handle a value, and returns the one that it had. If an earlier occupant of the
     /// slot has one, that is dropped.
     ///
-    /// If there is room for the slot ([`capacity`](Self::capacity)), it takes no memory, and
-    /// constant time. If not, it takes memory and time for all slots up to that of the handle.
+    /// If there is room for the slot ([`capacity`](Self::capacity)), it takes constant time and
+    /// doesn't allocate. If not, it takes memory and time for all slots up to that of the handle.
     ///
     /// ```
     /// use forgeni::{Handle, HandleMap, InsertError};
@@ -547,6 +559,7 @@ impl<T: Drop> HandleMap<T> {
     ///   [`Handle::PLACEHOLDER`], which no map takes.
     /// - `Later`: a later occupant of the slot has a value.
     /// - `Memory`: memory ran out.
+    #[inline(always)]
     pub fn insert(
         &mut self,
         handle: Handle,
@@ -571,20 +584,97 @@ impl<T: Drop> HandleMap<T> {
             return Err(HandedBack::new(value, InsertError::Limit));
         }
         let index = index_of(handle);
-        let standing = generation_in(&self.slots, index);
-        if handle.generation() < standing {
+        let made = self.slots.len();
+        if index < made {
+            return self.insert_in_place(index, handle, value);
+        }
+        if made == self.slots.capacity() || index > made {
+            return self.insert_beyond(index, handle, value);
+        }
+        self.insert_next(handle, value);
+        Ok(None)
+    }
+
+    /// `insert` into a slot that there is.
+    #[inline(always)]
+    fn insert_in_place(
+        &mut self,
+        index: usize,
+        handle: Handle,
+        value: T,
+    ) -> Result<Option<T>, HandedBack<T, InsertError>>
+        requires slot { index ≡ handle.index }
+        requires made { index < self.old.slots }
+        ensures ok { OnOk result (self.new ≡ record self.old {
+          values = map.insert (without_slot self.old.values handle.index) handle value;
+        }) }
+        ensures before { IfOk result (λ before. before ≡ map.get self.old.values handle) }
+        ensures later { (error_of result ≡ Some InsertError.Later)
+            ↔ HasLater self.old.values handle }
+        ensures reason { IfErr result (λ refused. refused.error ≡ InsertError.Later) }
+        ensures back { IfErr result (λ refused. refused.value ≡ value) }
+        ensures err { OnErr result (self.new ≡ self.old) }
+    {
+        if handle.generation() < self.slots[index].generation() {
             return Err(HandedBack::new(value, InsertError::Later));
         }
-        let Ok(()) = make_slot(&mut self.slots, index) else {
-            return Err(HandedBack::new(value, InsertError::Memory));
-        };
         let before = mem::replace(&mut self.slots[index], Slot::of(handle, value));
-        self.len += before.lacking();
+        if before.is_vacant() {
+            self.len += 1;
+            return Ok(None);
+        }
         Ok(before.into_value(handle.generation()))
     }
 
-    /// What the map has for the handle: a value, or none. Each call of the entry looks for the
-    /// handle once more.
+    /// `insert` into a slot that isn't the next one, or for which there may be no room. It is
+    /// apart, so that nothing is called for the next slot if there is room.
+    #[cold]
+    #[inline(never)]
+    fn insert_beyond(
+        &mut self,
+        index: usize,
+        handle: Handle,
+        value: T,
+    ) -> Result<Option<T>, HandedBack<T, InsertError>>
+        requires slot { index ≡ handle.index }
+        requires beyond { self.old.slots ≤ index }
+        requires few { index < 2 ^ 32 - 1 }
+        ensures ok { OnOk result (self.new.values
+            ≡ map.insert (without_slot self.old.values handle.index) handle value) }
+        ensures slots { OnOk result (self.new.slots ≡ index + 1) }
+        ensures before { IfOk result (λ before. before ≡ map.get self.old.values handle) }
+        ensures first { ¬ HasLater self.old.values handle }
+        ensures room { self.old.room ≤ self.new.room }
+        ensures kept { self.new.limit ≡ self.old.limit }
+        ensures reason { IfErr result (λ refused. refused.error ≡ InsertError.Memory) }
+        ensures memory { OnErr result (self.old.room ≤ index) }
+        ensures back { IfErr result (λ refused. refused.value ≡ value) }
+        ensures err { OnErr result (self.new ≡ self.old) }
+    {
+        let Ok(()) = add_slots(&mut self.slots, index) else {
+            return Err(HandedBack::new(value, InsertError::Memory));
+        };
+        self.insert_next(handle, value);
+        Ok(None)
+    }
+
+    /// Makes the next slot, with the value of a handle. There has to be room.
+    #[inline(always)]
+    fn insert_next(&mut self, handle: Handle, value: T)
+        requires slot { self.old.slots ≡ handle.index }
+        requires few { handle.index < 2 ^ 32 - 1 }
+        requires room { self.old.slots < self.old.room }
+        ensures { self.new ≡ record self.old {
+          values = map.insert (without_slot self.old.values handle.index) handle value;
+          slots = self.old.slots + 1;
+        } }
+    {
+        self.slots.push_reserved(Slot::of(handle, value));
+        self.len += 1;
+    }
+
+    /// Returns the handle's entry: occupied if the handle has a value, vacant if not. Each call on
+    /// the entry looks the handle up again.
     ///
     /// ```
     /// use forgeni::handle_map::Entry;
@@ -619,8 +709,8 @@ impl<T: Drop> HandleMap<T> {
         }
     }
 
-    /// Removes the value of the handle, and returns it if it had one. It takes constant time and no
-    /// memory.
+    /// Removes the handle's value, and returns it if there was one. It takes constant time and
+    /// doesn't allocate.
     ///
     /// ```
     /// use forgeni::{Handle, HandleMap};
@@ -645,7 +735,7 @@ impl<T: Drop> HandleMap<T> {
         slot.into_value(handle.generation())
     }
 
-    /// Calls `keep` on each value once, by rising slot, and drops the values for which it returns
+    /// Calls `keep` on each value once, in slot order, and drops the values for which it returns
     /// `false`. It may change those that stay. The room stays.
     ///
     /// ```
@@ -667,8 +757,9 @@ impl<T: Drop> HandleMap<T> {
     ///
     /// # Panics
     ///
-    /// A panic of `keep` is handed on. The map then has the values that were kept, those that
-    /// `keep` wasn't called on, and the one on which it panicked, as far as `keep` had changed it.
+    /// A panic in `keep` is propagated. The map then has the values that were kept, those that
+    /// `keep` wasn't called on, and the one on which it panicked, with the changes that `keep` had
+    /// made to it.
     pub fn retain<F: FnMut(Handle, &mut T) -> bool>(&mut self, keep: F)
         requires { F.IsAlwaysCallable keep }
         ensures retained { Retains F.step keep (map.entries self.old.values)
@@ -678,7 +769,7 @@ impl<T: Drop> HandleMap<T> {
         retain_slots(&mut self.slots, &mut self.len, keep);
     }
 
-    /// The handles and their values, by rising slot.
+    /// Returns the handles and their values, in slot order.
     ///
     /// ```
     /// use forgeni::{Handle, HandleMap};
@@ -708,7 +799,7 @@ impl<T: Drop> HandleMap<T> {
     ///
     /// let mut hits = HandleMap::new();
     /// for frame in 0..3 {
-    ///     // From the second frame on it takes no memory.
+    ///     // From the second frame on it doesn't allocate.
     ///     hits.clear();
     ///     hits.insert("99v1".parse()?, frame)?;
     /// }
@@ -724,8 +815,8 @@ impl<T: Drop> HandleMap<T> {
 }
 
 impl<T: Clone> HandleMap<T> {
-    /// A map with a clone of each value, and with the same slots and the same limit. Without slots
-    /// it takes no memory.
+    /// Returns a map with a clone of each value, and with the same slots and the same limit.
+    /// Without slots it doesn't allocate.
     ///
     /// ```
     /// use forgeni::{Handle, HandleMap};
@@ -782,13 +873,13 @@ impl<T: Clone> HandleMap<T> {
     ///
     /// # Errors
     ///
-    /// Out of memory for the slots of the source: nothing has changed. Where a clone may return an
-    /// error, as Rust's may not, also out of memory for a clone, with room for the slots: no values
-    /// are left.
+    /// Out of memory for the slots of the source: nothing has changed. In Rattle, where a clone can
+    /// fail, also out of memory for a clone although there was room for the slots: no values are
+    /// left.
     ///
     /// # Panics
     ///
-    /// A panic of a clone is handed on. If there was room for the slots of the source, no values
+    /// A panic in `clone` is propagated. If there was room for the slots of the source, no values
     /// are left. If there wasn't, nothing has changed.
     pub fn try_clone_from(&mut self, alloc: Global, source: &Self) -> Result<(), Memory>
         ensures keys { OnOk result (map.keys self.new.values ≡ map.keys source.now.values) }
@@ -822,17 +913,6 @@ impl<T: Clone> HandleMap<T> {
         self.len = source.len;
         self.limit = Limit::of(source.limit());
         Ok(())
-    }
-}
-
-/// The generation of the occupant that has the value in the slot of an index. It is 0 if there is
-/// no value.
-fn generation_in<T>(slots: &[Slot<T>], index: usize) -> u32
-    ensures { result ≡ generation_of (slot_at slots.now index) }
-{
-    match slots.get(index) {
-        Some(slot) => slot.generation(),
-        None => 0,
     }
 }
 

@@ -98,7 +98,8 @@ impl Storage {
     ///
     /// # Errors
     ///
-    /// Each but [`Memory`](StorageImageFault::Memory) says that no entities have these bytes.
+    /// Each error except [`Memory`](StorageImageFault::Memory) says that no entities have these
+    /// bytes.
     pub fn read_image(
         alloc: Global,
         handles: &[Handle],
@@ -161,7 +162,7 @@ impl Storage {
         !self.dense(id).is_empty()
     }
 
-    /// How many components there are up to the last one that any entity has.
+    /// Returns the number of components up to the last one that any entity has.
     ///
     /// ```
     /// use forgeni::{Birth, ComponentId, Storage};

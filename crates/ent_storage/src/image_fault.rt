@@ -19,7 +19,7 @@ use thiserror::Error;
 /// ```
 #[derive(Clone, Copy, Debug, PartialEq, Eq, Hash, Error)]
 pub enum StorageImageFault {
-    /// There are fewer bytes than the entities have, or more.
+    /// There are fewer or more bytes than the entities have.
     #[error("bytes are missing or left over")]
     Length,
     /// No entity has the last of that many components, or there are no components with such
@@ -29,7 +29,7 @@ pub enum StorageImageFault {
         /// How many components the image has.
         width: u32,
     },
-    /// The bytes of the entity at this place are those of no entity.
+    /// The bytes at this place aren't those of any entity.
     #[error("entity {place} is damaged")]
     Entity {
         /// How many entities come before it.

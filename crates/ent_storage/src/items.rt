@@ -10,10 +10,10 @@ use super::sparse_set::SparseSet;
 use ent_handle::ComponentId;
 use std::marker::Model;
 
-/// The components of one entity and their values, by rising number.
+/// An iterator over the components of one entity and their values, in ascending order of number.
 ///
-/// [`Storage::items`](super::Storage::items) makes it. It borrows the storage and copies nothing.
-/// It looks at the components that any entity has ever had, at most 256 of them.
+/// It is created by [`Storage::items`](super::Storage::items). It borrows the storage and copies
+/// nothing. It looks at the components that any entity has ever had, at most 256 of them.
 ///
 /// ```
 /// use forgeni::{ComponentId, Items, World};
@@ -62,7 +62,7 @@ impl<'a> Items<'a> {
         }
     }
 
-    /// The same items once more. It takes no memory.
+    /// The same items once more. It doesn't allocate.
     fn again(&self) -> Self
         ensures { result ≡ self.now }
     {

@@ -58,14 +58,15 @@ impl Key {
         (u64::from(self.generation) << 32) + u64::from(self.index)
     }
 
-    /// Whether it is the key of the handle.
+    /// Returns `true` if it is the key of the handle.
     pub fn is_of(self, handle: Handle) -> bool
         ensures { IsTrue result ↔ (handle_cmp self handle ≡ Equal) }
     {
         self.bits() == handle.to_bits()
     }
 
-    /// Whether it comes before the handle. The indices are compared first, since most differ.
+    /// Returns `true` if it comes before the handle. The indices are compared first, since most
+    /// differ.
     pub fn is_before(self, handle: Handle) -> bool
         ensures { IsTrue result ↔ (handle_cmp self handle ≡ Less) }
     {
@@ -73,7 +74,7 @@ impl Key {
             || self.index == handle.index() && self.generation < handle.generation()
     }
 
-    /// Whether it comes after the handle.
+    /// Returns `true` if it comes after the handle.
     pub fn is_after(self, handle: Handle) -> bool
         ensures { IsTrue result ↔ (handle_cmp self handle ≡ Greater) }
     {

@@ -90,9 +90,9 @@ impl Living {
         })
     }
 
-    /// Takes over the entities of another, and makes room for `count` in all. It takes no memory if
-    /// there is that room, and no entity of the other has a component. After an `Err` the entities
-    /// are as before.
+    /// Takes over the entities of another, and makes room for `count` in all. It doesn't allocate
+    /// if there is that room, and no entity of the other has a component. After an `Err` the
+    /// entities are as before.
     pub fn try_clone_from(&mut self, source: &Living, count: usize) -> Result<(), AllocError>
         requires { length source.now.entities ≤ count }
         ensures entities { OnOk result (self.new.entities ≡ source.now.entities) }
@@ -115,14 +115,14 @@ impl Living {
         Ok(())
     }
 
-    /// How many entities there are.
+    /// Returns the number of entities.
     pub fn len(&self) -> usize
         ensures { result ≡ length self.now.entities }
     {
         self.residents.len()
     }
 
-    /// Whether there are no entities.
+    /// Returns `true` if there are no entities.
     pub fn is_empty(&self) -> bool
         ensures { result ≡ (length self.now.entities == 0) }
     {
@@ -164,7 +164,7 @@ impl Living {
         self.residents[place].birth
     }
 
-    /// Changes the birth of the entity at the place. It takes no memory.
+    /// Changes the birth of the entity at the place. It doesn't allocate.
     pub fn set_birth(&mut self, place: usize, birth: Birth)
         requires { place < length self.old.entities }
         ensures entities { self.new.entities ≡ with_birth_at self.old.entities place birth }
@@ -192,7 +192,7 @@ impl Living {
         columns::value(&self.columns, place, id)
     }
 
-    /// The components of the entity at the place and their values, by rising number.
+    /// The components of the entity at the place and their values, in ascending order of number.
     pub fn items(&self, place: usize) -> Items<'_>
         requires { place < length self.now.entities }
         ensures { HoldsAt (λ entity. result ≡ finite.entries entity.components)
@@ -211,7 +211,7 @@ impl Living {
         self.residents.push_reserved(Resident { handle, birth });
     }
 
-    /// Takes the entity at the place out, and moves the last one there. It takes no memory.
+    /// Takes the entity at the place out, and moves the last one there. It doesn't allocate.
     #[inline(always)]
     pub fn swap_remove(&mut self, place: usize)
         requires { place < length self.old.entities }
@@ -240,7 +240,8 @@ impl Living {
         Ok(())
     }
 
-    /// Takes a component out of the entity at the place, and returns its value. It takes no memory.
+    /// Takes a component out of the entity at the place, and returns its value. It doesn't
+    /// allocate.
     pub fn remove(&mut self, place: usize, id: ComponentId) -> Option<i64>
         requires { place < length self.old.entities }
         ensures value { HoldsAt (λ entity. result ≡ finite.get entity.components id)
@@ -252,7 +253,7 @@ impl Living {
         columns::remove(&mut self.columns, place, id)
     }
 
-    /// The birth and the handle of each entity. It takes no memory if there is none.
+    /// The birth and the handle of each entity. It doesn't allocate if there is none.
     pub fn births(&self, alloc: Global) -> Result<Vec<(Birth, Handle)>, AllocError>
         ensures ok { IfOk result (λ births. births.items
             ≡ map (λ entity. (entity.birth, entity.handle)) self.now.entities) }
@@ -261,7 +262,7 @@ impl Living {
         births(alloc, &self.residents)
     }
 
-    /// The least handle of an entity with that birth, if there is one. It takes no memory.
+    /// The least handle of an entity with that birth, if there is one. It doesn't allocate.
     pub fn of_birth(&self, birth: Birth) -> Option<Handle>
         ensures { IsLeastOf birth
             (map (λ entity. (entity.birth, entity.handle)) self.now.entities) result }
@@ -269,8 +270,8 @@ impl Living {
         least_of_birth(&self.residents, birth)
     }
 
-    /// The birth and the handle of the entity at the place of each pair. It takes no memory for
-    /// none.
+    /// The birth and the handle of the entity at the place of each pair. With none, it doesn't
+    /// allocate.
     pub fn births_at(
         &self,
         alloc: Global,
@@ -319,7 +320,7 @@ fn births(alloc: Global, residents: &[Resident]) -> Result<Vec<(Birth, Handle)>,
         .collect(alloc)
 }
 
-/// Whether the entity at the place has the handle of that key.
+/// Returns `true` if the entity at the place has the handle of that key.
 pub fn has_key_at(living: &Living, key: Key, place: usize) -> bool
     ensures { result ≡ has_handle_at living.now.entities key (Some place) }
 {

@@ -18,7 +18,7 @@ use crate::storage::Storage;
 use ent_handle::{Birth, ComponentId, Handle, Memory};
 
 impl Storage {
-    /// Whether the entity is there.
+    /// Returns `true` if the storage has the entity.
     ///
     /// ```
     /// use forgeni::{Birth, Storage};
@@ -36,7 +36,7 @@ impl Storage {
         self.place(handle).is_some()
     }
 
-    /// The birth of the entity, if it is there.
+    /// Returns the birth of the entity, if the storage has it.
     ///
     /// ```
     /// use forgeni::{Birth, Storage};
@@ -56,7 +56,8 @@ impl Storage {
         Some(self.living.birth(place))
     }
 
-    /// The value of the entity's component, if the entity is there and has it.
+    /// Returns the value of the entity's component, if the storage has the entity and the entity
+    /// has the component.
     ///
     /// ```
     /// use forgeni::{Birth, ComponentId, Storage};
@@ -79,7 +80,8 @@ impl Storage {
         self.get_at(place, handle, id)
     }
 
-    /// The entity's components and their values, by rising number, if the entity is there.
+    /// Returns the entity's components and their values, in ascending order of number, if the
+    /// storage has the entity.
     ///
     /// ```
     /// use forgeni::{Birth, ComponentId, Storage};
@@ -100,8 +102,8 @@ impl Storage {
         Some(self.items_at(place, handle))
     }
 
-    /// The place of the entity in the vector of entities, if it is there. It stays the same until
-    /// an entity is taken out.
+    /// Returns the place of the entity in the vector of entities, if the storage has it. The place
+    /// stays the same until an entity is removed.
     ///
     /// ```
     /// use forgeni::{Birth, Storage};
@@ -135,8 +137,8 @@ impl Storage {
         self.living.value(place, id)
     }
 
-    /// The components and their values, by rising number, of the entity at this place, which has to
-    /// be that of the handle.
+    /// The components and their values, in ascending order of number, of the entity at this place,
+    /// which has to be that of the handle.
     pub fn items_at(&self, place: usize, handle: Handle) -> Items<'_>
         requires { slice_get self.now.places place ≡ Some handle }
         ensures { option_map map.entries (components_of self.now.entities handle) ≡ Some result }
@@ -153,7 +155,8 @@ impl Storage {
         self.living.birth(place)
     }
 
-    /// The handles of all entities, by birth and then by handle. It takes the time of a sort.
+    /// Returns the handles of all entities, ordered by birth and then by handle. It takes the time
+    /// of a sort.
     ///
     /// ```
     /// use forgeni::{Birth, Storage};
@@ -177,10 +180,10 @@ impl Storage {
         Ok(handles_in_order(self.alloc, births)?)
     }
 
-    /// The handle of the entity with that birth, if there is one. If several entities have the
-    /// birth, it is the least of their handles.
+    /// Returns the handle of the entity with that birth, if there is one. If several entities have
+    /// the birth, it returns the least of their handles.
     ///
-    /// It takes no memory, and time for each entity.
+    /// It doesn't allocate, and takes time for each entity.
     ///
     /// ```
     /// use forgeni::{Birth, Storage};
@@ -206,8 +209,8 @@ impl Storage {
         self.living.of_birth(birth)
     }
 
-    /// The place and the value of each entity that has the component, in no stated order. It takes
-    /// no memory, and is one slice.
+    /// Returns the place and the value of each entity that has the component, in no particular
+    /// order, as one slice. It doesn't allocate.
     ///
     /// ```
     /// use forgeni::{Birth, ComponentId, Handle, Storage};
@@ -232,8 +235,8 @@ impl Storage {
         self.living.pairs(id)
     }
 
-    /// The handles of the entities that have the component, by birth and then by handle. It takes
-    /// the time of a sort of those that are listed.
+    /// Returns the handles of the entities that have the component, ordered by birth and then by
+    /// handle. It takes the time of sorting these.
     ///
     /// ```
     /// use forgeni::{Birth, ComponentId, Storage};

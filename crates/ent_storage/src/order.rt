@@ -8,7 +8,7 @@ use super::living::Resident;
 use ent_handle::{Birth, Handle};
 use std::alloc::{AllocError, Global};
 
-/// The handles, by birth and then by handle. It takes no memory for nobody.
+/// The handles, by birth and then by handle. Without entities it doesn't allocate.
 pub fn handles_in_order(
     alloc: Global,
     mut births: Vec<(Birth, Handle)>,

@@ -41,7 +41,7 @@ fn search(pairs: &[(Key, u32)], handle: Handle) -> Result<usize, usize>
     pairs.binary_search_by_key(&handle, |pair| pair.0.handle())
 }
 
-/// The slot's number, if the handle stands there.
+/// The slot's number, if the handle is there.
 #[inline(always)]
 pub fn at_slot(pairs: &[(Key, u32)], handle: Handle) -> Option<usize>
     ensures { IfSome result (IsAt handle_cmp pairs.now handle) }
@@ -54,7 +54,7 @@ pub fn at_slot(pairs: &[(Key, u32)], handle: Handle) -> Option<usize>
     }
 }
 
-/// Whether the handle would go to that position.
+/// Returns `true` if the handle would go to that position.
 #[inline(always)]
 pub fn is_gap(pairs: &[(Key, u32)], position: usize, handle: Handle) -> bool
     requires { T (is_sorted handle_cmp pairs.now) }

@@ -18,7 +18,7 @@ use std::marker::Model;
 ///
 /// The dense vector has a pair of place and value for each of these entities, in no order. The
 /// sparse vector has at a place the position of its pair. An entry counts only if the pair there
-/// has the place, so nothing is cleared when a pair is taken out.
+/// has the place, so nothing is cleared when a pair is removed.
 #[derive(Drop)]
 pub struct SparseSet {
     dense: Vec<(usize, i64)>,
@@ -109,7 +109,7 @@ impl SparseSet {
         self.dense.clear();
     }
 
-    /// Whether there is any value.
+    /// Returns `true` if there is any value.
     pub fn has_values(&self) -> bool
         ensures some { IsTrue result → self.now.values ≢ map.empty }
         ensures none { ¬ (IsTrue result) → self.now.values ≡ map.empty }
@@ -152,14 +152,14 @@ impl SparseSet {
         }
     }
 
-    /// Whether there is room for any place.
+    /// Returns `true` if there is room for any place.
     pub fn has_places(&self) -> bool
         ensures { IsTrue result → 0 < self.now.places }
     {
         !self.sparse.is_empty()
     }
 
-    /// Whether there is room for one value more, and for one of the place.
+    /// Returns `true` if there is room for one value more, and for one of the place.
     pub fn has_room(&self, place: usize) -> bool
         ensures { IsTrue result → HasRoomAt self.now place }
     {
@@ -184,7 +184,7 @@ impl SparseSet {
         self.sparse.resize(self.sparse.capacity(), 0)
     }
 
-    /// Takes the value of the place out, and returns it. It takes no memory.
+    /// Takes the value of the place out, and returns it. It doesn't allocate.
     #[inline(always)]
     pub fn remove(&mut self, place: usize) -> Option<i64>
         ensures value { result ≡ map.get self.old.values place }
@@ -200,7 +200,7 @@ impl SparseSet {
     }
 
     /// Moves the value of the later place, if it has one, to the earlier place, which has none. It
-    /// takes no memory.
+    /// doesn't allocate.
     #[inline(always)]
     fn relocate(&mut self, from: usize, to: usize)
         requires before { to < from }
@@ -213,8 +213,8 @@ impl SparseSet {
         }
     }
 
-    /// Takes the value of the place out, and moves that of the last place there. It takes no
-    /// memory.
+    /// Takes the value of the place out, and moves that of the last place there. It doesn't
+    /// allocate.
     #[inline(always)]
     pub fn swap_remove(&mut self, place: usize, last: usize)
         requires { place ≤ last }

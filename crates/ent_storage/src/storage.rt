@@ -73,7 +73,7 @@ impl Model for Storage {
 }
 
 impl Storage {
-    /// A storage without entities. It takes no memory.
+    /// Creates a storage without entities. It doesn't allocate.
     ///
     /// ```
     /// use forgeni::{Birth, Entities, Storage};
@@ -97,8 +97,8 @@ impl Storage {
         }
     }
 
-    /// A storage of the same entities at the same places, with at least the same room. Without
-    /// entities and room it takes no memory.
+    /// Returns a storage with the same entities at the same places, with at least the same room.
+    /// Without entities and room it doesn't allocate.
     ///
     /// ```
     /// use forgeni::{Birth, ComponentId, Handle, Storage};
@@ -134,8 +134,8 @@ impl Storage {
         })
     }
 
-    /// Takes over the entities of another storage, each at its place, as
-    /// [`try_clone`](Self::try_clone) copies them. What this one had before is gone.
+    /// Copies the entities of another storage into this one, each at its place, like
+    /// [`try_clone`](Self::try_clone). What this one had before is gone.
     ///
     /// It uses the room that this one has, and never gives it back. So a storage that another one
     /// is cloned into again and again takes memory only as that one grows.
@@ -183,7 +183,7 @@ impl Storage {
         Ok(())
     }
 
-    /// How many entities there are. That is also the place of the next one that is born.
+    /// Returns the number of entities. That is also the place of the next one to be born.
     ///
     /// ```
     /// use forgeni::{Birth, Storage};
@@ -204,7 +204,7 @@ impl Storage {
         self.living.len()
     }
 
-    /// Whether there are no entities.
+    /// Returns `true` if there are no entities.
     ///
     /// ```
     /// use forgeni::{Birth, Storage};
@@ -223,7 +223,7 @@ impl Storage {
     }
 
     /// Changes the birth of the entity at this place, which has to be that of the handle, and
-    /// leaves the rest. It takes no memory and constant time.
+    /// leaves the rest. It takes constant time and doesn't allocate.
     pub fn set_birth_at(&mut self, place: usize, handle: Handle, birth: Birth)
         requires { slice_get self.old.places place ≡ Some handle }
         ensures entities { self.new.entities ≡ with_birth self.old.entities handle birth }
@@ -233,7 +233,7 @@ impl Storage {
         self.living.set_birth(place, birth);
     }
 
-    /// For how many more entities there is room.
+    /// Returns the number of further entities that there is room for.
     ///
     /// `born` lowers it by 1, or makes more room if it is 0. `reserve` and `despawn` raise it.
     /// Nothing else changes it.
@@ -268,8 +268,8 @@ impl Storage {
         len < self.living.capacity() && len < self.index.room()
     }
 
-    /// Makes room for `additional` more entities, so that `born` takes no memory for them. If there
-    /// is room for that many already, it takes no memory and changes nothing.
+    /// Makes room for `additional` more entities, so that `born` doesn't allocate for them. If
+    /// there is enough room already, it doesn't allocate, and changes nothing.
     ///
     /// ```
     /// use forgeni::Storage;
@@ -310,7 +310,7 @@ impl Storage {
 
     /// Makes room in the index for a pair of each of the first `slots` slots. If an allocator gives
     /// the handles, births in these slots then take constant time each, in any order. If there is
-    /// that room already, it takes no memory. Each slot takes twelve bytes.
+    /// that much room already, it doesn't allocate. Each slot takes twelve bytes.
     ///
     /// It is for a storage whose first births may be in the greatest slots, as with blocks. A
     /// [`World`](forgeni::World) does it itself.
@@ -342,8 +342,8 @@ impl Storage {
         Ok(())
     }
 
-    /// Adds an entity without components. With `spare` above 0 it takes no memory, and `spare` is
-    /// then less by 1.
+    /// Adds an entity without components. If `spare` is above 0, it doesn't allocate, and lowers
+    /// `spare` by 1.
     ///
     /// It takes the time of one look-up if the handle comes after all others, or if the index has a
     /// pair that doesn't count where the new pair goes, or beside it. With an allocator's handles
@@ -396,7 +396,7 @@ impl Storage {
     }
 
     /// Does what [`Storage::born`] does, where there is room: a caller that adds many tests that
-    /// once for all of them. It takes no memory, and `spare` is then less by 1.
+    /// once for all of them. It doesn't allocate, and lowers `spare` by 1.
     ///
     /// # Errors
     ///
@@ -421,8 +421,7 @@ impl Storage {
         }
     }
 
-    /// Removes the entity, with all its components. It takes no memory, and `spare` is then greater
-    /// by 1.
+    /// Removes the entity, with all its components. It doesn't allocate, and raises `spare` by 1.
     ///
     /// It takes the time of two look-ups, and time for each component that any entity has ever had.
     /// The index stays as it is, except for the entity that moves.
@@ -476,7 +475,7 @@ impl Storage {
 
     /// Takes out the entity at this place, which has to be that of the handle. Returns the handle
     /// of the entity that has moved into the place, which was the last one; `None` if the entity
-    /// was the last one itself. It takes no memory, and `spare` is then greater by 1.
+    /// was the last one itself. It doesn't allocate, and raises `spare` by 1.
     ///
     /// The time is that of a look-up, for the entity that moves, and of a look at each component
     /// that any entity has ever had.
@@ -580,7 +579,7 @@ impl Storage {
     }
 
     /// Removes the component from the entity, and returns its value, or `None` if the entity
-    /// doesn't have it. It takes no memory.
+    /// doesn't have it. It doesn't allocate.
     ///
     /// ```
     /// use forgeni::{Birth, ComponentId, Storage};
@@ -618,8 +617,8 @@ impl Storage {
     }
 
     /// Takes the component out of the entity at this place, which has to be that of the handle.
-    /// Returns the value that it had, or `None` if the entity does not have it. It takes no memory
-    /// and constant time.
+    /// Returns the value that it had, or `None` if the entity does not have it. It takes constant
+    /// time and doesn't allocate.
     #[inline(always)]
     pub fn remove_at(&mut self, place: usize, handle: Handle, id: ComponentId) -> Option<i64>
         requires { slice_get self.old.places place ≡ Some handle }

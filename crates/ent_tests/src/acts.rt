@@ -29,7 +29,7 @@ pub enum Act {
     Insert(Handle, i64),
 }
 
-impl System<Shared> for Act {
+impl System<Shared, Memory> for Act {
     ghost may_issue = { λ system view queue. Unit {0} };
 
     #[tactic(auto, using(ent_queue::proofs::Extending::extends_nothing, ent_queue::proofs::Extending::extends_then))]
@@ -59,7 +59,7 @@ pub struct Count<'a> {
     pub gate: &'a Rendezvous,
 }
 
-impl System<Shared> for Count<'_> {
+impl System<Shared, Memory> for Count<'_> {
     ghost may_issue = { λ system view queue. Unit {0} };
 
     #[tactic(auto, using(ent_queue::proofs::Extending::extends_then))]
@@ -81,7 +81,7 @@ pub struct Counted<'a> {
     act: Act,
 }
 
-impl System<Shared> for Counted<'_> {
+impl System<Shared, Memory> for Counted<'_> {
     ghost may_issue = { λ system view queue. Unit {0} };
 
     fn run(

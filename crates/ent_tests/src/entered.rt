@@ -107,7 +107,7 @@ where
 {
     let counts = Counts::new(rt, alloc, acts.len());
     let stopped = stopped(rt, alloc, world, acts, workers, &counts);
-    assert!(rt; matches!(stopped, Some(FrameFault::Lost)));
+    assert!(rt; matches!(stopped, Some(FrameFault::Lost(Some(_)))));
     counts.assert_first(rt, entered, 1);
 }
 
@@ -166,7 +166,7 @@ where
     let counts = Counts::new(rt, alloc, 2);
     let entered = match stopped(rt, alloc, world, &SURE, 1, &counts) {
         Some(FrameFault::Memory) => 0,
-        Some(FrameFault::Lost) => 1,
+        Some(FrameFault::Lost(None)) => 1,
         _ => 2,
     };
     counts.assert_first(rt, entered, 1);

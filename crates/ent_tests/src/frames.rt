@@ -2,7 +2,7 @@
 use crate::acts::spawns;
 use crate::rendezvous::Rendezvous;
 use crate::spawned::{assert_spawned, assert_spawns};
-use ent_handle::Handle;
+use ent_handle::{Handle, Memory};
 use ent_runner::{FrameFault, FrameReport, Gate, System, run_frame};
 use ent_shared::Shared;
 use ent_world::World;
@@ -21,7 +21,7 @@ pub fn tried<R, S, G>(
 ) -> Result<FrameReport, FrameFault>
 where
     R: Threads + Sync + Abort,
-    S: System<Shared> + Sync,
+    S: System<Shared, Memory> + Sync,
     G: Gate + Sync,
 {
     assert!(rt; !world.needs_flush());
@@ -41,7 +41,7 @@ pub fn frame<R, S, G>(
 ) -> FrameReport
 where
     R: Threads + Sync + Abort,
-    S: System<Shared> + Sync,
+    S: System<Shared, Memory> + Sync,
     G: Gate + Sync,
 {
     let Ok(report) = tried(rt, alloc, world, systems, workers, gate) else {

@@ -8,7 +8,7 @@ pub use Rattle.std.proofs.lemmas.Grind.{common_steps}
 pub use Rattle.std.proofs.lemmas.List.{append-nil, length-append, length-take-le, map-append}
 pub use Rattle.std.proofs.lemmas.List.{nil_from_length, take-append-drop, take_all, take_at}
 pub use Rattle.std.proofs.lemmas.List.Elements.{All-head, All-more, All-push, All-same, All-tail}
-pub use Rattle.std.specs.Prelude.{IfOk, IsErrOf, OnErr, vec_capacity}
+pub use Rattle.std.specs.Prelude.{IfOk, IsErrOf, OnErr, Option, Some, vec_capacity}
 pub use Rattle.ent_alloc.specs.History.{after_history}
 pub use Rattle.ent_alloc.specs.Sequential.{Allocator, listed_alone}
 pub use Rattle.ent_alloc.specs.Spent.{AreSpent}
@@ -32,4 +32,4 @@ pub use Rattle.ent_world.specs.declared.image_fault.WorldImageFault.{WorldImageF
 pub use Rattle.ent_world.specs.declared.image_fault.WorldImageFault.TheVariants.{Memory}
 pub use Rattle.ent_total.specs.Image.{before_count, image}
 pub use Rattle.ent_total.specs.Issuing.{AreCommandsOf, AreNew, Commands, IsRefused, issued, issuing}
-pub use Rattle.ent_total.specs.Sharing.{AreOf, all_returned, reservers_of}
+pub use Rattle.ent_total.specs.Phases.{AreOf, all_returned, reservers_of}

@@ -1,6 +1,11 @@
--- A list is walked, and what each item has is put behind a list.
-use Rattle.ent_total.proofs.Common.{rules, ◌≡◌, ◌+◌, List, [], ◌∷◌, ◌++◌, map, append_assoc, All}
-use Rattle.ent_total.proofs.Common.{length, arith, All-head, All-tail, map-append}
+-- A number means one source. A list is walked, and what each item has is put behind a list.
+use Rattle.ent_total.proofs.Common.{rules, ◌≡◌, ◌+◌, ℕ, Option, Some, List, [], ◌∷◌, ◌++◌, map}
+use Rattle.ent_total.proofs.Common.{append_assoc, All, length, arith, All-head, All-tail}
+use Rattle.ent_total.proofs.Common.{map-append, common_steps}
+
+pub one_phase : {X : Type 0} (of : ℕ → Option X) (m n : ℕ) (a b : X) → m ≡ n → of m ≡ Some a
+    → of n ≡ Some b → a ≡ b
+one_phase of m n a b same first second = grind (arith, common_steps, same, first, second)
 
 module _ {X : Type 0} (yielded : List X) (x : X) where
   pub walked : (old rest : List X) → old ≡ x ∷ rest → (all : List X) → yielded ++ old ≡ all

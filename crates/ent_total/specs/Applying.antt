@@ -1,4 +1,4 @@
--- What is said of a sync point that didn't do all.
+-- What holds of a sync point that wasn't completed.
 use Rattle.std.specs.Prelude.{◌≡◌, ℕ, Result, Ok, Err}
 use Rattle.ent_world.specs.declared.fault.SyncReport.{SyncReport}
 use Rattle.ent_total.specs.Batch.{Queues, Stopped}
@@ -13,7 +13,7 @@ queues_in (applied.OtherWorld queues) = queues
 queues_in (applied.Memory queues) = queues
 queues_in (applied.Stopped stopped) = stopped.queues
 
--- what comes back: the queues if nothing was done, and else where it stopped
+-- what comes back: the queues if nothing was done, and otherwise where it stopped
 abbrev pub parts_of : SyncError → Result Queues Stopped
 parts_of (applied.OtherWorld queues) = Ok queues
 parts_of (applied.Memory queues) = Ok queues
@@ -43,7 +43,7 @@ IsMemory (applied.Memory queues) = Unit {0}
 IsMemory (applied.Stopped stopped) = ⊥
 
 -- How many entities were spawned since the last flush, before and after: none if it flushed, and
--- else as many as before.
+-- otherwise as many as before.
 abbrev pub IsCounted : Result SyncReport SyncError → ℕ → ℕ → Type 0
 IsCounted (Ok report) before after = after ≡ 0
 IsCounted (Err (applied.OtherWorld queues)) before after = after ≡ before

@@ -33,7 +33,8 @@ pub record IsSynced (queues : List (List Command)) (before after : World) (r : S
   pub born_are : r.born.items ≡ born before.allocator
   pub faults_are : r.faults.items ≡ (sync queues before).faults
 
--- It stopped there for lack of memory: all births stand, and of the commands just those before.
+-- It stopped there for lack of memory: all births have taken effect, and exactly the commands
+-- before that point.
 pub record IsSyncedUntil (s : Stop) (queues : List (List Command)) (before after : World)
     (r : SyncReport) : Type 0 where
   pub stop : IsStop s.system s.command s.done queues
@@ -44,8 +45,8 @@ pub record IsSyncedUntil (s : Stop) (queues : List (List Command)) (before after
       ≡ (sync_until s.system s.command s.done queues before).faults
   pub memory : TakesMemoryAt after s.system s.command s.done queues
 
--- What was left of the queues after a stop was done. If the sync point of a world had stopped so,
--- the whole of it is done now, and the faults before and after the stop are its faults.
+-- What was left of the queues after a stop was done. If the sync point of a world had stopped like
+-- this, the whole of it is done now, and the faults before and after the stop are its faults.
 pub record IsFinished (s : Stop) (queues : List (List Command)) (before after : World)
     (r : SyncReport) : Type 0 where
   pub world : after
@@ -61,8 +62,8 @@ pub record IsFinished (s : Stop) (queues : List (List Command)) (before after : 
       → HasStoppedSo s.system s.command s.done queues w before earlier
       → earlier ++ r.faults.items ≡ (sync queues w).faults
 
--- It stopped again, there or later. If the sync point of a world had stopped so, it has now stopped
--- at the later place, with the faults before and after.
+-- It stopped again, there or later. If the sync point of a world had stopped like this, it has now
+-- stopped at the later place, with the faults before and after.
 pub record IsLeftUntil (s later : Stop) (queues : List (List Command)) (before after : World)
     (r : SyncReport) : Type 0 where
   pub stop : IsStop later.system later.command later.done queues

@@ -1,5 +1,5 @@
--- What is said of a frame that didn't do all.
-use Rattle.std.specs.Prelude.{◌≡◌, ◌<◌, ℕ, List, length}
+-- What holds of a frame that wasn't completed.
+use Rattle.std.specs.Prelude.{◌≡◌, ◌<◌, ℕ, List, Option, length}
 use Rattle.ent_alloc.specs.History.{Call}
 use Rattle.ent_runner.specs.Frame.{IsBrokenOff, IsLost, StopsAt, reserved_by}
 use Rattle.ent_queue.specs.Command.{Command}
@@ -12,17 +12,17 @@ use Rattle.ent_total.specs.declared.frame_error.FrameError.{FrameError}
 use Rattle.ent_total.specs.declared.frame_error.FrameError.TheVariants as frame
 use Rattle.ent_total.specs.declared.world.World.{World}
 
--- How many are counted after a sync point that stopped so: none if it had flushed.
+-- How many are counted after a sync point that stopped like this: none if it had flushed.
 abbrev pub spawned_after : SyncFault → ℕ → ℕ
 spawned_after fault.FlushMemory spawned = spawned
 spawned_after (fault.Memory system command done so_far) spawned = 0
 
-module _ {S : Type 0} (may leave : S → View → List Command → Type 0) (systems : List S)
-    (workers : ℕ) where
-  -- What is left of a frame that was broken off.
-  pub record AreBrokenOff (before after : World) : Type 0 where
+module _ {S E : Type 0} (may : S → View → List Command → Type 0)
+    (leave : S → View → List Command → E → Type 0) (systems : List S) (workers : ℕ) where
+  -- What is left of a frame that was broken off, with this error if a system returned one.
+  pub record AreBrokenOff (before after : World) (error : Option E) : Type 0 where
     pub history : List Call
-    pub broken_off : IsBrokenOff may leave systems workers before.world history
+    pub broken_off : IsBrokenOff may leave systems workers before.world history error
     pub reserved : after.world ≡ reserved_by history before.world
     pub still : IsLost before.world after.world
     pub some : 0 < length systems
@@ -35,12 +35,12 @@ module _ {S : Type 0} (may leave : S → View → List Command → Type 0) (syst
     pub counted : after.spawned ≡ spawned_after why before.spawned
 
   -- A frame of these systems left this, for this reason.
-  abbrev pub IsLeft : World → World → FrameError → Type 0
+  abbrev pub IsLeft : World → World → FrameError E → Type 0
   IsLeft before after frame.NeedsFlush = after ≡ before
   IsLeft before after frame.Workers = after ≡ before
   IsLeft before after frame.Systems = after ≡ before
   IsLeft before after frame.Memory = (after ≡ before) × (0 < length systems)
-  IsLeft before after frame.Lost = AreBrokenOff before after
+  IsLeft before after (frame.Lost error) = AreBrokenOff before after error
   IsLeft before after (frame.Unapplied queues) =
       IsHeld before after fault.FlushMemory queues × (0 < length after.world.allocator.taken)
   IsLeft before after (frame.Stopped stopped) =

@@ -21,9 +21,9 @@ pub record WorldOpening : Type 0 where
   pub world : Opened
   pub returned : List Reserver
 
--- the number by which phases are told apart, the number of the world and how many entities were
--- spawned in it since the last flush, the world that is open, the reservers that no system has, and
--- the queues that came back
+-- the number that distinguishes phases, the number of the world and how many entities were spawned
+-- in it since the last flush, the world that is open, the reservers that no system has, and the
+-- queues that came back
 pub record OpenWorld : Type 0 where
   pub number : ℕ
   pub of_world : ℕ

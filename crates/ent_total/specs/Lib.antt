@@ -2,9 +2,9 @@ pub mod Applying
 pub mod Batch
 pub mod Births
 pub mod Closing
-pub mod Faults
 pub mod Framing
 pub mod Issuing
-pub mod Sharing
+pub mod Phases
+pub mod Reserving
 pub mod Image
 pub mod Unframed

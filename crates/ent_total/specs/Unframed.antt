@@ -1,10 +1,11 @@
--- What is said of a frame in blocks that didn't end.
-use Rattle.std.specs.Prelude.{◌≡◌, ◌≢◌, ◌<◌, ℕ, List, [], All, length, map}
+-- What holds of a frame in blocks that wasn't completed.
+use Rattle.std.specs.Prelude.{◌≡◌, ◌<◌, ℕ, List, [], All, length, map}
 use Rattle.ent_blocks.specs.Blocks.{Reserver, blocks_of, unused}
 use Rattle.ent_blocks.specs.declared.end_error.EndError.{EndError}
 use Rattle.ent_blocks.specs.declared.end_error.EndError.TheVariants as unended
 use Rattle.ent_runner.specs.Blocks.Frame.{StopsInBlocks, view_in_blocks}
 use Rattle.ent_runner.specs.Blocks.Queues.{HaveStopped, HaveIssued}
+use Rattle.ent_runner.specs.Blocks.Refusing.{IfLost, IfNotLost}
 use Rattle.ent_runner.specs.Blocks.Unframed.{IsWhyUnended}
 use Rattle.ent_runner.specs.declared.blocks.run_error.RunError.{RunError}
 use Rattle.ent_runner.specs.declared.blocks.run_error.RunError.TheVariants as failed
@@ -21,24 +22,24 @@ use Rattle.ent_total.specs.declared.world.World.{World}
 use Rattle.ent_total.specs.declared.world_in_blocks.WorldInBlocks.{WorldInBlocks}
 
 -- no queues were filled, for this reason
-abbrev pub IsUnrunFor : {J : Type 0} → Unframed J → RunError → Type 0
+abbrev pub IsUnrunFor : {J E : Type 0} → Unframed J E → RunError E → Type 0
 IsUnrunFor (unframed.Unrun world reservers error) why = error ≡ why
 IsUnrunFor (unframed.Unended left queues) why = ⊥
 IsUnrunFor (unframed.Unapplied world queues) why = ⊥
 IsUnrunFor (unframed.Stopped world stopped) why = ⊥
 
-module _ {S : Type 0} (may leave : S → View → List Command → Type 0) (systems : List S)
-    (workers : ℕ) where
+module _ {S E : Type 0} (may : S → View → List Command → Type 0)
+    (leave : S → View → List Command → E → Type 0) (systems : List S) (workers : ℕ) where
   -- What holds if these systems, with reservers of these, filled no queues. Only if they were
   -- broken off are the reservers lost.
   pub record AreUnfilled {J : Type 0} (opened : WorldInBlocks J) (reservers left : List Reserver)
-      (error : RunError) : Type 0 where
-    pub handed_back : error ≢ failed.Lost → left ≡ reservers
+      (error : RunError E) : Type 0 where
+    pub handed_back : IfNotLost (left ≡ reservers) error
     pub memory_some : error ≡ failed.Memory → 0 < length systems
-    pub lost : error ≡ failed.Lost → HaveStopped may leave systems workers
-        (view_in_blocks opened.world) opened.world.blocks.phase.start (blocks_of reservers)
-    pub lost_some : error ≡ failed.Lost → 0 < length systems
-    pub lost_reservers : error ≡ failed.Lost → left ≡ []
+    pub lost : IfLost (HaveStopped may leave systems workers (view_in_blocks opened.world)
+        opened.world.blocks.phase.start (blocks_of reservers)) error
+    pub lost_some : IfLost (λ _. 0 < length systems) error
+    pub lost_reservers : IfLost (λ _. left ≡ []) error
 
   -- What holds if all systems ran, and the world was not closed. If the reservers are those of all
   -- blocks, in their order, it is because memory ran out.
@@ -75,7 +76,7 @@ module _ {S : Type 0} (may leave : S → View → List Command → Type 0) (syst
         stopped.stop.done stopped.queues.queues
 
   -- A frame of these systems left this.
-  abbrev pub IsLeft : {J : Type 0} → WorldInBlocks J → List Reserver → Unframed J → Type 0
+  abbrev pub IsLeft : {J : Type 0} → WorldInBlocks J → List Reserver → Unframed J E → Type 0
   IsLeft opened reservers (unframed.Unrun world left error) =
       (world ≡ opened) × AreUnfilled opened reservers left.items error
   IsLeft opened reservers (unframed.Unended left queues) =

@@ -15,16 +15,16 @@ use crate::world::World;
 use ent_world::{SyncFault, SyncReport};
 
 impl World {
-    /// The sync point: brings to life what is reserved, and then lets the queues take effect, one
-    /// after the other, in their order. A command on an entity that is not alive at its turn has no
+    /// Does the sync point: brings to life what is reserved, and then applies the queues, one after
+    /// the other, in their order. A command on an entity that is not alive at its turn has no
     /// effect and is a fault of the report, and so is a refused spawn.
     ///
     /// # Errors
     ///
     /// - [`SyncError::OtherWorld`]: the queues are of a phase of another world. Nothing was done.
     /// - [`SyncError::Memory`]: nothing was done, and the call may be made again with the queues.
-    /// - [`SyncError::Stopped`]: memory ran out at a command. All births have taken effect, and of
-    ///   the commands just those before. It may [go on](Stopped::go_on).
+    /// - [`SyncError::Stopped`]: memory ran out at a command. All births have taken effect, and
+    ///   exactly the commands before that point. It can be [continued](Stopped::go_on).
     ///
     /// ```
     /// use forgeni::{ComponentId, World};
@@ -105,9 +105,9 @@ fn sync(world: &mut ent_world::World, queues: Queues) -> Result<SyncReport, Sync
 }
 
 impl Stopped {
-    /// Goes on from there, in the world in which it stopped. Nothing is flushed or born. If nothing
-    /// else has changed the world since, then in the end the world, and the faults of all reports
-    /// together, are those of a sync point that didn't stop.
+    /// Continues the sync point where it stopped, in the same world. Nothing is flushed or born. If
+    /// nothing else has changed the world since, then in the end the world, and the faults of all
+    /// reports together, are those of a sync point that didn't stop.
     ///
     /// ```
     /// use forgeni::{SyncError, World};
@@ -135,7 +135,8 @@ impl Stopped {
     /// - [`GoOnError::OtherWorld`]: it stopped in another world. Nothing has changed.
     /// - [`GoOnError::NeedsFlush`]: handles were requested in the world since then. Nothing has
     ///   changed.
-    /// - [`GoOnError::Stopped`]: memory ran out again, there or later. It may go on from there.
+    /// - [`GoOnError::Stopped`]: memory ran out again, there or later. It can be continued from
+    ///   there.
     pub fn go_on(self, world: &mut World) -> Result<SyncReport, GoOnError>
         ensures applied { IfOk result (λ report.
             IsFinished self.stop self.queues.queues world.old.world world.new.world report) }

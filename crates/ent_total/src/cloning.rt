@@ -10,7 +10,7 @@ use ent_handle::Memory;
 ///
 /// # Errors
 ///
-/// `Memory`. It never comes if no slot was made and there are no entities.
+/// `Memory`. It is never returned if no slot was made and there are no entities.
 pub fn clone_world(world: &World, number: u64) -> Result<World, Memory>
     ensures ok { IfOk result (λ clone. clone ≡ record world.now { number = number }) }
     ensures memory { OnErr result ((0 < world.now.world.allocator.made)
@@ -27,7 +27,8 @@ pub fn clone_world(world: &World, number: u64) -> Result<World, Memory>
 ///
 /// # Errors
 ///
-/// `Memory`, with the world as it was. It never comes if the source has no slots and no entities.
+/// `Memory`, with the world as it was. It is never returned if the source has no slots and no
+/// entities.
 pub fn clone_world_from(world: &mut World, source: &World, number: u64) -> Result<(), Memory>
     ensures ok { OnOk result (world.new ≡ record source.now { number = number }) }
     ensures err { OnErr result (world.new ≡ world.old) }

@@ -32,4 +32,8 @@ pub enum CloseError {
     /// close has them.
     #[error("a caller is still in use")]
     InUse,
+    /// The callers aren't in the order in which they were made, which this phase requires. It keeps
+    /// those that came.
+    #[error("the callers aren't in the order in which they were made")]
+    Order,
 }

@@ -105,13 +105,13 @@ impl<J: Numbering> Commands<J> {
         }
     }
 
-    /// Reserves a handle at once, by one atomic step. It is to have these components, in any order.
-    /// If a component is listed twice, its last value counts.
+    /// Reserves a handle at once, by one atomic step. Its entity gets these components, in any
+    /// order, when the queue is applied. If a component is listed twice, its last value counts.
     ///
     /// # Errors
     ///
-    /// `Memory`, and then nothing has changed. With `Space` and `Quota` the queue keeps the
-    /// refusal, which is a fault of the sync point's report, and the system may go on.
+    /// `Memory`. Nothing has changed then. With `Space` and `Quota` the queue keeps the refusal,
+    /// which is a fault of the sync point's report, and the system may go on.
     ///
     /// ```
     /// use forgeni::{ComponentId, World};
@@ -156,8 +156,9 @@ impl<J: Numbering> Commands<J> {
         spawned
     }
 
-    /// Reserves `n` handles at once, by one atomic step. Each is to have these components. It takes
-    /// time for each handle of the list, and of the queue, which has them too.
+    /// Reserves `n` handles at once, by one atomic step. Each of their entities gets these
+    /// components when the queue is applied. It takes time for each handle, which goes into the
+    /// list and into the queue.
     ///
     /// ```
     /// use forgeni::{ComponentId, World};
@@ -175,7 +176,7 @@ impl<J: Numbering> Commands<J> {
     ///
     /// # Errors
     ///
-    /// As of [`spawn`](Commands::spawn).
+    /// The same as for [`spawn`](Commands::spawn).
     pub fn spawn_many(
         &mut self,
         alloc: Global,
@@ -233,7 +234,7 @@ impl<J: Numbering> Commands<J> {
     ///
     /// # Errors
     ///
-    /// `OutOfMemory`, and then nothing has changed.
+    /// `OutOfMemory`. Nothing has changed then.
     pub fn insert(
         &mut self,
         alloc: Global,
@@ -253,7 +254,7 @@ impl<J: Numbering> Commands<J> {
         issued
     }
 
-    /// Takes the component out of the entity, if it has it.
+    /// Removes the component from the entity, if it has it.
     ///
     /// ```
     /// use forgeni::{ComponentId, World};
@@ -271,7 +272,7 @@ impl<J: Numbering> Commands<J> {
     ///
     /// # Errors
     ///
-    /// `OutOfMemory`, and then nothing has changed.
+    /// `OutOfMemory`. Nothing has changed then.
     pub fn remove(&mut self, alloc: Global, handle: Handle, id: ComponentId) -> Result<(), Memory>
         ensures ok { OnOk result (self.new ≡ record self.old {
           queue = self.old.queue ++ Remove handle id ∷ [];
@@ -286,7 +287,7 @@ impl<J: Numbering> Commands<J> {
         issued
     }
 
-    /// Takes the entity out of the world. If it isn't alive when the command takes effect, that is
+    /// Removes the entity from the world. If it isn't alive when the command takes effect, that is
     /// a fault of the sync point's report.
     ///
     /// ```
@@ -308,7 +309,7 @@ impl<J: Numbering> Commands<J> {
     ///
     /// # Errors
     ///
-    /// `OutOfMemory`, and then nothing has changed.
+    /// `OutOfMemory`. Nothing has changed then.
     pub fn despawn(&mut self, alloc: Global, handle: Handle) -> Result<(), Memory>
         ensures ok { OnOk result (self.new ≡ record self.old {
           queue = self.old.queue ++ Despawn handle ∷ [];
@@ -333,7 +334,7 @@ impl<J: Numbering> Commands<J> {
         mem::replace(&mut self.queue, empty)
     }
 
-    /// The value of the entity's component, if the entity is alive and has it.
+    /// Returns the value of the entity's component, if the entity is alive and has it.
     ///
     /// ```
     /// use forgeni::{ComponentId, World};
@@ -356,7 +357,7 @@ impl<J: Numbering> Commands<J> {
         self.world.view().get(handle, id)
     }
 
-    /// When and by whom the entity was brought to life, if it is alive.
+    /// Returns the birth of the entity, if it is alive: when it came to life, and by which system.
     ///
     /// ```
     /// use forgeni::World;
@@ -377,7 +378,7 @@ impl<J: Numbering> Commands<J> {
         self.world.view().birth(handle)
     }
 
-    /// Whether the entity is alive. What the systems of the phase spawn isn't yet.
+    /// Returns `true` if the entity is alive. What the systems of the phase spawn isn't alive yet.
     ///
     /// ```
     /// use forgeni::World;
@@ -397,7 +398,8 @@ impl<J: Numbering> Commands<J> {
         self.world.view().contains(handle)
     }
 
-    /// The handles of all entities, by birth and then by handle. The time is that of a sort.
+    /// Returns the handles of all entities, ordered by birth and then by handle. It takes the time
+    /// of a sort.
     ///
     /// ```
     /// use forgeni::World;
@@ -414,7 +416,8 @@ impl<J: Numbering> Commands<J> {
     ///
     /// # Errors
     ///
-    /// `OutOfMemory`: there is no memory for the list. It never comes if there are no entities.
+    /// `OutOfMemory`: there isn't enough memory for the list. It is never returned if there are no
+    /// entities.
     pub fn by_birth(&self) -> Result<Vec<Handle>, Memory>
         ensures ok { IfOk result (λ handles. ListsAll self.now.world.entities handles.items) }
         ensures memory { OnErr result (self.now.world.entities ≢ map.empty) }
@@ -422,7 +425,7 @@ impl<J: Numbering> Commands<J> {
         self.world.view().by_birth()
     }
 
-    /// All that can be read of the world, as a system of a frame reads it.
+    /// Returns a view of the world, like the one that a system of a frame gets.
     ///
     /// ```
     /// use forgeni::{Handle, View, World};
@@ -445,7 +448,7 @@ impl<J: Numbering> Commands<J> {
         self.world.view()
     }
 
-    /// Whether it is of this phase.
+    /// Returns `true` if it belongs to this phase.
     ///
     /// ```
     /// use forgeni::World;
@@ -463,8 +466,9 @@ impl<J: Numbering> Commands<J> {
         self.number == phase.number()
     }
 
-    /// Which of the systems it is: its position in the list that the phase began with, from 0.
-    /// Births and faults count systems by the order of their queues at the close instead.
+    /// Returns the number of the system: its position in the list that the phase began with,
+    /// counted from 0. Births and faults number systems by the order of their queues at the close
+    /// instead.
     ///
     /// ```
     /// use forgeni::World;
@@ -484,7 +488,7 @@ impl<J: Numbering> Commands<J> {
         self.reserver.number()
     }
 
-    /// Ends the issuing, and returns the queue, which [`OpenWorld::close`] takes.
+    /// Returns the queue of the commands that were issued, which [`OpenWorld::close`] takes.
     ///
     /// ```
     /// use forgeni::World;

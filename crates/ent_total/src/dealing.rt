@@ -24,7 +24,7 @@ pub struct WorldDeal<J: BlockNumbering> {
 /// # Errors
 ///
 /// [`HandedBack`] has the world as it was, and [`DealError::NeedsFlush`] or [`DealError::Memory`].
-/// No sizes take no memory.
+/// With no sizes, it doesn't allocate.
 pub fn open_in_blocks<J: BlockNumbering>(
     world: World,
     sizes: &[u32],
@@ -64,7 +64,7 @@ pub fn open_in_blocks<J: BlockNumbering>(
 
 impl<J: BlockNumbering> WorldDeal<J> {
     /// The world under this number, which no other phase has, and a reserver of each block, in the
-    /// order of the sizes. It takes no memory.
+    /// order of the sizes. It doesn't allocate.
     pub fn numbered(self, number: u64) -> (WorldInBlocks<J>, Vec<BlockReserver<J>>)
         requires stands_for { J.blocks_of number ≡ self.deal.blocks }
         ensures of_world { result.0.of_world ≡ self.of_world }

@@ -21,9 +21,9 @@ use ent_shared::Reserver;
 
 impl<J: Numbering> OpenWorld<J> {
     /// Ends the phase with the queues of all its systems. Their order here is the order in which
-    /// they will take effect, and numbers their systems in births and faults. Nothing of the world
-    /// has changed, except that handles are reserved. It takes no memory, and the time of a look at
-    /// each queue, however many commands a queue has.
+    /// they will take effect, and numbers their systems in births and faults. The world hasn't
+    /// changed, except that handles are reserved. It doesn't allocate, and takes time for each
+    /// queue, however many commands a queue has.
     ///
     /// ```
     /// use forgeni::{CloseError, World};
@@ -46,9 +46,9 @@ impl<J: Numbering> OpenWorld<J> {
     /// # Errors
     ///
     /// [`HandedBack`] has the phase, which goes on, the queues that are handed back, and the first
-    /// of these errors that holds: [`CloseError::OtherPhase`] and [`CloseError::Missing`], with all
-    /// queues handed back in their order; [`CloseError::InUse`], and then the phase keeps them, as
-    /// [`close_lost`](OpenWorld::close_lost) does.
+    /// of these errors that applies. With [`CloseError::OtherPhase`] and [`CloseError::Missing`]
+    /// all queues are handed back in their order. With [`CloseError::InUse`] the phase keeps them,
+    /// as [`close_lost`](OpenWorld::close_lost) does.
     pub fn close(
         mut self,
         queues: Vec<CommandQueue<J>>,
@@ -98,7 +98,7 @@ impl<J: Numbering> OpenWorld<J> {
     ///
     /// Which of its requests were refused is lost too. So the front of the pool counts as reserved,
     /// as far as requests went, and the next sync point or flush also brings to life those handles
-    /// that nobody got, and those of the lost system, all without components.
+    /// that no caller got, and those of the lost system, all without components.
     ///
     /// ```
     /// use forgeni::World;
@@ -115,10 +115,10 @@ impl<J: Numbering> OpenWorld<J> {
     ///
     /// # Errors
     ///
-    /// As of [`close`](OpenWorld::close), without `Missing`. With [`CloseError::InUse`] the
-    /// `Commands` or the queue of a system exists that wasn't handed in. The phase keeps those that
-    /// were, and they stay before those that the next close is given. One that was given to
-    /// `core::mem::forget` exists for good.
+    /// The same as for [`close`](OpenWorld::close), except for `Missing`. With
+    /// [`CloseError::InUse`] the `Commands` or the queue of a system that wasn't handed in still
+    /// exists. The phase keeps those that were, and they come before those of the next close. One
+    /// that was passed to `core::mem::forget` exists forever.
     pub fn close_lost(
         mut self,
         queues: Vec<CommandQueue<J>>,

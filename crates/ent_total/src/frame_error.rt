@@ -1,20 +1,22 @@
 use crate::queues::Queues;
 use crate::stopped::Stopped;
+use ent_handle::Memory;
 use std::error::Error;
 use std::fmt;
 
 /// Why a frame wasn't completed.
 ///
 /// ```
-/// use forgeni::{run_frame, FrameError, OutOfMemory, SystemCommands, View, World};
+/// use forgeni::{run_frame, FrameError, SystemCommands, View, World};
 ///
-/// fn breaks(_: &View<'_>, commands: &mut SystemCommands<'_>) -> Result<(), OutOfMemory> {
+/// fn breaks(_: &View<'_>, commands: &mut SystemCommands<'_>) -> Result<(), &'static str> {
 ///     let _reserved = commands.spawn_with(&[]);
-///     Err(OutOfMemory)
+///     Err("no road")
 /// }
 ///
 /// let mut world = World::new();
-/// assert!(matches!(run_frame(&mut world, &[breaks], 1), Err(FrameError::Lost)));
+/// let lost = run_frame(&mut world, &[breaks], 1);
+/// assert!(matches!(lost, Err(FrameError::Lost(Some("no road")))));
 /// // What it reserved has to be born before the next frame.
 /// assert!(matches!(run_frame(&mut world, &[breaks], 1), Err(FrameError::NeedsFlush)));
 /// world.flush()?;
@@ -23,7 +25,7 @@ use std::fmt;
 /// ```
 #[non_exhaustive]
 #[derive(Drop, Debug)]
-pub enum FrameError {
+pub enum FrameError<E = Memory> {
     /// Handles were requested since the last flush. No system ran, and the world is as it was.
     NeedsFlush,
     /// The number of workers isn't one from 1 to 64. No system ran, and the world is as it was.
@@ -32,30 +34,32 @@ pub enum FrameError {
     Systems,
     /// Memory ran out before any system ran. The world is as it was.
     Memory,
-    /// A system returned an error, or systems are left and no worker has memory for another one. No
-    /// command took effect. The handles that the systems reserved stay reserved, and no others: the
-    /// next flush brings them to life, without components.
-    Lost,
-    /// All systems ran, and there was no memory to begin the sync point. No command took effect.
-    /// [`World::apply`](crate::World::apply) makes it.
+    /// A system returned an error, and this is the first one in the order of the systems. Without
+    /// one, some systems didn't run, since no worker has memory for another one. No command took
+    /// effect. The handles that the systems reserved stay reserved, and no others: the next flush
+    /// brings them to life, without components.
+    Lost(Option<E>),
+    /// All systems ran, and there wasn't enough memory to begin the sync point. No command took
+    /// effect. [`World::apply`](crate::World::apply) does the sync point.
     Unapplied(Queues),
     /// All systems ran, and the sync point stopped because memory ran out at a command.
     /// [`Stopped::go_on`] does the rest.
     Stopped(Stopped),
 }
 
-impl fmt::Display for FrameError {
+impl<E: fmt::Display> fmt::Display for FrameError<E> {
     fn fmt<W: fmt::Write>(&self, f: &mut fmt::Formatter<W>) -> fmt::Result {
         match self {
             FrameError::NeedsFlush => f.write_str("a flush is needed first"),
             FrameError::Workers => f.write_str("a frame has 1 to 64 workers"),
             FrameError::Systems => f.write_str("a frame has at most 65,536 systems"),
             FrameError::Memory => f.write_str("out of memory before any system ran"),
-            FrameError::Lost => f.write_str("out of memory while the systems ran"),
+            FrameError::Lost(None) => f.write_str("out of memory while the systems ran"),
+            FrameError::Lost(Some(error)) => write!(f, "a system stopped: {error}"),
             FrameError::Unapplied(_) => f.write_str("the sync point stopped: out of memory"),
             FrameError::Stopped(stopped) => write!(f, "the sync point stopped: {stopped}"),
         }
     }
 }
 
-impl Error for FrameError {}
+impl<E: fmt::Debug + fmt::Display + Drop> Error for FrameError<E> {}

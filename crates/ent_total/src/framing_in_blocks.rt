@@ -28,7 +28,7 @@ use std::thread::Threads;
 ///
 /// The handles of a system's spawns are the next ones of its block, in the pool's order, whatever
 /// the others do, whichever worker runs it, and however many workers there are. The reservers say
-/// how many each system wanted, from which its block's size in the next frame may follow:
+/// how many handles each system wanted, which can decide the size of its block in the next frame:
 ///
 /// ```
 /// # #[cfg(feature = "std")] {
@@ -54,36 +54,37 @@ use std::thread::Threads;
 /// # Ok::<(), Box<dyn std::error::Error + Send + Sync>>(())
 /// ```
 ///
-/// A worker takes the next system that nobody has taken yet, until none is left. If a thread can't
-/// be started, another one does its work. One worker starts no thread.
+/// Each worker takes the next system that isn't taken yet, until none is left. If a thread can't be
+/// started, another one does its work. One worker starts no thread.
 ///
 /// # Errors
 ///
-/// [`HandedBack`] has the reservers that are handed back, and the first of these errors that holds.
+/// [`HandedBack`] has the reservers that are handed back, and the first of these errors that
+/// applies.
 ///
 /// - [`RunError::Workers`], [`RunError::Systems`] if there are more than 65,536,
-///   [`RunError::Reservers`],
-///   [`RunError::OtherPhase`], [`RunError::Memory`]: no system ran, and the reservers are handed back as
-///   they were. No systems take no memory.
-/// - [`RunError::Lost`]: a system returned an error, or systems are left and
-///   no worker has memory for another one. All queues and reservers are dropped:
-///   [`WorldInBlocks::close_lost`] ends the phase.
+///   [`RunError::Reservers`], [`RunError::OtherPhase`], [`RunError::Memory`]: no system ran, and
+///   the reservers are handed back as they were. With no systems, it doesn't allocate.
+/// - [`RunError::Lost`]: a system returned an error, and this has the first one in the order of the
+///   systems. Or some systems didn't run, since no worker has memory for another one: then it has
+///   none. All queues and reservers are dropped: [`WorldInBlocks::close_lost`] ends the phase.
 ///
 /// # Panics
 ///
-/// A panic of a system is handed on when all workers have ended. Queues and reservers are dropped
-/// then too, and [`WorldInBlocks::close_lost`] ends the phase.
-pub fn fill_in_blocks<R, J: BlockNumbering + Send + Sync, S>(
+/// If a system panics, the panic is propagated when all workers have ended. Queues and reservers
+/// are dropped then too, and [`WorldInBlocks::close_lost`] ends the phase.
+pub fn fill_in_blocks<R, J: BlockNumbering + Send + Sync, S, E>(
     rt: &R,
     alloc: Global,
     opened: &WorldInBlocks<J>,
     reservers: Vec<BlockReserver<J>>,
     systems: &[S],
     workers: usize,
-) -> Result<(Queues, Vec<BlockReserver<J>>), HandedBack<Vec<BlockReserver<J>>, RunError>>
+) -> Result<(Queues, Vec<BlockReserver<J>>), HandedBack<Vec<BlockReserver<J>>, RunError<E>>>
 where
     R: Threads + Sync,
-    S: System<Blocks<J>> + Sync,
+    S: System<Blocks<J>, E> + Sync,
+    E: Drop + Send,
     ensures ok { IfOk result (λ ran. HaveIssued S.may_issue systems.now
         (view_in_blocks opened.now.world) opened.now.world.blocks.phase.start
         (blocks_of reservers.items) ran.0.queues (blocks_of ran.1.items)) }
@@ -141,28 +142,29 @@ where
 ///
 /// [`Unframed`] hands everything back.
 ///
-/// - [`Unframed::Unrun`] as of [`fill_in_blocks`]: no command was applied.
-/// - [`Unframed::Unended`] if all systems ran, and the world was not closed, as of
-///   [`WorldInBlocks::close`]. With the reservers of all blocks, in their order, it is so only if
-///   memory ran out.
+/// - [`Unframed::Unrun`] in the cases of [`fill_in_blocks`]: no command was applied.
+/// - [`Unframed::Unended`] if all systems ran, and the world was not closed, in the cases of
+///   [`WorldInBlocks::close`]. With the reservers of all blocks, in their order, that happens only
+///   if memory ran out.
 /// - [`Unframed::Unapplied`], [`Unframed::Stopped`] if all systems ran, and memory ran out in the
-///   sync point. It may be made again, or go on.
+///   sync point. It can be repeated or continued.
 ///
 /// # Panics
 ///
-/// A panic of a system is handed on when all workers have ended. The world is dropped then too:
-/// [`fill_in_blocks`] leaves it.
-pub fn run_frame_in_blocks<R, J: BlockNumbering + Send + Sync, S>(
+/// If a system panics, the panic is propagated when all workers have ended. The world is dropped
+/// then too; [`fill_in_blocks`] only borrows it.
+pub fn run_frame_in_blocks<R, J: BlockNumbering + Send + Sync, S, E>(
     rt: &R,
     alloc: Global,
     opened: WorldInBlocks<J>,
     reservers: Vec<BlockReserver<J>>,
     systems: &[S],
     workers: usize,
-) -> Result<(World, FrameReport), Unframed<J>>
+) -> Result<(World, FrameReport), Unframed<J, E>>
 where
     R: Threads + Sync,
-    S: System<Blocks<J>> + Sync,
+    S: System<Blocks<J>, E> + Sync,
+    E: Drop + Send,
     ensures ok { IfOk result (λ ended. EndsInBlocks S.may_issue systems.now opened.world
         (blocks_of reservers.items) ended.1.queues.items ended.0.world ended.1.sync.born.items
         ended.1.sync.faults.items) }

@@ -22,11 +22,11 @@ const COUNT: usize = 4;
 
 impl World {
     /// Appends the image of the world: bytes from which [`read_image`](Self::read_image) makes the
-    /// same world anew, with its limits, entities, births, components, waiting slots and requests.
+    /// same world again, with its limits, entities, births, components, waiting slots and requests.
     ///
-    /// The image has no more than that. Two worlds that are the same to every call have the same
-    /// image, whatever came before. It grows with the slots that were made and the living entities,
-    /// not with the calls.
+    /// The image has nothing else. Two worlds that no call can tell apart have the same image,
+    /// whatever happened to them before. It grows with the slots that were made and the living
+    /// entities, not with the calls.
     ///
     /// ```
     /// use forgeni::{ComponentId, World};
@@ -44,7 +44,8 @@ impl World {
     ///
     /// # Errors
     ///
-    /// [`OutOfMemory`](Memory) if there is no memory for the bytes. The list is unchanged then.
+    /// [`OutOfMemory`](Memory) if there isn't enough memory for the bytes. The list is unchanged
+    /// then.
     pub fn write_image(&self, out: &mut Vec<u8>) -> Result<(), Memory>
         ensures written { OnOk result
             (out.new.items ≡ out.old.items ++ image self.now.world self.now.spawned) }
@@ -65,8 +66,8 @@ impl World {
 ///
 /// # Errors
 ///
-/// Each but `Memory` says that no world has this image. `Memory` comes if there is no memory for
-/// what the image has, whatever it is.
+/// Each error except `Memory` says that no world has this image. `Memory` comes if there isn't
+/// enough memory for what the image has, whatever it is.
 pub fn read_world(alloc: Global, bytes: &[u8], number: u64) -> Result<World, WorldImageFault>
     ensures found { IfOk result (λ w. image w.world w.spawned ≡ bytes.now) }
     ensures has_image { IfOk result (λ w. HasImage w.world) }

@@ -88,7 +88,7 @@ impl<J: Numbering> Model for OpenWorld<J> {
     } };
 }
 
-/// What a phase of a world is made of, once nobody else has a part of it.
+/// What a phase of a world is made of, once no other owner has a part of it.
 #[derive(Drop)]
 pub(crate) struct Parts {
     pub(crate) of_world: u64,
@@ -135,7 +135,7 @@ impl<J: Numbering> OpenWorld<J> {
         }
     }
 
-    /// The value of the entity's component, if the entity is alive and has it.
+    /// Returns the value of the entity's component, if the entity is alive and has it.
     ///
     /// ```
     /// use forgeni::{ComponentId, World};
@@ -157,7 +157,7 @@ impl<J: Numbering> OpenWorld<J> {
         self.world.view().get(handle, id)
     }
 
-    /// When and by whom the entity was brought to life, if it is alive.
+    /// Returns the birth of the entity, if it is alive: when it came to life, and by which system.
     ///
     /// ```
     /// use forgeni::World;
@@ -175,7 +175,7 @@ impl<J: Numbering> OpenWorld<J> {
         self.world.view().birth(handle)
     }
 
-    /// Whether the entity is alive. What the systems spawn isn't yet.
+    /// Returns `true` if the entity is alive. What the systems spawn isn't alive yet.
     ///
     /// ```
     /// use forgeni::World;
@@ -194,7 +194,8 @@ impl<J: Numbering> OpenWorld<J> {
         self.world.view().contains(handle)
     }
 
-    /// The handles of all entities, by birth and then by handle. The time is that of a sort.
+    /// Returns the handles of all entities, ordered by birth and then by handle. It takes the time
+    /// of a sort.
     ///
     /// ```
     /// use forgeni::World;
@@ -210,7 +211,8 @@ impl<J: Numbering> OpenWorld<J> {
     ///
     /// # Errors
     ///
-    /// `OutOfMemory`: there is no memory for the list. It never comes if there are no entities.
+    /// `OutOfMemory`: there isn't enough memory for the list. It is never returned if there are no
+    /// entities.
     pub fn by_birth(&self) -> Result<Vec<Handle>, Memory>
         ensures ok { IfOk result (λ handles. ListsAll self.now.world.entities handles.items) }
         ensures memory { OnErr result (self.now.world.entities ≢ map.empty) }
@@ -218,7 +220,7 @@ impl<J: Numbering> OpenWorld<J> {
         self.world.view().by_birth()
     }
 
-    /// All that can be read of the world, as a system of a frame reads it.
+    /// Returns a view of the world, like the one that a system of a frame gets.
     ///
     /// ```
     /// use forgeni::{ComponentId, World};
@@ -240,7 +242,7 @@ impl<J: Numbering> OpenWorld<J> {
         self.world.view()
     }
 
-    /// How many systems the phase has.
+    /// Returns the number of systems.
     ///
     /// ```
     /// use forgeni::World;
@@ -256,7 +258,7 @@ impl<J: Numbering> OpenWorld<J> {
         self.world.shared().count()
     }
 
-    /// How many systems have come back: a close that was refused kept their queues.
+    /// Returns the number of systems that have come back: those whose queues a refused close kept.
     ///
     /// ```
     /// use forgeni::World;

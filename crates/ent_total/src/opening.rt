@@ -1,107 +1,78 @@
-//! An allocator is shared.
-ghost use Rattle.std.specs.Prelude.{◌≡◌, ◌≢◌, ◌<◌, ◌≤◌, ◌↔◌, ◌⊎◌, [], ◌++◌, All, IfOk, IfErr};
-ghost use Rattle.std.specs.Prelude.{IsErrAnd};
-ghost use Rattle.std.specs.Prelude.{reverse};
-ghost use Rattle.ent_shared.specs.Phase.{records_of};
-ghost use Rattle.ent_shared.specs.Record.{opened_records};
-ghost use Rattle.ent_total.specs.Sharing.{AreOf, reservers_of};
-ghost use Rattle.ent_total.specs.declared.share_error.ShareError.TheVariants.{NeedsFlush, Count};
+//! A phase is opened.
+ghost use Rattle.std.specs.Prelude.{◌≡◌, ◌≢◌, ◌≤◌, [], ◌++◌, All, IfOk, IfErr, reverse, length};
+ghost use Rattle.std.specs.Prelude.{Some};
+ghost use Rattle.std.specs.Vec.{vec_capacity};
+ghost use Rattle.ent_total.specs.Phases.{AreOf, reservers_of};
 
 use crate::numbering::Numbering;
+use crate::phase::Phase;
 use crate::reserver::Reserver;
-use crate::share_error::ShareError;
-use crate::shared::Shared;
-use ent_alloc::Entities;
-use ent_handle::HandedBack;
+use ent_alloc::Phased;
 use std::alloc::Global;
 use std::marker::Model;
 use std::sync::Arc;
 
-/// How many callers a phase may have.
-pub(crate) const CALLERS: usize = 1024;
-
 /// A phase that has no number yet, with all its reservers.
 #[derive(Drop)]
-pub struct Opening<J: Numbering> {
+pub struct Opening<J: Numbering, S: Phased> {
     alloc: Global,
-    shared: Arc<ent_shared::Shared, Global>,
-    returned: Vec<ent_shared::Reserver>,
-    reservers: Vec<Reserver<J>>,
+    source: Arc<S, Global>,
+    returned: Vec<S::Reserver>,
+    reservers: Vec<Reserver<J, S>>,
 }
 
-impl<J: Numbering> Model for Opening<J> {
+impl<J: Numbering, S: Phased> Model for Opening<J, S> {
     ghost use Rattle.std.specs.Prelude.{All, ◌≡◌, ◌≤◌, [], length};
     ghost use Rattle.std.specs.Vec.{vec_capacity};
     ghost use Rattle.std.specs.Arc.{arc_value};
-    ghost use Rattle.ent_shared.specs.Phase.{IsOf};
-    ghost use Rattle.ent_total.specs.Sharing.{Opening, opening_code};
+    ghost use Rattle.ent_total.specs.Phases.{Opening, opening_code};
 
-    ghost Value = { Opening };
+    ghost Value = { Opening S S.Reserver };
 
-    ghost coded = { opening_code };
+    ghost coded = { opening_code S.code S.Reserver.code };
 
-    ghost view = { λ o. record { shared = arc_value o.shared; returned = o.returned.items } };
+    ghost view = { λ o. record { source = arc_value o.source; returned = o.returned.items } };
 
-    // The reservers returned came with this allocator, and there is room for all of them, returned
-    // and where they are given out.
-    ghost invariant = { λ o. All (IsOf (arc_value o.shared)) o.returned.items
-        × ((arc_value o.shared).count ≤ vec_capacity o.returned)
+    // The reservers returned came with this source, and there is room for all of them, returned and
+    // where they are given out.
+    ghost invariant = { λ o. All (S.serves (arc_value o.source)) o.returned.items
+        × (S.count (arc_value o.source) ≤ vec_capacity o.returned)
         × (o.reservers.items ≡ [])
         × (length o.returned.items ≤ vec_capacity o.reservers) };
 }
 
-/// Shares an allocator among `count` callers, 1 to 1,024.
+/// A phase of a source, whose reservers are these. The lists have room for all of them.
 ///
 /// # Errors
 ///
-/// [`HandedBack`] has the allocator as it was, and the first of these errors that holds:
-/// [`ShareError::NeedsFlush`], [`ShareError::Count`], [`ShareError::Memory`].
-pub fn share<J: Numbering>(
+/// Both as they were, if an allocation fails.
+pub fn begin<J: Numbering, S: Phased>(
     alloc: Global,
-    entities: Entities,
-    count: usize,
-) -> Result<Opening<J>, HandedBack<Entities, ShareError>>
-    ensures start { IfOk result (λ o. o.shared.start ≡ entities.allocator) }
-    ensures rows { IfOk result (λ o. o.shared.rows ≡ entities.rows) }
-    ensures count { IfOk result (λ o. o.shared.count ≡ count) }
-    ensures may_return { IfOk result (λ o.
-        records_of o.returned ≡ opened_records entities.allocator 0 count) }
-    ensures needs_flush { IsErrAnd result (λ h. h.error ≡ NeedsFlush)
-        ↔ (0 < entities.allocator.asked) }
-    ensures no_count { IsErrAnd result (λ h. h.error ≡ Count)
-        ↔ ((entities.allocator.asked ≡ 0) × ((count ≡ 0) ⊎ (1024 < count))) }
-    ensures handed_back { IfErr result (λ h. h.value ≡ entities) }
+    source: S,
+    returned: Vec<S::Reserver>,
+    reservers: Vec<Reserver<J, S>>,
+) -> Result<Opening<J, S>, (S, Vec<S::Reserver>)>
+    requires own { All (S.serves source) returned.items }
+    requires count { S.count source ≤ vec_capacity returned }
+    requires none { reservers.items ≡ [] }
+    requires room { length returned.items ≤ vec_capacity reservers }
+    ensures opening { IfOk result (λ o. o ≡ record { source = source; returned = returned.items }) }
+    ensures err { IfErr result (λ back. (back.0 ≡ source) × (back.1 ≡ returned)) }
 {
-    if entities.needs_flush() {
-        return Err(HandedBack::new(entities, ShareError::NeedsFlush));
-    }
-    if count == 0 || count > CALLERS {
-        return Err(HandedBack::new(entities, ShareError::Count));
-    }
-    let Ok(reservers) = Vec::with_capacity(alloc, count) else {
-        return Err(HandedBack::new(entities, ShareError::Memory));
-    };
-    let (shared, returned) = match ent_shared::share(alloc, entities, count) {
-        Ok(made) => made,
-        Err((entities, _)) => return Err(HandedBack::new(entities, ShareError::Memory)),
-    };
-    match Arc::new(alloc, shared) {
-        Ok(shared) => Ok(Opening {
+    match Arc::new(alloc, source) {
+        Ok(source) => Ok(Opening {
             alloc,
-            shared,
+            source,
             returned,
             reservers,
         }),
-        Err(refused) => {
-            let entities = refused.value.close(returned);
-            Err(HandedBack::new(entities, ShareError::Memory))
-        }
+        Err(refused) => Err((refused.value, returned)),
     }
 }
 
-impl<J: Numbering> Opening<J> {
+impl<J: Numbering, S: Phased> Opening<J, S> {
     /// The phase under this number, which no other phase has, and all its reservers, in the order
-    /// of their numbers. It takes no memory.
+    /// in which they were made. It doesn't allocate.
     ///
     /// # Errors
     ///
@@ -110,17 +81,17 @@ impl<J: Numbering> Opening<J> {
     pub fn numbered(
         self,
         number: u64,
-    ) -> Result<(Shared<J>, Vec<Reserver<J>>), (Shared<J>, Vec<Reserver<J>>)>
-        requires stands_for { J.shared_of number ≡ self.shared }
+    ) -> Result<(Phase<J, S>, Vec<Reserver<J, S>>), (Phase<J, S>, Vec<Reserver<J, S>>)>
+        requires stands_for { J.phase_of S number ≡ Some self.source }
         ensures phase { IfOk result (λ made.
-            made.0 ≡ record { number = number; shared = self.shared; returned = [] }) }
+            made.0 ≡ record { number = number; source = self.source; returned = [] }) }
         ensures reservers { IfOk result (λ made. reservers_of made.1.items ≡ self.returned) }
         ensures of { IfOk result (λ made. AreOf number made.1.items) }
-        ensures same { IfOk result (λ made. All (λ r. r.shared ≡ self.shared) made.1.items) }
+        ensures same { IfOk result (λ made. All (λ r. r.source ≡ self.source) made.1.items) }
 
         // What holds if not all could be given out.
         ensures err_phase { IfErr result (λ made.
-            made.0 ≡ record { number = number; shared = self.shared; returned = made.0.returned }) }
+            made.0 ≡ record { number = number; source = self.source; returned = made.0.returned }) }
         ensures err_some_returned { IfErr result (λ made. made.0.returned ≢ []) }
         ensures err_reservers { IfErr result (λ made.
             reservers_of made.1.items ++ reverse made.0.returned ≡ self.returned) }
@@ -128,16 +99,16 @@ impl<J: Numbering> Opening<J> {
     {
         let Opening {
             alloc,
-            shared,
+            source,
             mut returned,
             mut reservers,
         } = self;
         returned.reverse();
-        let mut shared = Shared::new(alloc, shared, returned, number);
-        shared.give_out(&mut reservers);
-        if shared.returned() > 0 {
-            return Err((shared, reservers));
+        let mut phase = Phase::new(alloc, source, returned, number);
+        phase.give_out(&mut reservers);
+        if phase.returned() > 0 {
+            return Err((phase, reservers));
         }
-        Ok((shared, reservers))
+        Ok((phase, reservers))
     }
 }

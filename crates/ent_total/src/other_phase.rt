@@ -1,6 +1,6 @@
 use thiserror::Error;
 
-/// The two are of two phases. Nothing has changed.
+/// The two belong to different phases. Nothing has changed.
 ///
 /// ```
 /// use forgeni::{Entities, OtherPhase};

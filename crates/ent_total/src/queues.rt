@@ -46,7 +46,7 @@ impl Queues {
         Queues { world, queues }
     }
 
-    /// How many queues there are.
+    /// Returns the number of queues.
     ///
     /// ```
     /// use forgeni::World;
@@ -63,7 +63,7 @@ impl Queues {
         self.queues.len()
     }
 
-    /// Whether there is none.
+    /// Returns `true` if there are no queues.
     ///
     /// ```
     /// use forgeni::{Queues, Report, SyncError, World};

@@ -1,24 +1,21 @@
-ghost use Rattle.std.specs.Prelude.{◌≡◌, ◌≢◌, ◌↔◌, ◌<◌, length, AllPairs};
-ghost use Rattle.std.specs.Prelude.{OnOk, OnErr, OnSome, IsTrue, true};
+ghost use Rattle.std.specs.Prelude.{◌≡◌, ◌↔◌, ◌<◌, length, AllPairs, OnSome, IsTrue, true};
 ghost use Rattle.std.specs.FinSet as set;
 ghost use Rattle.std.specs.FinMap as map;
-ghost use Rattle.ent_shared.specs.Moves.{after_meeting};
-ghost use Rattle.ent_shared.specs.Phase.{IsBelow};
 
 use crate::numbering::Numbering;
-use crate::other_phase::OtherPhase;
-use crate::shared::Shared;
-use ent_alloc::Living;
+use crate::phase::Phase;
+use ent_alloc::{Living, Phased};
 use ent_handle::Handle;
+use ent_shared::Shared;
 use std::alloc::Global;
 use std::marker::{Model, PhantomData};
 use std::sync::Arc;
 
-/// The right of one caller to reserve from a shared allocator.
+/// One caller's right to reserve in a phase of an allocator. `S` is the source of its handles.
 ///
-/// It may go to a thread of its own. A reservation makes one atomic step and waits for nobody. The
-/// handle is what the allocator would have given to one caller at that moment, so no two callers
-/// are given the same one. It comes to life after the phase, by the next flush.
+/// It can go to a thread of its own. A reservation never waits, and in a shared allocator it is one
+/// atomic step: the handle is what the allocator would have given to one caller at that moment. No
+/// two callers are given the same one. It comes to life after the phase, by the next flush.
 ///
 /// ```
 /// use forgeni::Entities;
@@ -33,7 +30,7 @@ use std::sync::Arc;
 /// # Ok::<(), Box<dyn std::error::Error>>(())
 /// ```
 ///
-/// Two threads can't reserve by one reserver at once:
+/// Two threads can't use one reserver at the same time:
 ///
 /// ```compile_fail
 /// let (shared, mut reservers) = forgeni::Entities::new().share(1).unwrap();
@@ -44,119 +41,36 @@ use std::sync::Arc;
 /// });
 /// ```
 #[derive(Drop)]
-pub struct Reserver<J: Numbering> {
+pub struct Reserver<J: Numbering, S: Phased = Shared> {
     pub(crate) alloc: Global,
-    pub(crate) shared: Arc<ent_shared::Shared, Global>,
-    pub(crate) reserver: ent_shared::Reserver,
+    pub(crate) source: Arc<S, Global>,
+    pub(crate) reserver: S::Reserver,
     pub(crate) number: u64,
     pub(crate) of: PhantomData<J>,
 }
 
-impl<J: Numbering> Model for Reserver<J> {
-    ghost use Rattle.std.specs.Prelude.{◌≡◌};
+impl<J: Numbering, S: Phased> Model for Reserver<J, S> {
+    ghost use Rattle.std.specs.Prelude.{◌≡◌, Some};
     ghost use Rattle.std.specs.Arc.{arc_value};
-    ghost use Rattle.ent_shared.specs.Phase.{IsOf};
-    ghost use Rattle.ent_total.specs.Sharing.{Reserver, reserver_code};
+    ghost use Rattle.ent_total.specs.Phases.{Reserver, reserver_code};
 
-    ghost Value = { Reserver };
+    ghost Value = { Reserver S S.Reserver };
 
-    ghost coded = { reserver_code };
+    ghost coded = { reserver_code S.code S.Reserver.code };
 
     ghost view = { λ r. record {
       number = r.number;
-      shared = arc_value r.shared;
+      source = arc_value r.source;
       reserver = r.reserver;
     } };
 
-    // The number means the allocator, and the reserver came with it.
-    ghost invariant = { λ r. (J.shared_of r.number ≡ arc_value r.shared)
-        × IsOf (arc_value r.shared) r.reserver };
+    // The number means the source, and the reserver came with it.
+    ghost invariant = { λ r. (J.phase_of S r.number ≡ Some (arc_value r.source))
+        × S.serves (arc_value r.source) r.reserver };
 }
 
-impl<J: Numbering> Reserver<J> {
-    /// Each later reservation of this one comes after everything that the other one has reserved or
-    /// learned of so far. Without a meeting nothing is promised on the order of two reservers. It
-    /// takes no memory and waits for nobody.
-    ///
-    /// ```
-    /// use forgeni::Entities;
-    ///
-    /// let (shared, mut reservers) = Entities::new().share(2)?;
-    /// let [one, other] = &mut reservers[..] else { unreachable!() };
-    /// let first = other.reserve()?;
-    /// one.meet(other)?;
-    /// let second = one.reserve()?;
-    /// assert_eq!((first.index(), second.index()), (0, 1));
-    /// let _entities = shared.close(reservers)?;
-    /// # Ok::<(), Box<dyn std::error::Error + Send + Sync>>(())
-    /// ```
-    ///
-    /// # Errors
-    ///
-    /// [`OtherPhase`] if they are not of one phase. Nothing has changed then.
-    pub fn meet(&mut self, other: &mut Reserver<J>) -> Result<(), OtherPhase>
-        ensures same_phase { OnOk result (self.old.number ≡ other.old.number) }
-        ensures other_phase { OnErr result (self.old.number ≢ other.old.number) }
-        ensures meets { OnOk result (self.new ≡ record self.old {
-          reserver = record self.old.reserver {
-            own = after_meeting self.old.reserver.own other.old.reserver.own;
-          };
-        }) }
-        ensures met { other.new ≡ other.old }
-        ensures unchanged { OnErr result (self.new ≡ self.old) }
-
-        // Every reservation that the other one has made or learned of ends above where the next
-        // one of this one may begin.
-        ensures mark { OnOk result
-            (IsBelow self.new.reserver.own.mark other.old.reserver.own.entries) }
-    {
-        if self.number != other.number {
-            return Err(OtherPhase);
-        }
-        self.shared.meet(&mut self.reserver, &mut other.reserver);
-        Ok(())
-    }
-
-    /// Which of the reservers it is: its position in the list in which they were given out, from 0.
-    ///
-    /// ```
-    /// use forgeni::Entities;
-    ///
-    /// let (_shared, reservers) = Entities::new().share(3)?;
-    /// // Each thread writes into a list of its own.
-    /// let mut lists = vec![Vec::new(); 3];
-    /// for mut reserver in reservers.into_iter().rev() {
-    ///     lists[reserver.number()] = reserver.reserve_many(2)?;
-    /// }
-    /// assert_eq!(lists[2][0].index(), 0);
-    /// # Ok::<(), Box<dyn std::error::Error>>(())
-    /// ```
-    #[must_use]
-    pub fn number(&self) -> usize
-        ensures { result ≡ self.now.reserver.own.number }
-    {
-        self.reserver.number()
-    }
-
-    /// How many handles it may still request in this phase: 2^40 less what it has requested, served
-    /// or not.
-    ///
-    /// ```
-    /// use forgeni::Entities;
-    ///
-    /// let (_shared, mut reservers) = Entities::new().share(1)?;
-    /// reservers[0].reserve_many(1_000)?;
-    /// assert_eq!(reservers[0].quota_left(), (1 << 40) - 1_000);
-    /// # Ok::<(), Box<dyn std::error::Error>>(())
-    /// ```
-    #[must_use]
-    pub fn quota_left(&self) -> u64
-        ensures { result ≡ self.now.reserver.own.left }
-    {
-        self.reserver.left()
-    }
-
-    /// How many reservers the phase has.
+impl<J: Numbering, S: Phased> Reserver<J, S> {
+    /// Returns the number of reservers of the phase.
     ///
     /// ```
     /// use forgeni::Entities;
@@ -169,12 +83,12 @@ impl<J: Numbering> Reserver<J> {
     /// ```
     #[must_use]
     pub fn count(&self) -> usize
-        ensures { result ≡ self.now.shared.count }
+        ensures { result ≡ S.count self.now.source }
     {
-        self.shared.count()
+        self.source.callers()
     }
 
-    /// Whether it is of this phase.
+    /// Returns `true` if it belongs to this phase.
     ///
     /// ```
     /// use forgeni::Entities;
@@ -185,14 +99,14 @@ impl<J: Numbering> Reserver<J> {
     /// # Ok::<(), Box<dyn std::error::Error>>(())
     /// ```
     #[must_use]
-    pub fn is_of(&self, shared: &Shared<J>) -> bool
-        ensures number { IsTrue result ↔ (self.now.number ≡ shared.now.number) }
-        ensures shared { IsTrue result → self.now.shared ≡ shared.now.shared }
+    pub fn is_of(&self, phase: &Phase<J, S>) -> bool
+        ensures number { IsTrue result ↔ (self.now.number ≡ phase.now.number) }
+        ensures source { IsTrue result → self.now.source ≡ phase.now.source }
     {
-        self.number == shared.number()
+        self.number == phase.number()
     }
 
-    /// Whether the entity was alive when the phase was opened, as [`Shared::is_alive`] says it.
+    /// Returns `true` if the entity was alive when the phase was opened, like [`Phase::is_alive`].
     ///
     /// ```
     /// use forgeni::Entities;
@@ -206,12 +120,12 @@ impl<J: Numbering> Reserver<J> {
     /// ```
     #[must_use]
     pub fn is_alive(&self, handle: Handle) -> bool
-        ensures { result ≡ set.contains self.now.shared.start.live handle }
+        ensures { result ≡ set.contains (S.start self.now.source).live handle }
     {
-        self.shared.is_alive(handle)
+        self.source.as_opened().is_alive(handle)
     }
 
-    /// The row of the entity when the phase was opened, as [`Shared::row`] says it.
+    /// Returns the row that the entity had when the phase was opened, like [`Phase::row`].
     ///
     /// ```
     /// use forgeni::Entities;
@@ -225,13 +139,14 @@ impl<J: Numbering> Reserver<J> {
     /// ```
     #[must_use]
     pub fn row(&self, handle: Handle) -> Option<u32>
-        ensures value { result ≡ map.get self.now.shared.rows handle }
-        ensures alive { OnSome result (set.contains self.now.shared.start.live handle ≡ true) }
+        ensures value { result ≡ map.get (S.rows self.now.source) handle }
+        ensures alive { OnSome result (set.contains (S.start self.now.source).live handle ≡ true) }
     {
-        self.shared.row(handle)
+        self.source.as_opened().row(handle)
     }
 
-    /// The entities that were alive when the phase was opened, as [`Shared::iter`] has them.
+    /// Returns an iterator over the entities that were alive when the phase was opened, like
+    /// [`Phase::iter`].
     ///
     /// ```
     /// use forgeni::Entities;
@@ -245,10 +160,10 @@ impl<J: Numbering> Reserver<J> {
     /// ```
     #[must_use]
     pub fn iter(&self) -> Living<'_>
-        ensures living { set.from_list result ≡ self.now.shared.start.live }
+        ensures living { set.from_list result ≡ (S.start self.now.source).live }
         ensures rising { AllPairs (λ g h. g.index < h.index) result }
-        ensures count { length result ≡ set.len self.now.shared.start.live }
+        ensures count { length result ≡ set.len (S.start self.now.source).live }
     {
-        self.shared.iter()
+        self.source.as_opened().iter()
     }
 }

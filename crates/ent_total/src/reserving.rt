@@ -1,22 +1,19 @@
 //! What a reserver reserves: one handle, or many at once.
 ghost use Rattle.std.specs.Prelude.{◌≡◌, ◌↔◌, ◌⊎◌, ◌+◌, ◌<◌, ◌≤◌, [], ◌∷◌, ◌++◌, length};
-ghost use Rattle.std.specs.Prelude.{Ok, Err, IfOk, IfErr, IsErrAnd, OnOk, OnErr, IsOk, IsErrOf};
-ghost use Rattle.std.specs.Prelude.{IsTrue};
+ghost use Rattle.std.specs.Prelude.{Ok, Err, IfOk, IfErr, OnOk, OnErr, IsErrOf, IsTrue};
 ghost use Rattle.std.specs.Prelude.{vec_len, vec_capacity};
 ghost use Rattle.ent_alloc.specs.Sequential.{listed_alone};
-ghost use Rattle.ent_alloc.specs.declared.refused.Refused.TheVariants as refused;
 ghost use Rattle.ent_alloc.specs.declared.reserve_error.ReserveError.TheVariants as failed;
-ghost use Rattle.ent_shared.specs.Order.{handles_given};
-ghost use Rattle.ent_total.specs.Faults.{IsSpace};
-ghost use Rattle.ent_total.specs.Sharing.{MakesReservation, GivesReply, IsUnserved, MayBeServed};
+ghost use Rattle.ent_total.specs.Reserving.{IfRefusal, Replies, Lists};
 
 use crate::numbering::Numbering;
 use crate::reserver::Reserver;
-use ent_alloc::{Refused, ReserveError, Reserved};
+use ent_alloc::{Phased, Refused, ReserveError, Reserved};
 use ent_handle::Handle;
 
-impl<J: Numbering> Reserver<J> {
-    /// Reserves one handle, by one atomic step. It takes no memory.
+impl<J: Numbering, S: Phased> Reserver<J, S> {
+    /// Reserves one handle, in a shared allocator by one atomic step. It neither allocates nor
+    /// waits.
     ///
     /// ```
     /// use forgeni::Entities;
@@ -33,23 +30,14 @@ impl<J: Numbering> Reserver<J> {
     /// [`Refused::Space`] if the pool is empty; the request is taken from the quota too.
     /// [`Refused::Quota`] if nothing is left of the quota, and then nothing has changed.
     pub fn reserve(&mut self) -> Result<Handle, Refused>
-        ensures quota { self.old.reserver.own.left ≡ 0
-            → (result ≡ Err (refused.Quota 0)) × (self.new ≡ self.old) }
-        ensures gains { 0 < self.old.reserver.own.left
-            → MakesReservation self.old self.new 1 (listed_alone result) }
-
-        // What was given is recorded.
-        ensures given { IfOk result (λ handle. handles_given self.new.reserver.own
-            ≡ handles_given self.old.reserver.own ++ handle ∷ []) }
-        ensures refused { OnErr result
-            (handles_given self.new.reserver.own ≡ handles_given self.old.reserver.own) }
+        ensures replies { Replies S.may_reply self.old self.new 1 (listed_alone result) }
     {
-        self.shared.reserve(&mut self.reserver)
+        self.source.serve_one(&mut self.reserver)
     }
 
-    /// Reserves `n` handles at once, by one atomic step: all of them or none. They are in the order
-    /// in which the allocator would have given them to one caller. A request of 0 makes no step,
-    /// and is always served.
+    /// Reserves `n` handles at once, in a shared allocator by one atomic step: all of them or none.
+    /// They are in the order in which the allocator would have given them to one caller. A request of
+    /// 0 makes no step, and is always served.
     ///
     /// ```
     /// use forgeni::{Entities, Limits, ReserveError};
@@ -68,35 +56,28 @@ impl<J: Numbering> Reserver<J> {
     /// - [`ReserveError::Quota`] if `n` is above what is left of the quota. Nothing has changed.
     /// - [`ReserveError::Space`] if the pool has fewer than `n` handles. `n` is taken from the
     ///   quota all the same, and the pool gives no more until the next flush.
-    /// - [`ReserveError::Memory`] if there is no memory for the list. Nothing has changed.
+    /// - [`ReserveError::Memory`] if there isn't enough memory for the list. Nothing has changed.
     ///
-    /// The list is allocated before the atomic step, and only that step tells what the pool has. So
+    /// The list is allocated before the atomic step, and only that step shows what the pool has. So
     /// if others have left too few handles, the error may be `Memory`. A request for more than the
-    /// pool had when the phase was opened takes no memory, and returns `Space`.
+    /// pool had when the phase was opened doesn't allocate, and returns `Space`.
     pub fn reserve_many(&mut self, n: u32) -> Result<Vec<Handle>, ReserveError>
-        ensures gains { IfOk result (λ handles.
-            0 < n → MakesReservation self.old self.new n (Ok handles.items)) }
+        ensures served { IfOk result (λ handles.
+            Replies S.may_reply self.old self.new n (Ok handles.items)) }
         ensures length { IfOk result (λ handles. length handles.items ≡ n) }
-        ensures nothing { n ≡ 0 → IsOk result × (self.new ≡ self.old) }
-
-        // The first that holds: the quota has too few, there is no memory, the pool has too few.
-        ensures quota { IsErrOf result (failed.Quota self.old.reserver.own.left)
-            ↔ (self.old.reserver.own.left < n) }
-        ensures short { n ≤ self.old.reserver.own.left
-            → length self.old.shared.start.pool < n → IsErrAnd result IsSpace }
-        ensures refused { IfErr result (IsUnserved self.old self.new n) }
-
-        // What was given is recorded.
-        ensures given { IfOk result (λ handles. handles_given self.new.reserver.own
-            ≡ handles_given self.old.reserver.own ++ handles.items) }
+        ensures memory { IsErrOf result failed.Memory
+            → S.may_give self.old.source self.old.reserver n
+            × (self.new ≡ self.old) × (0 < n) }
+        ensures refused { IfErr result (λ error. (error ≡ failed.Memory)
+            ⊎ IfRefusal error (λ why. Replies S.may_reply self.old self.new n (Err why))) }
     {
         let mut handles = Vec::new(self.alloc);
         self.reserve_into(&mut handles, n)?;
         Ok(handles)
     }
 
-    /// [`reserve_many`](Self::reserve_many), which appends the handles to a list. It takes no
-    /// memory if the list has room for them.
+    /// [`reserve_many`](Self::reserve_many), which appends the handles to a list. It doesn't
+    /// allocate if the list has room for them.
     ///
     /// ```
     /// use forgeni::Entities;
@@ -112,41 +93,33 @@ impl<J: Numbering> Reserver<J> {
     ///
     /// # Errors
     ///
-    /// As [`reserve_many`](Self::reserve_many), and then the list has the same handles as before.
+    /// The same as for [`reserve_many`](Self::reserve_many). The list is unchanged.
     pub fn reserve_into(&mut self, handles: &mut Vec<Handle>, n: u32) -> Result<(), ReserveError>
-        ensures given { OnOk result (0 < n
-            → GivesReply self.old self.new n handles.old.items handles.new.items) }
-        ensures nothing { n ≡ 0 → IsOk result × (self.new ≡ self.old)
-            × (handles.new.items ≡ handles.old.items) }
+        ensures served { OnOk result
+            (Lists S.may_reply self.old self.new n handles.old.items handles.new.items) }
         ensures kept { OnErr result (handles.new.items ≡ handles.old.items) }
-
-        // The first that holds: the quota has too few, there is no memory, the pool has too few.
-        ensures quota { IsErrOf result (failed.Quota self.old.reserver.own.left)
-            ↔ (self.old.reserver.own.left < n) }
-        ensures short { n ≤ self.old.reserver.own.left
-            → length self.old.shared.start.pool < n → IsErrAnd result IsSpace }
-        ensures refused { IfErr result (IsUnserved self.old self.new n) }
-
-        // It takes memory only if the list has no room, and if so many may be served.
+        ensures refused { IfErr result (λ error. (error ≡ failed.Memory)
+            ⊎ IfRefusal error (λ why. Replies S.may_reply self.old self.new n (Err why))) }
         ensures memory { IsErrOf result failed.Memory
-            → vec_capacity handles.old < vec_len handles.old + n }
+            → S.may_give self.old.source self.old.reserver n
+            × (self.new ≡ self.old) × (vec_capacity handles.old < vec_len handles.old + n) }
         ensures room { (vec_len handles.old + n ≤ vec_capacity handles.old)
-            ⊎ ¬ (MayBeServed self.old n) → vec_capacity handles.new ≡ vec_capacity handles.old }
+            ⊎ ¬ (S.may_give self.old.source self.old.reserver n)
+            → vec_capacity handles.new ≡ vec_capacity handles.old }
     {
         if handles.capacity() - handles.len() < n as usize && self.may_be_served(n) {
             handles.reserve(n as usize)?;
         }
-        let given = self.shared.reserve_many(&mut self.reserver, n)?;
+        let given = self.source.serve_many(&mut self.reserver, n)?;
         append(handles, given);
         Ok(())
     }
 
     /// Whether a request for `n` may be served. If not, no memory is taken for it.
     fn may_be_served(&self, n: u32) -> bool
-        ensures { IsTrue result ↔ MayBeServed self.now n }
+        ensures { IsTrue result ↔ S.may_give self.now.source self.now.reserver n }
     {
-        let n = u64::from(n);
-        n <= self.reserver.left() && n <= self.shared.pool()
+        self.source.may_serve(&self.reserver, n)
     }
 }
 

@@ -1,7 +1,7 @@
 use thiserror::Error;
 
-/// Where a sync point stopped because memory ran out. All births have taken effect, and of the
-/// commands just those before.
+/// Where a sync point stopped because memory ran out. All births have taken effect, and exactly the
+/// commands before that point.
 ///
 /// ```
 /// use forgeni::{Stop, Stopped};

@@ -23,14 +23,15 @@ use std::fmt;
 pub enum SyncError {
     /// The queues are of a phase of another world. Nothing was done, and these are the queues.
     OtherWorld(Queues),
-    /// There was no memory to begin. Nothing was done, and these are the queues.
+    /// There wasn't enough memory to begin. Nothing was done, and these are the queues.
     Memory(Queues),
     /// Memory ran out at a command. [`Stopped::go_on`] does the rest.
     Stopped(Stopped),
 }
 
 impl SyncError {
-    /// What it hands back: the queues if nothing was done, and else where it stopped.
+    /// Returns what it hands back: the queues if nothing was done, and otherwise the sync point
+    /// that stopped.
     ///
     /// ```
     /// use forgeni::{Queues, Report, World};

@@ -4,12 +4,12 @@ use crate::stopped::Stopped;
 use crate::world::World;
 use crate::world_in_blocks::WorldInBlocks;
 use ent_blocks::{BlockReserver, EndError};
-use ent_handle::HandedBack;
+use ent_handle::{HandedBack, Memory};
 use ent_runner::RunError;
 use std::error::Error;
 use std::fmt;
 
-/// A frame in blocks that didn't end. It hands everything back.
+/// Why a frame in blocks wasn't completed. It hands everything back.
 ///
 /// ```
 /// # #[cfg(feature = "std")] {
@@ -31,27 +31,28 @@ use std::fmt;
 /// # Ok::<(), Box<dyn std::error::Error>>(())
 /// ```
 #[derive(Drop)]
-pub enum Unframed<J: BlockNumbering> {
-    /// The systems filled no queues. The world is as it was opened, and no command was applied.
+pub enum Unframed<J: BlockNumbering, E = Memory> {
+    /// The systems filled no queues. The world is as it was when it was opened, and no command was
+    /// applied.
     Unrun {
-        /// The world as it was opened.
+        /// The world as it was when it was opened.
         world: WorldInBlocks<J>,
         /// The reservers that were handed in, as they were. None, if systems ran
         /// ([`RunError::Lost`]): [`WorldInBlocks::close_lost`] ends the phase without them.
         reservers: Vec<BlockReserver<J>>,
         /// Why there are no queues.
-        error: RunError,
+        error: RunError<E>,
     },
     /// All systems ran, and the world was not closed. [`WorldInBlocks::close`] closes it, and
     /// [`World::apply`] does the sync point.
     Unended {
-        /// The world as it was opened, the reservers, and why it wasn't closed.
+        /// The world as it was when it was opened, the reservers, and why it wasn't closed.
         unended: HandedBack<(WorldInBlocks<J>, Vec<BlockReserver<J>>), EndError>,
         /// What the systems issued.
         queues: Queues,
     },
-    /// All systems ran, and there was no memory to begin the sync point. No command took effect.
-    /// [`World::apply`] makes it.
+    /// All systems ran, and there wasn't enough memory to begin the sync point. No command took
+    /// effect. [`World::apply`] does the sync point.
     Unapplied {
         /// The world, in which all that the systems spawned is reserved.
         world: World,
@@ -69,7 +70,7 @@ pub enum Unframed<J: BlockNumbering> {
 }
 
 /// It says why.
-impl<J: BlockNumbering> fmt::Display for Unframed<J> {
+impl<J: BlockNumbering, E: fmt::Display> fmt::Display for Unframed<J, E> {
     fn fmt<W: fmt::Write>(&self, f: &mut fmt::Formatter<W>) -> fmt::Result {
         match self {
             Unframed::Unrun { error, .. } => write!(f, "{error}"),
@@ -81,7 +82,7 @@ impl<J: BlockNumbering> fmt::Display for Unframed<J> {
 }
 
 /// It shows why, and says that there is more.
-impl<J: BlockNumbering> fmt::Debug for Unframed<J> {
+impl<J: BlockNumbering, E: fmt::Debug> fmt::Debug for Unframed<J, E> {
     fn fmt<W: fmt::Write>(&self, f: &mut fmt::Formatter<W>) -> fmt::Result {
         match self {
             Unframed::Unrun { error, .. } => write!(f, "Unrun {{ error: {error:?}, .. }}"),
@@ -98,4 +99,4 @@ impl<J: BlockNumbering> fmt::Debug for Unframed<J> {
     }
 }
 
-impl<J: BlockNumbering> Error for Unframed<J> {}
+impl<J: BlockNumbering, E: fmt::Debug + fmt::Display + Drop> Error for Unframed<J, E> {}

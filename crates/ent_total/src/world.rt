@@ -23,9 +23,9 @@ const NO_SYSTEM: u32 = 0xffff_ffff;
 ///
 /// A component is a number ([`ComponentId`]) and a value of 64 bits. Systems that run side by side
 /// don't touch the world: `open` gives each its [`Commands`](crate::Commands), and
-/// [`apply`](World::apply) lets their queues take effect. Outside of phases entities come and go at
-/// once ([`spawn`](World::spawn), [`despawn`](World::despawn)), and the components of a living one
-/// change by commands alone.
+/// [`apply`](World::apply) lets their queues take effect. Outside of phases, entities come and go
+/// at once ([`spawn`](World::spawn), [`despawn`](World::despawn)), and the components of a living
+/// entity change only by commands.
 ///
 /// Queues take effect in their order, whichever system issued first. So births, components and
 /// faults are the same on any number of threads, if no request is refused, no allocation fails, and
@@ -64,8 +64,8 @@ pub struct World {
     pub(crate) spawned: u32,
 }
 
-/// A world without entities, with these limits. It takes no memory. The number is its own: by it
-/// queues know their world.
+/// Creates a world without entities, with these limits. It doesn't allocate. The number is its own:
+/// by it queues know their world.
 pub fn new_world(alloc: Global, limits: Limits, number: u64) -> World
     ensures { result ≡ record { world = first_world limits; number = number; spawned = 0 } }
 {
@@ -135,7 +135,8 @@ impl World {
         Ok(handle)
     }
 
-    /// As [`spawn`](World::spawn), with this birth. It may be any, even that of another entity.
+    /// Like [`spawn`](World::spawn), but with this birth. It can be any birth, even that of another
+    /// entity.
     ///
     /// ```
     /// use forgeni::{Birth, ComponentId, World};
@@ -152,7 +153,7 @@ impl World {
     ///
     /// # Errors
     ///
-    /// As of `spawn`.
+    /// The same as for `spawn`.
     #[inline(always)]
     pub fn spawn_with_birth(
         &mut self,
@@ -184,7 +185,7 @@ impl World {
         self.world.spawn(birth, &bundle)
     }
 
-    /// Why nothing was spawned, when there is no memory for the components.
+    /// Why nothing was spawned, when there isn't enough memory for the components.
     #[cold]
     fn no_bundle(&self) -> AllocFault
         ensures needs_flush { result ≡ AllocFault.NeedsFlush ↔ (0 < self.now.world.allocator.asked) }
@@ -197,7 +198,7 @@ impl World {
         }
     }
 
-    /// Takes a living entity out, with all its components.
+    /// Removes a living entity, with all its components.
     ///
     /// ```
     /// use forgeni::{FreeError, World};
@@ -232,7 +233,7 @@ impl World {
         self.world.despawn(handle)
     }
 
-    /// The value of the entity's component, if the entity is alive and has it.
+    /// Returns the value of the entity's component, if the entity is alive and has it.
     ///
     /// ```
     /// use forgeni::{ComponentId, World};
@@ -252,7 +253,7 @@ impl World {
         self.world.get(handle, id)
     }
 
-    /// When and by whom the entity was brought to life, if it is alive.
+    /// Returns the birth of the entity, if it is alive: when it came to life, and by which system.
     ///
     /// ```
     /// use forgeni::World;
@@ -271,8 +272,9 @@ impl World {
         self.world.birth(handle)
     }
 
-    /// Whether the entity is alive. It takes constant time. It is false for a handle that is only
-    /// reserved, for which [`Entities::contains`](forgeni::Entities::contains) is true.
+    /// Returns `true` if the entity is alive. It takes constant time. It returns `false` for a
+    /// handle that is only reserved, for which [`Entities::contains`](forgeni::Entities::contains)
+    /// returns `true`.
     ///
     /// ```
     /// use forgeni::World;
@@ -292,7 +294,8 @@ impl World {
         self.world.contains(handle)
     }
 
-    /// The entity's components and their values, by rising number, if it is alive.
+    /// Returns the entity's components and their values, in ascending order of number, if it is
+    /// alive.
     ///
     /// ```
     /// use forgeni::{ComponentId, World};
@@ -310,7 +313,8 @@ impl World {
         self.world.items(handle)
     }
 
-    /// The handles of all entities, by birth and then by handle. The time is that of a sort.
+    /// Returns the handles of all entities, ordered by birth and then by handle. It takes the time
+    /// of a sort.
     ///
     /// ```
     /// use forgeni::World;
@@ -323,7 +327,8 @@ impl World {
     ///
     /// # Errors
     ///
-    /// `OutOfMemory`: there is no memory for the list. It never comes if there are no entities.
+    /// `OutOfMemory`: there isn't enough memory for the list. It is never returned if there are no
+    /// entities.
     pub fn by_birth(&self) -> Result<Vec<Handle>, Memory>
         ensures ok { IfOk result (λ handles. ListsAll self.now.world.entities handles.items) }
         ensures memory { OnErr result (self.now.world.entities ≢ map.empty) }
@@ -331,7 +336,7 @@ impl World {
         self.world.by_birth()
     }
 
-    /// How many entities are alive.
+    /// Returns the number of living entities.
     ///
     /// ```
     /// use forgeni::World;
@@ -350,7 +355,7 @@ impl World {
         self.world.len()
     }
 
-    /// Whether no entity is alive.
+    /// Returns `true` if no entity is alive.
     ///
     /// ```
     /// use forgeni::World;
@@ -368,8 +373,8 @@ impl World {
         self.world.is_empty()
     }
 
-    /// How often the world was flushed, which is the `frame` in the births of what comes to life
-    /// next. It stays at 2^64 - 1.
+    /// Returns how many times the world was flushed, which is the `frame` in the births of what
+    /// comes to life next. It stays at 2^64 - 1.
     ///
     /// ```
     /// use forgeni::World;
@@ -389,7 +394,7 @@ impl World {
         self.world.phase()
     }
 
-    /// How many slots are retired: they give no handle any more. It takes constant time.
+    /// Returns the number of retired slots, which give no more handles. It takes constant time.
     ///
     /// ```
     /// use forgeni::{Limits, World};
@@ -410,7 +415,7 @@ impl World {
         self.world.retired()
     }
 
-    /// Whether any handle was requested since the last flush. It is so between
+    /// Returns `true` if any handle was requested since the last flush. That is the case between
     /// [`OpenWorld::close`](crate::OpenWorld::close) and [`apply`](World::apply), if a system has
     /// spawned.
     ///
@@ -431,8 +436,9 @@ impl World {
         self.world.needs_flush()
     }
 
-    /// Brings to life what is reserved, without components: what the systems of a phase had spawned
-    /// whose queues are not to take effect. [`apply`](World::apply) brings entities to life too.
+    /// Brings to life what is reserved, without components. Use it after a phase whose systems have
+    /// spawned and whose queues won't be applied. [`apply`](World::apply) brings entities to life
+    /// too.
     ///
     /// The birth of each entity names the phase that ends, no system, and the entity's number among
     /// those that are born. So an entity that [`spawn`](World::spawn) made in that phase may have

@@ -39,7 +39,7 @@ pub struct WorldInBlocks<J: BlockNumbering> {
 }
 
 impl<J: BlockNumbering> WorldInBlocks<J> {
-    /// The blocks from which callers reserve, each with a [`BlockReserver`] of its own.
+    /// Returns the blocks from which callers reserve, each with a [`BlockReserver`] of its own.
     ///
     /// ```
     /// use forgeni::World;
@@ -58,7 +58,7 @@ impl<J: BlockNumbering> WorldInBlocks<J> {
         self.world.blocks()
     }
 
-    /// All that can be read of the world, as a system of a frame reads it.
+    /// Returns a view of the world, like the one that a system of a frame gets.
     ///
     /// ```
     /// use forgeni::{ComponentId, World};
@@ -97,7 +97,7 @@ impl<J: BlockNumbering> WorldInBlocks<J> {
     /// # Errors
     ///
     /// [`HandedBack`] has the world and the reservers as they were, and the first of these errors
-    /// that holds.
+    /// that applies.
     ///
     /// - [`EndError::OtherPhase`]: a reserver is of another phase.
     /// - [`EndError::Order`]: the reservers aren't in their order.
@@ -153,7 +153,7 @@ impl<J: BlockNumbering> WorldInBlocks<J> {
     /// use forgeni::World;
     ///
     /// let (open, mut reservers) = World::new().open_in_blocks(&[3, 4])?;
-    /// // A thread has panicked, and nobody knows what its reserver gave.
+    /// // A thread has panicked, and what its reserver gave isn't known.
     /// drop(reservers.pop());
     /// let mut world = open.close_lost(reservers)?;
     /// world.flush()?;
@@ -163,7 +163,8 @@ impl<J: BlockNumbering> WorldInBlocks<J> {
     ///
     /// # Errors
     ///
-    /// As of [`close`](WorldInBlocks::close), but for the missing ones.
+    /// The same as for [`close`](WorldInBlocks::close), except for
+    /// [`EndError::Missing`](ent_blocks::EndError::Missing).
     pub fn close_lost(
         self,
         reservers: Vec<BlockReserver<J>>,

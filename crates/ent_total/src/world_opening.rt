@@ -10,8 +10,8 @@ ghost use Rattle.ent_total.specs.declared.share_error.ShareError.TheVariants.{Ne
 use crate::commands::Commands;
 use crate::numbering::Numbering;
 use crate::open_world::OpenWorld;
-use crate::opening::CALLERS;
 use crate::share_error::ShareError;
+use crate::sharing::CALLERS;
 use crate::world::World;
 use ent_handle::HandedBack;
 use ent_shared::Reserver;
@@ -67,7 +67,7 @@ impl<J: Numbering> Model for WorldOpening<J> {
 ///
 /// # Errors
 ///
-/// [`HandedBack`] has the world as it was, and the first of these errors that holds:
+/// [`HandedBack`] has the world as it was, and the first of these errors that applies:
 /// [`ShareError::NeedsFlush`], [`ShareError::Count`], [`ShareError::Memory`].
 pub fn open<J: Numbering>(
     alloc: Global,
@@ -159,7 +159,7 @@ impl<J: Numbering> WorldOpening<J> {
     }
 
     /// The phase under this number, which no other phase has, and all its systems, in the order of
-    /// their numbers. It takes no memory.
+    /// their numbers. It doesn't allocate.
     ///
     /// # Errors
     ///

@@ -1,4 +1,4 @@
--- Births alone: what commands do to entities that are told apart by their births. There is no
+-- Births alone: what commands do to entities that are identified by their births. There is no
 -- handle in it, no allocator, no reservation and no worker.
 use Rattle.std.specs.Prelude.{ℕ, ◌+◌, not, if◌then◌else◌, List, [], ◌∷◌, ◌++◌, is_some, filter}
 use Rattle.std.specs.Prelude.{unwrap_or}
@@ -11,7 +11,7 @@ use Rattle.ent_handle.specs.Birth.{birth_cmp}
 use Rattle.ent_handle.specs.Component.{component_cmp}
 use Rattle.ent_storage.specs.Bundle.{Bundle, with_put}
 
--- the components of each entity that is there, by rising birth
+-- the components of each entity that is there, in ascending order of birth
 abbrev pub BirthMap : Type 0
 BirthMap = List (Birth × Bundle)
 
@@ -22,7 +22,8 @@ pub data BirthCommand : Type 0 where
   Remove : Birth → ComponentId → BirthCommand
   Despawn : Birth → BirthCommand
 
--- a command on the birth of nobody who is there: the system, and the command's number in its queue
+-- a command on the birth of an entity that isn't there: the system, and the command's number in its
+-- queue
 pub record BirthFault : Type 0 where
   pub system : ℕ
   pub command : ℕ
@@ -47,7 +48,7 @@ removed id birth m =
 abbrev pub despawned : Birth → BirthMap → BirthMap
 despawned birth m = filter (λ entity. not (eq_by_cmp birth_cmp entity.0 birth)) m
 
--- A command changes an entity that is there; else it changes nothing, and is a fault.
+-- A command changes an entity that is there; otherwise it changes nothing, and is a fault.
 abbrev pub on_birth : ℕ → ℕ → (Birth → BirthMap → BirthMap) → Birth → AppliedAlone → AppliedAlone
 on_birth system command change birth a =
     if is_some (find birth_cmp birth a.entities)

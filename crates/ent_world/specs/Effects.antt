@@ -43,7 +43,7 @@ after_spawn birth items h w = record w {
   entities = map.insert w.entities h (spawned birth items);
 }
 
--- a world to which commands were applied, and their faults in order
+-- a world after commands, and their faults in order
 pub record Applied : Type 0 where
   pub world : World
   pub faults : List Fault
@@ -56,7 +56,7 @@ abbrev pub with_fault : ℕ → ℕ → FaultKind → Applied → Applied
 with_fault system command why a =
     record a { faults = a.faults ++ record { system = system; command = command; kind = why } ∷ [] }
 
--- A command changes an entity that is there; else it changes nothing, and is a fault.
+-- A command changes an entity that is there; otherwise it changes nothing, and is a fault.
 abbrev pub on_entity : ℕ → ℕ → (Handle → World → World) → Handle → Applied → Applied
 on_entity system command change h a =
     if lives_in a.world h

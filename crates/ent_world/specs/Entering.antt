@@ -25,7 +25,7 @@ abbrev pub birth_after : Birth → List Handle → Birth
 birth_after birth [] = birth
 birth_after birth (h ∷ hs) = birth_after (next_birth birth) hs
 
--- None of the handles is there yet, and each stands once among them.
+-- None of the handles is there yet, and each is listed once.
 abbrev pub AreNew : List Handle → EntityMap → Type 0
 AreNew [] m = Unit {0}
 AreNew (h ∷ hs) m = (map.contains_key m h ≡ false) × (stands_in hs h ≡ false) × AreNew hs m

@@ -40,7 +40,7 @@ pub record AreCut (bytes : List ℕ) : Type 0 where
   pub short : length rest < len
   pub spelled : bytes ≡ header_bytes phase len ++ rest
 
--- the allocator's part too, with its living entities by rising slot
+-- the allocator's part too, with its living entities in slot order
 pub record HaveAllocator (bytes : List ℕ) : Type 0 where
   pub parts : AreFramed bytes
   pub allocator : Allocator

@@ -1,5 +1,5 @@
--- The image of a world: the bytes that are written of it. It tells all of the world, and nothing of
--- how it came to be so or where its entities lie in memory.
+-- The image of a world: the bytes that represent it. It says everything about the world, and
+-- nothing about how it got into that state or where its entities are in memory.
 use Rattle.std.specs.Prelude.{ℕ, ◌+◌, ◌*◌, ◌^◌, ◌<◌, ◌≤◌, List, [], ◌∷◌, ◌++◌, length}
 use Rattle.std.specs.FinMap as map
 use Rattle.std.specs.FinSet as set
@@ -14,7 +14,7 @@ use Rattle.ent_world.specs.World.{World, IsWorld}
 abbrev pub allocator_of : World → Entities
 allocator_of w = record { allocator = w.allocator; rows = map.empty }
 
--- its living entities, by rising slot
+-- its living entities, in slot order
 abbrev pub living : World → List Handle
 living w = map.keys w.entities
 
@@ -31,18 +31,18 @@ version = 1
 unfoldable pub header_bytes : ℕ → ℕ → List ℕ
 header_bytes phase len = magic ++ (word version ++ (long phase ++ long len))
 
--- a part of so many bytes, and what follows it
+-- a part of that many bytes, and what follows it
 abbrev pub framed : ℕ → List ℕ → List ℕ → List ℕ
 framed phase part rest = header_bytes phase (length part) ++ (part ++ rest)
 
 abbrev pub image : World → List ℕ
 image w = framed w.phase (allocator_image (allocator_of w)) (entities_bytes w.entities (living w))
 
--- so many bytes hold its image, whatever components its entities have
+-- that many bytes hold its image, whatever components its entities have
 abbrev pub most : World → ℕ
 most w = 72 + 12 * w.allocator.made + 2320 * set.len w.allocator.live
 
--- and at least so many bytes are in it
+-- and at least that many bytes are in it
 abbrev pub least : World → ℕ
 least w = 72 + 12 * w.allocator.made + 16 * length (living w)
 

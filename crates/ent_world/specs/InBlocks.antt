@@ -21,7 +21,7 @@ pub record DealtWorld : Type 0 where
   pub phase : ℕ
   pub entities : EntityMap
 
--- the same under the number by which phases in blocks are told apart
+-- the same under the number that distinguishes phases in blocks
 pub record WorldInBlocks : Type 0 where
   pub blocks : Phase
   pub phase : ℕ
@@ -32,7 +32,7 @@ abbrev pub world_dealt : Blocks → ℕ → EntityMap → World
 world_dealt blocks phase entities =
     record { allocator = blocks.start; phase = phase; entities = entities }
 
--- the world with so much used of its blocks
+-- the world with that much of its blocks used
 abbrev pub world_after : World → List Block → World
 world_after w blocks = record w { allocator = after_blocks w.allocator blocks }
 

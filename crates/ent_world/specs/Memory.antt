@@ -28,9 +28,9 @@ despawn_takes_memory w h = is_some (next w.allocator.limits h) || not (lives_in 
 
 -- The command may take memory in this world, at that of its handles: it gives an entity several
 -- components, or one that the entity lacks, frees a handle whose slot is given again, or lists a
--- fault. No other takes any: no spawn of nobody, no empty bundle for who lives, no other value of
--- one component, no component that is taken away from who lives, no despawn by which a slot is
--- retired.
+-- fault. No other command takes any: not a spawn of none, an empty bundle for a living entity,
+-- another value of one component, the removal of a component from a living entity, or a despawn
+-- that retires a slot.
 abbrev pub command_takes_memory : World → ℕ → Command → Bool
 command_takes_memory w done (Spawn h items) = insert_takes_memory w items h
 command_takes_memory w done (SpawnMany hs items) = one_takes_memory w items (slice_get hs done)

@@ -1,4 +1,4 @@
--- For laws: when births alone tell what a world is, and what queues do to it.
+-- For laws: when births alone determine what a world is, and what queues do to it.
 use Rattle.std.specs.Prelude.{◌≡◌, ℕ, ◌^◌, ◌<◌, ◌≤◌, true, T, List, ◌∷◌, [], Some, map, length}
 use Rattle.std.specs.List.{All, AllZip, flat_map}
 use Rattle.std.specs.List.Sorted.{IsPermutation}

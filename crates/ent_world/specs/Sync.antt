@@ -37,7 +37,7 @@ no_system = 2 ^ 32 - 1
 abbrev pub ordinal : ℕ → ℕ
 ordinal n = min n (2 ^ 32 - 1)
 
--- how many stand before a handle among others, if it is among them
+-- how many come before a handle in a list, if it is in the list
 abbrev pub ordinal_among : List Handle → Handle → Option ℕ
 ordinal_among handles h = position_from (eq_by_cmp handle_cmp h) 0 handles
 
@@ -76,7 +76,7 @@ abbrev pub with_born : EntityMap → (Handle → Birth) → List Handle → Enti
 with_born m birth [] = m
 with_born m birth (h ∷ hs) = with_born (map.insert m h (newborn (birth h))) birth hs
 
--- the next phase, and the last one for ever
+-- the next phase; the last one is its own next
 abbrev pub next_phase : ℕ → ℕ
 next_phase phase = min (phase + 1) (2 ^ 64 - 1)
 
@@ -114,7 +114,8 @@ cut_queue command done (q ∷ qs) = cut_commands command done q ∷ []
 abbrev pub cut : ℕ → ℕ → ℕ → List (List Command) → List (List Command)
 cut system command done queues = take system queues ++ cut_queue command done (drop system queues)
 
--- the sync that stopped there: all births stand, and of the commands just those before
+-- the sync that stopped there: all births have taken effect, and exactly the commands before that
+-- point
 abbrev pub sync_until : ℕ → ℕ → ℕ → List (List Command) → World → Applied
 sync_until system command done queues w =
     after_queues 0 (cut system command done queues) (applied (after_births queues w) [])

@@ -8,12 +8,12 @@ use Rattle.ent_world.specs.World.{World}
 use Rattle.ent_world.specs.declared.image_fault.WorldImageFault.{WorldImageFault}
 use Rattle.ent_world.specs.declared.image_fault.WorldImageFault.TheVariants.{Bound}
 
--- what has this allocator, if so many slots are allowed
+-- what has this allocator, if that many slots are allowed
 abbrev pub within : {T : Type 0} → ℕ → Allocator → T → Result T WorldImageFault
 within most s it =
     if nat_le (slots_after_flush s) most then Ok it else Err (Bound (slots_after_flush s))
 
--- what a reader returns that allows so many slots, if this was read
+-- what a reader that allows that many slots returns, if this was read
 abbrev pub allowed : {T : Type 0} → (T → Allocator) → ℕ → Result T WorldImageFault
     → Result T WorldImageFault
 allowed of most (Ok it) = within most (of it) it

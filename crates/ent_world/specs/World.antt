@@ -1,4 +1,4 @@
--- A world: who is alive and what each of them is made of.
+-- A world: which entities are alive, and what each of them is made of.
 use Rattle.std.specs.Prelude.{◌≡◌, ℕ, Bool, refl}
 use Rattle.std.specs.Coded.{Coded, code_by, coded×, coded_ℕ}
 use Rattle.std.specs.FinSet as set
@@ -15,7 +15,7 @@ pub record World : Type 0 where
   pub phase : ℕ
   pub entities : EntityMap
 
--- the world in which nobody ever lived
+-- the world in which no entity ever lived
 abbrev pub first_world : Limits → World
 first_world limits = record { allocator = opening limits; phase = 0; entities = map.empty }
 

@@ -12,12 +12,12 @@ use std::alloc::Global;
 use std::mem;
 
 impl World {
-    /// Another world in the same state: the same entities live, with the same births and
+    /// Returns another world in the same state: the same entities live, with the same births and
     /// components, the same handles are reserved, and the next ones are the same.
     ///
     /// # Errors
     ///
-    /// `Memory`. It never comes if no slot was made and there are no entities.
+    /// `Memory`. It is never returned if no slot was made and there are no entities.
     pub fn try_clone(&self) -> Result<World, Memory>
         ensures ok { IfOk result (λ clone. clone ≡ self.now) }
         ensures world { IfOk result IsWorld }
@@ -40,8 +40,8 @@ impl World {
     ///
     /// # Errors
     ///
-    /// `Memory`, with the world as it was: all memory is taken before anything changes. It never
-    /// comes if the source has no slots and no entities.
+    /// `Memory`, with the world as it was: all memory is taken before anything changes. It is never
+    /// returned if the source has no slots and no entities.
     pub fn try_clone_from(&mut self, source: &World) -> Result<(), Memory>
         ensures ok { OnOk result (self.new ≡ source.now) }
         ensures err { OnErr result (self.new ≡ self.old) }
@@ -113,7 +113,7 @@ fn copied(alloc: Global, storage: &Storage, slots: u32) -> Result<Storage, Memor
 }
 
 /// Lets a storage take over the entities of another one, with as much room. Without slots and
-/// entities it takes no memory.
+/// entities it doesn't allocate.
 fn copy_into(
     alloc: Global,
     storage: &mut Storage,

@@ -47,7 +47,7 @@ const ALLOCATOR: usize = 40;
 
 const SLOT: usize = 12;
 
-/// Appends what stands before the allocator's part. There is room for it.
+/// Appends what comes before the allocator's part. There is room for it.
 fn write_header(phase: u64, len: u64, out: &mut Vec<u8>)
     requires { vec_len out.old + 28 ≤ vec_capacity out.old }
     ensures items { out.new.items ≡ out.old.items ++ header_bytes phase len }
@@ -215,15 +215,15 @@ fn allowed(read: Result<World, WorldImageFault>, most: u32) -> Result<World, Wor
 
 impl World {
     /// Appends the image of the world: bytes from which [`read_image`](World::read_image) makes the
-    /// same world anew, with its limits, entities, births, components, waiting slots and requests.
+    /// same world again, with its limits, entities, births, components, waiting slots and requests.
     ///
-    /// The image tells no more than that. Two worlds that are the same to every call have the same
-    /// image, whatever came before. It grows with the slots that were made and the entities that
-    /// are alive, not with the calls. There is room for `extra` more bytes then.
+    /// The image tells no more than that. Two worlds that no call can tell apart have the same
+    /// image, whatever happened to them before. It grows with the slots that were made and the
+    /// entities that are alive, not with the calls. There is room for `extra` more bytes then.
     ///
     /// # Errors
     ///
-    /// `Memory` if there is no memory for the bytes. The list is unchanged then.
+    /// `Memory` if there isn't enough memory for the bytes. The list is unchanged then.
     pub fn write_image(&self, extra: u32, out: &mut Vec<u8>) -> Result<(), Memory>
         ensures written { OnOk result (out.new.items ≡ out.old.items ++ image self.now) }
         ensures has_image { OnOk result (HasImage self.now) }
@@ -260,14 +260,14 @@ impl World {
     /// The world whose image these bytes are, all of them.
     ///
     /// The bytes may come from anywhere. Each image that [`write_image`](World::write_image) writes
-    /// is read as the same world, which gives no handle that was given before. Bytes that are the
-    /// image of no world are refused.
+    /// is read as the same world, which gives no handle that was given before. Bytes that aren't
+    /// the image of a world are refused.
     ///
     /// # Errors
     ///
-    /// Each but [`Memory`](WorldImageFault::Memory) says that no world has this image, by the first
-    /// fault that the bytes have. `Memory` comes if there is no memory for the slots, whatever they
-    /// are.
+    /// Each error except [`Memory`](WorldImageFault::Memory) says that no world has this image, by
+    /// the first fault that the bytes have. `Memory` comes if there isn't enough memory for the
+    /// slots, whatever they are.
     pub fn read_image(alloc: Global, bytes: &[u8]) -> Result<Self, WorldImageFault>
         ensures found { IfOk result (λ w. image w ≡ bytes.now) }
         ensures has_image { IfOk result HasImage }
@@ -330,7 +330,7 @@ impl World {
         allowed(World::read_image(alloc, bytes), most)
     }
 
-    /// How many slots there are after the next flush.
+    /// Returns the number of slots after the next flush.
     #[must_use]
     pub fn total_after_flush(&self) -> u32
         ensures { result ≡ slots_after_flush self.now.allocator }

@@ -8,7 +8,7 @@ use std::alloc::AllocError;
 use thiserror::Error;
 
 /// Why bytes were not read as the image of a world: the first fault that they have, in this order.
-/// The version is looked at only if there are as many bytes as stand before the allocator's part.
+/// The version is checked only if there are as many bytes as come before the allocator's part.
 ///
 /// ```
 /// use forgeni::{World, WorldImageFault};
@@ -34,16 +34,16 @@ pub enum WorldImageFault {
     /// There are fewer bytes than those before the allocator's part, or than that part has.
     #[error("bytes are missing")]
     Length,
-    /// The allocator's part is the image of no allocator.
+    /// The allocator's part isn't the image of any allocator.
     #[error("the allocator's part is damaged")]
     Entities(ImageFault),
-    /// A living entity has a row. Those of a world aren't written.
+    /// A living entity has a row, which the image of a world never has.
     #[error("slot {index} has a row")]
     Row {
         /// The index of its slot.
         index: u32,
     },
-    /// The bytes after the allocator's part are those of no entities.
+    /// The bytes after the allocator's part aren't those of any entities.
     #[error("the entities' part is damaged")]
     Storage(StorageImageFault),
     /// After its next flush the world would have more slots than the reader allows.

@@ -81,7 +81,7 @@ impl OpenWorld {
         &self.shared
     }
 
-    /// The world as it was opened.
+    /// The world as it was when it was opened.
     pub fn view(&self) -> View<'_>
         ensures phase { result.phase ≡ self.now.phase }
         ensures entities { result.entities ≡ self.now.entities }
@@ -90,7 +90,7 @@ impl OpenWorld {
     }
 
     /// Ends the phase with all its reservers, as [`Shared::close`] does. Nothing of the world but
-    /// its allocator changes. It takes no memory.
+    /// its allocator changes. It doesn't allocate.
     pub fn close(self, reservers: Vec<Reserver>) -> World
         requires all { length reservers.items ≡ self.shared.count }
         requires own { All (IsOf self.shared) reservers.items }
@@ -136,7 +136,7 @@ impl OpenWorld {
     }
 
     /// Ends the phase although some reservers may be lost, as [`Shared::close_lost`] does. Nothing
-    /// of the world but its allocator changes. It takes no memory.
+    /// of the world but its allocator changes. It doesn't allocate.
     pub fn close_lost(self, reservers: Vec<Reserver>) -> World
         requires { All (IsOf self.shared) reservers.items }
         ensures phase { result.phase ≡ self.phase }

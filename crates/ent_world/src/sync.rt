@@ -182,7 +182,7 @@ impl World {
 }
 
 /// Makes room for what is reserved, and in the storage's index for each slot that is made by then.
-/// If nothing is reserved, it takes no memory.
+/// If nothing is reserved, it doesn't allocate.
 #[inline(always)]
 fn reserve_births(entities: &Entities, storage: &mut Storage) -> Result<(), Memory>
     ensures entities { storage.new.entities ≡ storage.old.entities }

@@ -9,7 +9,7 @@ use ent_handle::{Birth, ComponentId, Handle, Memory};
 use ent_storage::Storage;
 use std::marker::Model;
 
-/// What a system may read of a world while others reserve: the world as it was opened.
+/// What a system can read of a world while others reserve: the world as it was when it was opened.
 ///
 /// ```
 /// use forgeni::{run_frame, ComponentId, OutOfMemory, SystemCommands, View, World};
@@ -52,7 +52,7 @@ impl<'a> View<'a> {
         View { storage, phase }
     }
 
-    /// Whether the entity is alive.
+    /// Returns `true` if the entity is alive.
     ///
     /// ```
     /// use forgeni::World;
@@ -70,7 +70,7 @@ impl<'a> View<'a> {
         self.storage.contains(handle)
     }
 
-    /// The value of the entity's component, if the entity is alive and has it.
+    /// Returns the value of the entity's component, if the entity is alive and has it.
     ///
     /// ```
     /// use forgeni::{ComponentId, World};
@@ -90,7 +90,7 @@ impl<'a> View<'a> {
         self.storage.get(handle, id)
     }
 
-    /// When and by whom the entity was brought to life, if it is alive.
+    /// Returns the birth of the entity, if it is alive: when it came to life, and by which system.
     ///
     /// ```
     /// use forgeni::World;
@@ -110,7 +110,8 @@ impl<'a> View<'a> {
         self.storage.birth(handle)
     }
 
-    /// The handles of the entities that have the component, by birth and then by handle.
+    /// Returns the handles of the entities that have the component, ordered by birth and then by
+    /// handle.
     ///
     /// ```
     /// use forgeni::{run_frame, ComponentId, OutOfMemory, SystemCommands, View, World};
@@ -131,7 +132,8 @@ impl<'a> View<'a> {
     ///
     /// # Errors
     ///
-    /// `Memory`: there is no memory for the list. It never comes if no entity has the component.
+    /// `Memory`: there isn't enough memory for the list. It is never returned if no entity has the
+    /// component.
     pub fn with(&self, id: ComponentId) -> Result<Vec<Handle>, Memory>
         ensures ok { IfOk result (λ handles. ListsWith id self.now.entities handles.items) }
         ensures memory { OnErr result
@@ -140,7 +142,8 @@ impl<'a> View<'a> {
         self.storage.with(id)
     }
 
-    /// The handles of all entities, by birth and then by handle. The time is that of a sort.
+    /// Returns the handles of all entities, ordered by birth and then by handle. It takes the time
+    /// of a sort.
     ///
     /// ```
     /// use forgeni::World;
@@ -157,7 +160,8 @@ impl<'a> View<'a> {
     ///
     /// # Errors
     ///
-    /// `Memory`: there is no memory for the list. It never comes if there are no entities.
+    /// `Memory`: there isn't enough memory for the list. It is never returned if there are no
+    /// entities.
     pub fn by_birth(&self) -> Result<Vec<Handle>, Memory>
         ensures ok { IfOk result (λ handles. ListsAll self.now.entities handles.items) }
         ensures memory { OnErr result (self.now.entities ≢ map.empty) }
@@ -165,10 +169,10 @@ impl<'a> View<'a> {
         self.storage.by_birth()
     }
 
-    /// The handle of the entity with that birth, if there is one. If several entities have the
-    /// birth, it is the least of their handles.
+    /// Returns the handle of the entity with that birth, if there is one. If several entities have
+    /// the birth, it returns the least of their handles.
     ///
-    /// It takes no memory. The time is that of a look at each entity.
+    /// It doesn't allocate, and takes time for each entity.
     ///
     /// ```
     /// use forgeni::{Birth, World};
@@ -193,7 +197,7 @@ impl<'a> View<'a> {
         self.storage.of_birth(birth)
     }
 
-    /// How often the world was flushed before it was opened.
+    /// Returns how many times the world was flushed before it was opened.
     ///
     /// ```
     /// use forgeni::World;

@@ -67,7 +67,7 @@ impl Model for World {
 }
 
 impl World {
-    /// A world without entities. It takes no memory, whatever the limits are.
+    /// Creates a world without entities. It doesn't allocate, whatever the limits are.
     pub fn new(alloc: Global, limits: Limits) -> Self
         ensures value { result ≡ first_world limits }
         ensures world { IsWorld result }
@@ -83,7 +83,7 @@ impl World {
         }
     }
 
-    /// How many entities are alive.
+    /// Returns the number of living entities.
     pub fn len(&self) -> usize
         ensures value { result ≡ map.len self.now.entities }
 
@@ -93,21 +93,21 @@ impl World {
         self.storage.len()
     }
 
-    /// Whether no entity is alive.
+    /// Returns `true` if no entity is alive.
     pub fn is_empty(&self) -> bool
         ensures { IsTrue result ↔ (self.now.entities ≡ map.empty) }
     {
         self.storage.is_empty()
     }
 
-    /// How many slots are retired: they give no handle any more. It takes constant time.
+    /// Returns the number of retired slots, which give no more handles. It takes constant time.
     pub fn retired(&self) -> u32
         ensures { result ≡ retired self.now.allocator }
     {
         self.entities.retired()
     }
 
-    /// Whether the entity is alive. It takes constant time.
+    /// Returns `true` if the entity is alive. It takes constant time.
     pub fn contains(&self, handle: Handle) -> bool
         ensures { result ≡ lives_in self.now handle }
     {
@@ -117,7 +117,7 @@ impl World {
         }
     }
 
-    /// The value of the entity's component, if the entity is alive and has it.
+    /// Returns the value of the entity's component, if the entity is alive and has it.
     pub fn get(&self, handle: Handle, id: ComponentId) -> Option<i64>
         ensures { result ≡ value_of self.now.entities handle id }
     {
@@ -125,7 +125,7 @@ impl World {
         self.storage.get_at(place, handle, id)
     }
 
-    /// When and by whom the entity was brought to life, if it is alive.
+    /// Returns the birth of the entity, if it is alive: when it came to life, and by which system.
     pub fn birth(&self, handle: Handle) -> Option<Birth>
         ensures { result ≡ birth_of self.now.entities handle }
     {
@@ -133,7 +133,8 @@ impl World {
         Some(self.storage.birth_at(place, handle))
     }
 
-    /// The entity's components and their values, by rising number, if it is alive.
+    /// Returns the entity's components and their values, in ascending order of number, if it is
+    /// alive.
     pub fn items(&self, handle: Handle) -> Option<Items<'_>>
         ensures { result ≡ option_map map.entries (components_of self.now.entities handle) }
     {
@@ -141,11 +142,12 @@ impl World {
         Some(self.storage.items_at(place, handle))
     }
 
-    /// The handles of all entities, by birth and then by handle.
+    /// Returns the handles of all entities, ordered by birth and then by handle.
     ///
     /// # Errors
     ///
-    /// `Memory`: there is no memory for the list. It never comes if there are no entities.
+    /// `Memory`: there isn't enough memory for the list. It is never returned if there are no
+    /// entities.
     pub fn by_birth(&self) -> Result<Vec<Handle>, Memory>
         ensures ok { IfOk result (λ handles. ListsAll self.now.entities handles.items) }
         ensures memory { OnErr result (self.now.entities ≢ map.empty) }
@@ -153,14 +155,14 @@ impl World {
         self.storage.by_birth()
     }
 
-    /// How often the world was flushed. It stays at 2^64 - 1.
+    /// Returns how many times the world was flushed. It stays at 2^64 - 1.
     pub fn phase(&self) -> u64
         ensures { result ≡ self.now.phase }
     {
         self.phase
     }
 
-    /// Whether any handle was requested since the last flush.
+    /// Returns `true` if any handle was requested since the last flush.
     pub fn needs_flush(&self) -> bool
         ensures { IsTrue result ↔ (0 < self.now.allocator.asked) }
     {
@@ -195,8 +197,8 @@ impl World {
     /// - `NeedsFlush` if handles were requested since the last flush, even if the request was
     ///   refused.
     /// - `Space` if every slot has a living occupant or is retired.
-    /// - `Memory` if there is no memory for a component, or for a new slot and its entity. It
-    ///   never comes if a slot waits and the bundle is empty.
+    /// - `Memory` if there isn't enough memory for a component, or for a new slot and its entity.
+    ///   It is never returned if a slot waits and the bundle is empty.
     #[inline(always)]
     pub fn spawn(&mut self, birth: Birth, bundle: &Bundle) -> Result<Handle, AllocFault>
         ensures front { IfOk result (λ handle.
@@ -233,8 +235,8 @@ impl World {
     /// - `NeedsFlush` if handles were requested since the last flush, even if the request was
     ///   refused.
     /// - `NotAlive` if the handle names no living entity.
-    /// - `Memory` if there is no memory for the slot to wait in. The slot of the last generation
-    ///   never waits, so its entity is never refused for that.
+    /// - `Memory` if there isn't enough memory for the slot to wait in. The slot of the last
+    ///   generation never waits, so its entity is never refused for that.
     // Not inlined, its result goes through memory, as that of `free`.
     #[inline(always)]
     pub fn despawn(&mut self, handle: Handle) -> Result<Freed, FreeFault>

@@ -21,7 +21,7 @@ use std::alloc::Global;
 use std::marker::Model;
 
 /// A world of which contracts also see the rows: the numbers that its allocator keeps with its
-/// living handles. A phase in blocks has them too, so they are in what its number stands for.
+/// living handles. A phase in blocks has them too, so they are part of what its number means.
 #[derive(Drop)]
 pub struct PlacedWorld {
     entities: Entities,
@@ -102,7 +102,7 @@ impl<J: BlockNumbering> Model for WorldInBlocks<J> {
 }
 
 impl World {
-    /// The same world, of which contracts also see the rows. It takes no memory.
+    /// The same world, of which contracts also see the rows. It doesn't allocate.
     pub fn placed(self) -> PlacedWorld
         ensures { result.world ≡ self }
     {
@@ -125,8 +125,8 @@ impl World {
     ///
     /// # Errors
     ///
-    /// The world as it was, and [`DealError::NeedsFlush`] or [`DealError::Memory`]. No sizes take
-    /// no memory.
+    /// The world as it was, and [`DealError::NeedsFlush`] or [`DealError::Memory`]. With no sizes,
+    /// it doesn't allocate.
     pub fn open_in_blocks<J: BlockNumbering>(
         self,
         sizes: &[u32],
@@ -151,8 +151,8 @@ impl PlacedWorld {
     ///
     /// # Errors
     ///
-    /// The world as it was, and [`DealError::NeedsFlush`] or [`DealError::Memory`]. No sizes take
-    /// no memory.
+    /// The world as it was, and [`DealError::NeedsFlush`] or [`DealError::Memory`]. With no sizes,
+    /// it doesn't allocate.
     pub fn open_in_blocks<J: BlockNumbering>(
         self,
         sizes: &[u32],
@@ -218,7 +218,7 @@ fn wanted(sizes: &[u32]) -> u32
 
 impl<J: BlockNumbering> WorldDeal<J> {
     /// The world under this number, which no other phase has, and a reserver of each block, in the
-    /// order of the sizes. It takes no memory.
+    /// order of the sizes. It doesn't allocate.
     pub fn numbered(self, number: u64) -> (WorldInBlocks<J>, Vec<BlockReserver<J>>)
         requires stands_for { J.blocks_of number ≡ self.blocks }
         ensures blocks { result.0.blocks ≡ record { number = number; phase = self.blocks } }
@@ -246,14 +246,14 @@ impl<J: BlockNumbering> WorldDeal<J> {
 }
 
 impl<J: BlockNumbering> WorldInBlocks<J> {
-    /// The blocks from which callers reserve, each with a [`BlockReserver`] of its own.
+    /// Returns the blocks from which callers reserve, each with a [`BlockReserver`] of its own.
     pub fn blocks(&self) -> &Blocks<J>
         ensures { result.now ≡ self.now.blocks }
     {
         &self.blocks
     }
 
-    /// The world as it was opened.
+    /// The world as it was when it was opened.
     pub fn view(&self) -> View<'_>
         ensures phase { result.phase ≡ self.now.phase }
         ensures entities { result.entities ≡ self.now.entities }
@@ -266,7 +266,7 @@ impl<J: BlockNumbering> WorldInBlocks<J> {
     ///
     /// # Errors
     ///
-    /// As of [`Blocks::close`], with the world and the reservers as they were.
+    /// The same as for [`Blocks::close`], with the world and the reservers as they were.
     pub fn close(
         self,
         reservers: Vec<BlockReserver<J>>,
@@ -340,7 +340,7 @@ impl<J: BlockNumbering> WorldInBlocks<J> {
     ///
     /// # Errors
     ///
-    /// As of [`Blocks::close_lost`], with the world and the reservers as they were.
+    /// The same as for [`Blocks::close_lost`], with the world and the reservers as they were.
     pub fn close_lost(
         self,
         reservers: Vec<BlockReserver<J>>,

@@ -1,6 +1,7 @@
 -- A run of a script in blocks on its way. Only private contracts and proofs use this.
-use Rattle.std.specs.Prelude.{◌≡◌, ℕ, List, [], ◌++◌, length}
+use Rattle.std.specs.Prelude.{◌≡◌, ℕ, List, [], ◌++◌, Option, length}
 use Rattle.ent_handle.specs.Handle.{Handle}
+use Rattle.ent_handle.specs.declared.memory.Memory.{Memory}
 use Rattle.ent_alloc.specs.Sequential.{born}
 use Rattle.ent_blocks.specs.Blocks.{Blocks, blocks_from}
 use Rattle.ent_queue.specs.Command.{Command}
@@ -39,9 +40,9 @@ pub record EndsInBlocks (sizes : List ℕ) (systems : List (List Operation)) (w 
 
 -- A frame whose blocks have these sizes was broken off on that many workers.
 abbrev pub StopsInBlocks : List ℕ → List (List Operation) → ℕ → World → Type 0
-StopsInBlocks sizes systems workers w =
-    HaveStopped MayIssue MayStop systems workers (view_of w) w.allocator
-    (blocks_from 0 (length w.allocator.pool) sizes)
+StopsInBlocks sizes systems workers w = (error : Option Memory)
+    × HaveStopped MayIssue (λ system view queue (_ : Memory). MayStop system view queue) systems
+    workers (view_of w) w.allocator (blocks_from 0 (length w.allocator.pool) sizes) error
 
 -- These frames were run from the first world on: whatever text the others have, this one and that
 -- are the text of all.

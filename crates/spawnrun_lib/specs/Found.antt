@@ -31,20 +31,20 @@ position_text (fault.Operation f s o c) =
     ++ codes ", operation " ++ decimal o ++ codes " (counted from 0)"
 position_text other = []
 
--- what is shown of a script: what stands at the place of the fault, or of a text that is no JSON
--- some words
+-- what is shown of a script: what is at the place of the fault, or some words about a text that
+-- isn't JSON
 abbrev pub ShowsValue : List ℕ → ReadFault → List ℕ → Type 0
 ShowsValue text e shown =
     MatchOption (json_of text) ((words : List ℕ) × (shown ≡ front (plain words)))
     (λ d. (place : Place) × IsPlaceOf d e place × Shows place shown)
 
--- that, and where it stands
+-- that, and where it is
 pub record TellsOfValue (text : List ℕ) (e : ReadFault) (found : List ℕ) : Type 0 where
   pub shown : List ℕ
   pub shows : ShowsValue text e shown
   pub is : found ≡ codes "; found " ++ shown ++ position_text e
 
--- that there was no memory to show it, and where it stands
+-- that there was no memory to show it, and where it is
 abbrev pub unshown_text : ReadFault → List ℕ
 unshown_text e = codes "; found what there was no memory to show" ++ position_text e
 

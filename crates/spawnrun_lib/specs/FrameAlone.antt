@@ -1,4 +1,4 @@
--- For laws: a frame of scripted systems as births alone tell it.
+-- For laws: a frame of scripted systems in terms of births alone.
 use Rattle.std.specs.Prelude.{◌≡◌, ◌+◌, List, length}
 use Rattle.ent_handle.specs.declared.birth.Birth.{Birth}
 use Rattle.ent_handle.specs.Handle.{Handle}
@@ -21,8 +21,8 @@ queues_by_births w view systems = queues_alone w.phase 0 view systems
 abbrev pub world_after : World → List (List Command) → List Call → World
 world_after w queues history = (sync queues (reserved_by history w)).world
 
--- The world and the faults after the frame are those that births alone tell, and as many entities
--- are born. The next frame can be told in the same way.
+-- The world and the faults after the frame are those that births alone determine, and as many
+-- entities are born. The next frame can be described in the same way.
 pub record IsFrameAlone (w : World) (queues : List (List Command)) (history : List Call)
     (systems : List (List Operation)) (view : BirthMap) : Type 0 where
   pub name : Handle → Birth

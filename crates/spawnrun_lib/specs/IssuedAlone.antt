@@ -1,6 +1,6 @@
--- Births alone: what the systems of a script issue if nothing is refused to them, told by births.
--- There is no handle in it, no allocator, no reservation and no worker. A handle that a script
--- names has no meaning here. What the commands do is in `BirthsAlone` of `ent_world`.
+-- Births alone: what the systems of a script issue if nothing is refused to them, in terms of
+-- births. There is no handle in it, no allocator, no reservation and no worker. A handle that a
+-- script names has no meaning here. What the commands do is in `BirthsAlone` of `ent_world`.
 use Rattle.std.specs.Prelude.{ℕ, ◌+◌, ◌==◌, if◌then◌else◌, List, [], ◌∷◌, ◌++◌}
 use Rattle.std.specs.Prelude.{Option, None, Some, is_some, map, filter}
 use Rattle.std.specs.FinMap.{find}
@@ -24,7 +24,7 @@ births_from next count =
 abbrev pub later_birth : Birth → ℕ → Birth
 later_birth next count = record next { ordinal = next.ordinal + count }
 
--- what each name of a system stands for
+-- what each name of a system refers to
 abbrev pub BirthBindings : Type 0
 BirthBindings = ℕ → List Birth
 
@@ -68,7 +68,7 @@ queues_alone frame system view (ops ∷ systems) =
     issued_alone view (λ n. []) (record { frame = frame; system = system; ordinal = 0 }) ops
     ∷ queues_alone frame (system + 1) view systems
 
--- ---- when births alone tell what a system issues
+-- ---- when births alone determine what a system issues
 
 -- the target is not the handle of an entity
 abbrev pub IsNoHandle : Target → Type 0

@@ -14,7 +14,7 @@ use Rattle.ent_script.specs.declared.operation.Operation.TheVariants as operatio
 use Rattle.ent_script.specs.declared.target.Target.{Target}
 use Rattle.ent_script.specs.declared.target.Target.TheVariants as target
 
--- what each name stands for: a list of handles, which is empty if nothing is bound to it
+-- what each name refers to: a list of handles, which is empty if nothing is bound to it
 abbrev pub Bindings : Type 0
 Bindings = ℕ → List Handle
 
@@ -24,7 +24,7 @@ unbound n = []
 abbrev pub bound : ℕ → List Handle → Bindings → Bindings
 bound n hs names m = if m == n then hs else names m
 
--- what the names stand for after an operation that has issued these commands: a spawn that was
+-- what the names refer to after an operation that has issued these commands: a spawn that was
 -- served binds its name, and a refused one binds nothing
 abbrev pub names_after : Bindings → Operation → List Command → Bindings
 names_after names (operation.Spawn bundle (Some n)) (Spawn h items ∷ []) = bound n (h ∷ []) names

@@ -11,7 +11,7 @@ use Rattle.spawnrun_lib.specs.declared.change.Change.TheVariants as change
 use Rattle.spawnrun_lib.specs.Issuing.{Bindings, names_after, OnEach, Issues, StopsOnEach}
 use Rattle.spawnrun_lib.specs.Issuing.{Stops}
 
--- Each list of handles stands at the number of its name. Nothing is bound to a number past the end.
+-- Each list of handles is at the number of its name. Nothing is bound to a number past the end.
 abbrev pub names_of : List (List Handle) → Bindings
 names_of lists n = slice_index_or lists n []
 
@@ -28,7 +28,7 @@ pub record HasIssuedOn (view : View) (names : Bindings) (on : Target) (command :
   pub queue : after ≡ before ++ issued
   pub may : OnEach view names on command issued
 
--- The operation has issued its commands, and the names stand for these lists then.
+-- The operation has issued its commands, and the names refer to these lists then.
 pub record HasIssued (view : View) (op : Operation) (before after : List Command)
     (lists lists_after : List (List Handle)) : Type 0 where
   pub issued : List Command

@@ -1,4 +1,4 @@
--- What stands where a test of a script failed, and how it is shown.
+-- What is at the place where a test of a script failed, and how it is shown.
 use Rattle.std.specs.Prelude.{◌≡◌, ℕ, ◌≤◌, false, ◌||◌, ◌==◌, List, [], ◌∷◌, ◌++◌, Some, codes}
 use Rattle.std.specs.Prelude.{if◌then◌else◌, length, Option, None, IfSome, unwrap_or}
 use Rattle.std.specs.Prelude.{Bool, is_none, nat_lt, not, option_and_then, option_map, slice_get}
@@ -61,7 +61,7 @@ pub record Shows (place : Place) (shown : List ℕ) : Type 0 where
   pub spells : Spells place text
   pub is : shown ≡ front text
 
--- what a part of a script stands for
+-- what a part of a script represents
 abbrev pub place_of : Part → Place
 place_of part.Absent = absent
 place_of (part.Refused value) = refused (view value.now)
@@ -76,7 +76,7 @@ abbrev pub at_place : Option Data → Place
 at_place None = absent
 at_place (Some d) = refused d
 
--- a list that is too long, or what stands there instead of a list
+-- a list that is too long, or what is there instead of a list
 abbrev pub list_place : Option Data → Place
 list_place part =
     unwrap_or (option_map (λ ds. long (length ds)) (option_and_then elements part)) (at_place part)
@@ -98,7 +98,7 @@ bundle_in d =
 abbrev pub target_in : Data → Option Data
 target_in d = option_or (get (codes "on") d) (get (codes "despawn") d)
 
--- what stands under a key of the target
+-- the value under a key of the target
 abbrev pub under : List ℕ → Data → Option Data
 under name d = option_and_then (get name) (target_in d)
 
@@ -154,7 +154,7 @@ bad_name earlier (d ∷ ds) = name_place (as_name d) d earlier (bad_name (earlie
 abbrev pub bad_in : List Data → Place
 bad_in ds = if nat_lt most_components (length ds) then long (length ds) else bad_name [] ds
 
--- a list of names that is too long, its first that is bad, or what stands there instead of a list
+-- a list of names that is too long, its first that is bad, or what is there instead of a list
 abbrev pub names_place : Option Data → Place
 names_place part =
     unwrap_or (option_map bad_in (option_and_then elements part)) (at_place part)

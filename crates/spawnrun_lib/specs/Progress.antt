@@ -1,8 +1,8 @@
--- What a terminal is told of how far a run is.
+-- What a terminal shows of a run's progress.
 use Rattle.std.specs.Prelude.{ℕ, List, ◌++◌, codes}
 use Rattle.std.specs.Fmt.{decimal}
 
--- so many of all are done; it stands over what the line had before
+-- that many of all are done; it is written over what the line had before
 abbrev pub done_text : ℕ → ℕ → List ℕ
 done_text done of = codes "\r" ++ decimal done ++ codes " of " ++ decimal of ++ codes " done"
 

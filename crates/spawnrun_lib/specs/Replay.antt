@@ -30,8 +30,8 @@ abbrev pub Replays : Limits → List ℕ → List ℕ → Type 0
 Replays limits input text = (events : List Event) × (schedule_of input ≡ Ok events)
     × (text ≡ outcome_lines (outcomes_of (starting limits) events))
 
--- The input spells no schedule. The refusal has what the first test wants that it fails, and the
--- line that does.
+-- The input spells no schedule. The refusal has what the first test that it fails expects, and the
+-- line that fails it.
 pub record SpellsNone (input : List ℕ) (refusal : Refusal) : Type 0 where
   pub line : ℕ
   pub cause : Cause

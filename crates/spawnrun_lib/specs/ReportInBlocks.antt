@@ -52,7 +52,8 @@ IsTextFrom names size show number w (systems ∷ frames) text = (queues : List (
     × (text ≡ frame_text show number (born (reserved_in size w systems queues).allocator)
     (sync queues (reserved_in size w systems queues)).faults ++ rest)
 
--- The text of a script, which begins with nobody, with blocks of this size: it has no other one.
+-- The text of a script, which begins without entities, with blocks of this size: it has no other
+-- one.
 abbrev pub IsTextInBlocks : Script → ℕ → Show → List ℕ → Type 0
 IsTextInBlocks script size show text =
     IsTextFrom script.components size show 0 (first_world script.limits) script.frames text

@@ -10,7 +10,7 @@ use Rattle.ent_storage.specs.BirthOrder.{ListsAll}
 use Rattle.ent_storage.specs.EntityMap.{birth_of}
 use Rattle.ent_world.specs.OpenWorld.{View}
 
--- nobody is listed, or all entities are
+-- no entity is listed, or all entities are
 abbrev pub IsRollOf : View → List Handle → Type 0
 IsRollOf view handles = (handles ≡ []) ⊎ ListsAll view.entities handles
 

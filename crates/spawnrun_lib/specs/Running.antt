@@ -28,7 +28,7 @@ pub record IsScriptReport (script : Script) (workers : ℕ) (show : Show) (text 
   pub given_once : (executions : List Execution)
       → IsReportOf script workers show executions text → AreGivenOnce (handles_in_run executions)
   -- By births, a script that names no handle has one text, however many workers run it, if no line
-  -- of the text tells of a refused request.
+  -- of the text reports a refused request.
   pub same : show ≡ Births → IsWithoutHandles script → TellsNoRefusal text
       → text ≡ text_alone script
   -- and in any case, if its operations request no more handles in all than it has slots
@@ -47,8 +47,8 @@ RunsInBlocks size show input text = (script : Script) × (script_of_text input �
     × IsTextInBlocks script size show text
     × ((other : List ℕ) → IsTextInBlocks script size show other → text ≡ other)
 
--- The input means no script. The refusal has what the first test wants that it fails, and what that
--- found.
+-- The input means no script. The refusal has what the first test that it fails expects, and what
+-- the test found.
 pub record MeansNone (input : List ℕ) (refusal : Refusal) : Type 0 where
   pub fault : ReadFault
   pub means_none : script_of_text input ≡ Err fault

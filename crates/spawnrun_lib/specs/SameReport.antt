@@ -46,7 +46,7 @@ IsRefusedRequest (kind.Quota left) = Unit {0}
 abbrev pub IsLines : List ℕ → Type 0
 IsLines text = (text ≡ []) ⊎ ((earlier : List ℕ) × (text ≡ earlier ++ 10 ∷ []))
 
--- The text has the line, which has its line end: it stands at the beginning or after a line end.
+-- The text has the line, which has its line end: it is at the beginning or after a line end.
 pub record HasLine (text line : List ℕ) : Type 0 where
   pub before : List ℕ
   pub after : List ℕ

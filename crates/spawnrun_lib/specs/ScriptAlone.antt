@@ -1,4 +1,4 @@
--- Births alone: the text of a script if nothing is refused to it, told by births. There is no
+-- Births alone: the text of a script if nothing is refused to it, in terms of births. There is no
 -- handle in it, no allocator, no reservation and no worker. What the systems issue is in
 -- `IssuedAlone`, and what the commands do in `BirthsAlone` of `ent_world`.
 use Rattle.std.specs.Prelude.{ℕ, ◌+◌, List, [], ◌∷◌, ◌++◌, length, codes}
@@ -37,6 +37,6 @@ text_from names number view (systems ∷ frames) =
     let after = frame_alone queues view in
     frame_text_alone number queues after ++ text_from names (number + 1) after.entities frames
 
--- the text of a script, which begins with nobody
+-- the text of a script, which begins without entities
 abbrev pub text_alone : Script → List ℕ
 text_alone script = text_from script.components 0 [] script.frames

@@ -1,4 +1,4 @@
--- What the tests of an input want, each in one sentence.
+-- What the tests of an input expect, each in one sentence.
 use Rattle.std.specs.Prelude.{ℕ, List, [], ◌++◌, codes}
 use Rattle.ent_replay.specs.declared.Cause.{Cause as LineCause}
 use Rattle.ent_replay.specs.declared.Cause.TheVariants as line_cause
@@ -17,7 +17,7 @@ handle_wants =
     codes "a handle must be an index up to 4294967294, the letter v and a generation from 1 "
     ++ codes "to 2147483647, as 0v1, without leading zeros"
 
--- what the test of a schedule's line wants that has this cause
+-- what the test of a schedule's line that has this cause expects
 abbrev pub line_wants : LineCause → List ℕ
 line_wants line_cause.Word =
     codes "a line must be alloc, free H, flush, begin C N, step C or answer C, for a handle "
@@ -66,7 +66,7 @@ operation_wants cause.Birth =
     codes "a birth must be the number of an earlier frame, of a system up to 255 and of a "
     ++ codes "spawned entity up to 4294967295, with dots between, as 0.1.2, without leading zeros"
 
--- what the test of a script wants that it fails; lack of memory fails none
+-- what the test that a script fails expects; lack of memory fails no test
 abbrev pub script_wants : ReadFault → List ℕ
 script_wants fault.Json =
     codes "the input must be a JSON text in UTF-8, its lists and objects at most 127 deep, "

@@ -19,7 +19,7 @@ size_line = codes "refused size\n"
 abbrev pub Accepts : (List ℕ → List ℕ → Type 0) → List ℕ → List ℕ → Type 0
 Accepts Gives input text = (length input ≤ input_limit) × Gives input text
 
--- what is said of an input that is refused: the line, what a test wants, and what it found
+-- what is said of an input that is refused: the line, what a test expects, and what it found
 pub record Refusal : Type 0 where
   pub line : List ℕ
   pub wants : List ℕ
@@ -37,12 +37,12 @@ abbrev pub RefusesBy : (List ℕ → Refusal → Type 0) → List ℕ → List �
 RefusesBy Fails input line = (refusal : Refusal) × Refuses Fails input refusal
     × (line ≡ refusal.line)
 
--- one line on it: what a test wants, and what it found
+-- one line on it: what a test expects, and what it found
 abbrev pub Advises : (List ℕ → Refusal → Type 0) → List ℕ → List ℕ → Type 0
 Advises Fails input advice = (refusal : Refusal) × Refuses Fails input refusal
     × (advice ≡ refusal.wants ++ refusal.found ++ codes "\n")
 
--- the output of the input was written, if the devices tell
+-- the output of the input was written, if the devices report what they do
 abbrev pub HasDone : (List ℕ → List ℕ → Type 0)
     → Option (List ℕ) → Option (List ℕ) → Option (List ℕ) → Type 0
 HasDone Gives = Writes (Accepts Gives)
@@ -52,7 +52,7 @@ abbrev pub HasRefused : (List ℕ → Refusal → Type 0)
     → Option (List ℕ) → Option (List ℕ) → Option (List ℕ) → Type 0
 HasRefused Fails = Writes (RefusesBy Fails)
 
--- and the error stream was told why
+-- and the error stream says why
 abbrev pub HasAdvised : (List ℕ → Refusal → Type 0)
     → Option (List ℕ) → Option (List ℕ) → Option (List ℕ) → Type 0
 HasAdvised Fails = Writes (Advises Fails)

@@ -23,7 +23,7 @@ impl Model for Bindings {
 }
 
 impl Bindings {
-    /// No name is bound. It takes no memory.
+    /// No name is bound. It doesn't allocate.
     pub(crate) fn new(alloc: Global) -> Self
         ensures { result ≡ [] }
     {

@@ -36,7 +36,7 @@ fn sizes(alloc: Global, size: u32, systems: &[System]) -> Result<Vec<u32>, Memor
     Ok(sizes)
 }
 
-/// Runs the frame in the blocks for which the number 0 stands.
+/// Runs the frame in the blocks that the number 0 means.
 fn run_dealt<R, J: BlockNumbering + Send + Sync>(
     rt: &R,
     alloc: Global,
@@ -68,7 +68,7 @@ where
         Ok((world, report)) => Ok((world, report.sync)),
         Err(
             Unframed::Unrun {
-                error: RunError::Lost,
+                error: RunError::Lost(_),
                 ..
             },
         ) => Err(Undone::Lost),

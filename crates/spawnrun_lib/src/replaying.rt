@@ -23,7 +23,7 @@ const STEP: usize = 65_536;
 ///
 /// # Errors
 ///
-/// [`Memory`], if there is no memory for it.
+/// [`Memory`], if there isn't enough memory for it.
 pub(crate) fn replay<P: Progress>(
     alloc: Global,
     input: Vec<u8>,

@@ -30,7 +30,7 @@ impl Model for Roll {
 }
 
 impl Roll {
-    /// No entity is listed. It takes no memory.
+    /// No entity is listed. It doesn't allocate.
     pub(crate) fn new(alloc: Global) -> Self
         ensures { result ≡ [] }
     {

@@ -23,7 +23,7 @@ use std::thread::Threads;
 ///
 /// # Errors
 ///
-/// [`Memory`], if there is no memory for it.
+/// [`Memory`], if there isn't enough memory for it.
 pub(crate) fn run<R, P: Progress>(
     rt: &R,
     alloc: Global,
@@ -54,7 +54,7 @@ where
 ///
 /// # Errors
 ///
-/// [`Memory`], if there is no memory for it.
+/// [`Memory`], if there isn't enough memory for it.
 pub(crate) fn run_in_blocks<R, P: Progress>(
     rt: &R,
     alloc: Global,

@@ -26,7 +26,7 @@ impl<'a> Model for ScriptSystem<'a> {
 }
 
 impl<'a> ScriptSystem<'a> {
-    /// The system of these operations. It takes no memory.
+    /// The system of these operations. It doesn't allocate.
     pub fn new(system: &'a ent_script::System) -> Self
         ensures { result ≡ system.now }
     {
@@ -34,10 +34,10 @@ impl<'a> ScriptSystem<'a> {
     }
 }
 
-impl<S: Source> System<S> for ScriptSystem<'_> {
+impl<S: Source> System<S, Memory> for ScriptSystem<'_> {
     ghost may_issue = { MayIssue };
 
-    ghost may_leave = { MayStop };
+    ghost may_leave = { λ system view queue _. MayStop system view queue };
 
     /// # Errors
     ///

@@ -47,7 +47,7 @@ requested_after n (line.Reserve r) = n + r.requested
 requested_after n (line.Flush told) = 0
 requested_after n other = n
 
--- how many handles these calls request after their last flush; so many were requested before them
+-- how many handles these calls request after their last flush; that many were requested before them
 abbrev pub requested_from : ℕ → List Call → ℕ
 requested_from n [] = n
 requested_from n (l ∷ calls) = requested_from (requested_after n l) calls

@@ -21,7 +21,7 @@ pub record HasTaken (begin : Allocator) (texts : List (List ℕ)) (c : Checking)
   pub lines : c.lines ≡ length texts
   pub given : c.given ≡ sum_by given_in calls
 
--- This text was read: its lines that have an end are taken, and what stands after them is pending.
+-- This text was read: its lines that have an end are taken, and what follows them is pending.
 pub record HasRead (begin : Allocator) (text : List ℕ) (c : Checking) (pending : List ℕ)
     : Type 0 where
   pub texts : List (List ℕ)

@@ -2,6 +2,6 @@
 use Rattle.std.specs.Prelude.{ℕ, List, ◌++◌, codes}
 use Rattle.std.specs.Fmt.{decimal}
 
--- so many millions of lines were read
+-- that many millions of lines were read
 abbrev pub millions_text : ℕ → List ℕ
 millions_text millions = decimal millions ++ codes " million lines\n"

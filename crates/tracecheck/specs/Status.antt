@@ -45,7 +45,8 @@ HasSaidFrom bytes ended unread input old new =
     ⊎ ((fault : ImageFault) × (first_fault bytes ≡ Some fault) × (ended ≡ status.Refused)
     × unread × Appends old new (refused_image_text fault))
 
--- the trace begins so, with the bytes of the image that is named, if the devices tell
+-- the trace begins like this, with the bytes of the image that is named, if the devices report what
+-- they do
 abbrev pub HasSaidOf : Beginning → Status → Type 0 → Option (List ℕ) → Option (List ℕ)
     → Option (List ℕ) → Option (List ℕ) → Type 0
 HasSaidOf (Limits limits) ended unread image input old new =

@@ -69,7 +69,7 @@ pub fn read_entities<M: Source>(alloc: Global, image: &mut M) -> Result<Entities
 ///
 /// # Errors
 ///
-/// `Memory`: there is no memory for the text.
+/// `Memory`: there isn't enough memory for the text.
 pub fn refused_image_text(alloc: Global, fault: ImageFault) -> Result<Vec<u8>, Memory>
     ensures { IfOk result (λ text. text.items ≡ refused_image_text fault) }
 {

@@ -34,8 +34,8 @@ fn end_line(checking: Checking, pending: &mut Vec<u8>, bytes: &[u8]) -> Result<C
     Ok(checking)
 }
 
-/// Takes all lines that end in a piece of the text. What stands after the last line's end is
-/// pending, before and afterwards.
+/// Takes all lines that end in a piece of the text. What follows the last line's end is pending,
+/// before and afterwards.
 pub fn feed(checking: Checking, pending: &mut Vec<u8>, piece: &[u8]) -> Result<Checking, End>
     ensures taken { IfOk result (λ next. (begin : Allocator) (text : List ℕ)
         → HasRead begin text checking pending.old.items

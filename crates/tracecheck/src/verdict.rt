@@ -58,7 +58,7 @@ impl Verdict {
     ///
     /// # Errors
     ///
-    /// `Memory`: there is no memory for the text.
+    /// `Memory`: there isn't enough memory for the text.
     pub fn text(&self, alloc: Global) -> Result<Vec<u8>, Memory>
         ensures { IfOk result (λ text. text.items ≡ verdict_text self.now) }
     {

@@ -114,7 +114,7 @@ pub fn arranged(text: &str, file: &str) -> Result<String, Fault> {
     Ok(edited(text, edits))
 }
 
-/// The functions of a block, each with its name and its text from its docs on.
+/// The functions and constants of a block, each with its name and its text from its docs on.
 fn members<'a>(source: &Source<'a>, open: usize) -> Vec<(&'a str, &'a str)> {
     let end = source.partner(open);
     let mut members = Vec::new();
@@ -122,7 +122,11 @@ fn members<'a>(source: &Source<'a>, open: usize) -> Vec<(&'a str, &'a str)> {
     while let Some(last) = source.find(at, end, &["{", ";"]) {
         let name = (at..last)
             .find(|at| ["fn", "const"].contains(&source.at(*at)) && source.at(at + 1) != "fn");
-        let last = source.partner(last);
+        let mut last = source.partner(last);
+        // The value of a constant may have braces.
+        if name.is_some_and(|at| source.at(at) == "const") {
+            last = source.find(last, end, &[";"]).unwrap_or(last);
+        }
         let to = source.token(last).to;
         let text = source.text[begin..to].trim_start_matches('\n');
         members.push((name.map_or("", |at| source.at(at + 1)), text));

@@ -317,12 +317,16 @@ impl Audit<'_> {
         lengths.next()
     }
 
-    /// The length of the default that the result has here, at the end of a trait's parameters.
+    /// The length of the default that the result has here, of one of a trait's last two parameters.
     fn added_default(&self) -> Option<usize> {
-        let (source, default) = (self.source, pieces(forms::DEFAULT));
-        let is_last = self.at >= 3 && source.has(self.at - 3, forms::SOURCE);
-        let is_once = self.result.before(self.out) == "Source";
-        if !is_last || !is_once || !has(self.result, self.out, &default) {
+        let source = self.source;
+        let is_last = |words: &usize| {
+            let is_once = self.result.before(self.out) == forms::LAST_TWO[words - 1];
+            is_once && self.at >= *words && source.has(self.at - words, forms::LAST_TWO)
+        };
+        let (_, default) = forms::DEFAULTS.iter().find(|(words, _)| is_last(words))?;
+        let default = pieces(default);
+        if !has(self.result, self.out, &default) {
             return None;
         }
         let of = (0..self.at).rev().find(|at| source.at(*at) == "trait")?;

@@ -205,6 +205,9 @@ impl Walk<'_> {
     fn drop_bound(&mut self, at: usize) -> Next {
         let (before, after) = (self.source.before(at), self.source.at(at + 1));
         match (before, after) {
+            (":", ";") if self.source.before(at - 2) == "type" => {
+                self.take_out_after(at - 1, at + 1)
+            }
             _ if !self.is_signature => return Err(self.source.fault(at, "`Drop` in code")),
             ("+" | ":" | "impl", "+") => self.take_out(at, at + 2),
             ("+", _) => self.take_out_after(at - 1, at + 1),

@@ -484,7 +484,7 @@ pub fn layout_of(krate: &str, name: &str) -> Option<&'static Layout> {
         .find(|layout| layout.krate == krate && layout.name == name)
 }
 
-/// Traits whose last parameter has a default in the package: the crate and the trait. In the
+/// Traits whose last two parameters have defaults in the package: the crate and the trait. In the
 /// sources a trait's parameter can have none.
 const DEFAULTED: &[(&str, &str)] = &[("ent_runner", "System"), ("ent_runner", "LogSystem")];
 
@@ -494,10 +494,13 @@ pub fn is_defaulted(krate: &str, name: &str) -> bool {
 }
 
 /// How the parameters of such a trait end.
-pub const SOURCE: &[&str] = &["S", ":", "Source", ">", "{"];
+pub const LAST_TWO: &[&str] = &["S", ":", "Source", ",", "E", ">", "{"];
 
-/// That default.
-pub const DEFAULT: &str = " = crate::reserving::Shared";
+/// Those defaults: after how many of these words each one comes.
+pub const DEFAULTS: &[(usize, &str)] = &[
+    (3, " = crate::reserving::Shared"),
+    (5, " = crate::handles::Memory"),
+];
 
 /// A struct of one field whose `impl PartialEq` compares this field of the two, and nothing else.
 pub struct Compared {

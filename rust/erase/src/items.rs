@@ -254,7 +254,7 @@ impl Walk<'_> {
         }
         self.signature(at + 1, body)?;
         if scope == Scope::Trait && forms::is_defaulted(self.krate, self.source.at(at + 1)) {
-            self.default_source(at, body)?;
+            self.defaults(at, body)?;
         }
         let end = self.source.partner(body);
         self.is_public_trait = scope == Scope::Trait && self.source.before(at) == "pub";
@@ -262,13 +262,16 @@ impl Walk<'_> {
         Ok(end + 1)
     }
 
-    /// The default of a trait's last parameter.
-    fn default_source(&mut self, at: usize, body: usize) -> Result<(), Fault> {
-        if !self.source.has(body - 4, forms::SOURCE) {
-            let what = "a trait whose last parameter isn't the source";
+    /// The defaults of a trait's last two parameters.
+    fn defaults(&mut self, at: usize, body: usize) -> Result<(), Fault> {
+        let first = body + 1 - forms::LAST_TWO.len();
+        if !self.source.has(first, forms::LAST_TWO) {
+            let what = "a trait whose last parameters aren't the source and the error";
             return Err(self.source.fault(at, what));
         }
-        self.insert_after(body - 2, forms::DEFAULT.to_owned());
+        for (words, default) in forms::DEFAULTS {
+            self.insert_after(first + words - 1, (*default).to_owned());
+        }
         Ok(())
     }
 

@@ -42,7 +42,8 @@
 //! - A list is Rust's own. A call that Rattle's list has otherwise becomes one of the trait
 //!   `FallibleVec`: `push_fallibly`. So a declaration has to show whether a value is a list
 //!   (`src/lists.rs`). Otherwise it is refused.
-//! - The last parameter of `System` and `LogSystem` has a default, the shared allocator.
+//! - The last two parameters of `System` and `LogSystem` have defaults: the shared allocator, and
+//!   out of memory.
 //! - A `Reserver` and a `Log` are aligned to 128 bytes. What the `fmt` of `Handle` writes keeps a
 //!   width (`padded!`). `format!(in alloc; ..)` of the programs becomes a `format!` of the
 //!   package's kit.

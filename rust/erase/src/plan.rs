@@ -148,7 +148,7 @@ pub fn package(repository: &Path) -> Result<Files, Box<dyn Error>> {
 ///
 /// # Errors
 ///
-/// As of [`package`].
+/// The same as for [`package`].
 pub fn tests(repository: &Path) -> Result<Files, Box<dyn Error>> {
     let crates = crates_below(repository, TOPS)?;
     let mut tests = read_all(repository, TESTS)?;

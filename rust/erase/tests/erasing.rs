@@ -428,19 +428,25 @@ fn layouts() {
     stays("pub struct Handle {\n    bits: u32,\n}\n");
 }
 
-/// The source of a system's handles has a default, once. No other parameter has one, nor another
-/// trait.
+/// The source of a system's handles and its error have defaults, once each. No other parameter has
+/// one, nor another trait.
 #[test]
-fn default_of_a_parameter() {
-    let header = "pub trait System<S: Source>";
-    let source = format!("trait Source {{}}\n\n{header} {{\n    fn a<S: Source>();\n}}\n");
-    let default = ": Source = crate::reserving::Shared>";
-    let wanted = source.replace(": Source> {", &format!("{default} {{"));
-    let misplaced = source.replace(": Source>(", &format!("{default}("));
-    let twice = wanted.replace("Shared", "Shared = crate::reserving::Shared");
+fn defaults_of_parameters() {
+    let header = "pub trait System<S: Source, E>";
+    let source = format!("trait Source {{}}\n\n{header} {{\n    fn a<S: Source, E>();\n}}\n");
+    let (of_source, of_error) = (" = crate::reserving::Shared", " = crate::handles::Memory");
+    let defaults = format!(": Source{of_source}, E{of_error}>");
+    let wanted = source.replace(": Source, E> {", &format!("{defaults} {{"));
+    let misplaced = source.replace(": Source, E>(", &format!("{defaults}("));
+    let twice = wanted.replace(of_source, &of_source.repeat(2));
+    let error_twice = wanted.replace(of_error, &of_error.repeat(2));
+    let swapped = source.replace(
+        ": Source, E> {",
+        &format!(": Source{of_error}, E{of_source}> {{"),
+    );
     let other = source.replace("System", "Systems");
     let of_another = wanted.replace("System", "Systems");
-    for result in [misplaced, twice] {
+    for result in [misplaced, twice, error_twice, swapped] {
         let (made, audited) = erased_of("ent_runner", PATH, &source, &result).expect("known forms");
         assert_eq!(body(&made), Some(wanted.as_str()));
         assert!(audited.is_err(), "{result}");
@@ -453,8 +459,14 @@ fn default_of_a_parameter() {
         assert_eq!(body(&made), Some(source.as_str()));
         assert!(audited.is_err(), "{result}");
     }
-    for parameters in ["<S: Source, O>", "<S: Source>: Source", ""] {
-        let source = source.replace("System<S: Source>", &format!("System{parameters}"));
+    for parameters in [
+        "<S: Source>",
+        "<S: Source, O>",
+        "<E, S: Source>",
+        "<S: Source, E>: Source",
+        "",
+    ] {
+        let source = source.replace("System<S: Source, E>", &format!("System{parameters}"));
         assert!(
             erased_of("ent_runner", PATH, &source, "").is_err(),
             "{source}"

@@ -97,13 +97,26 @@ fn topics() {
                 impl Entities {\n    pub fn alloc() {}\n}\n\nimpl A for Entities {\n    fn len() {}\n}\n";
     let wanted = "//! A.\n\n/// # Making one\nimpl Entities {\n    pub const fn with_limits() {}\n}\n\n\
                   /// # Handles\nimpl Entities {\n    pub fn alloc() {}\n}\n\n\
-                  /// # Counts\nimpl Entities {\n    /// B.\n    pub fn len(&self) {}\n}\n\n\
+                  /// # Counts and limits\nimpl Entities {\n    /// B.\n    pub fn len(&self) {}\n}\n\n\
                   impl Entities {\n    fn own() {}\n}\n\nimpl A for Entities {\n    fn len() {}\n}\n";
     assert_eq!(
         arranged(text, "ent_alloc/entities.rs").as_deref(),
         Ok(wanted)
     );
     assert_eq!(arranged(text, "ent_alloc/slots.rs").as_deref(), Ok(text));
+    // The value of a constant has braces.
+    let constant = "pub const GREATEST: Limits = Limits { slots: 1 };";
+    let text_of_limits = format!(
+        "impl Limits {{\n    pub fn slots() {{}}\n\n    {constant}\n\n    pub fn new() {{}}\n}}\n"
+    );
+    let wanted_of_limits = format!(
+        "/// # Making them\nimpl Limits {{\n    {constant}\n\n    pub fn new() {{}}\n}}\n\n\
+         /// # Both numbers\nimpl Limits {{\n    pub fn slots() {{}}\n}}\n"
+    );
+    assert_eq!(
+        arranged(&text_of_limits, "ent_alloc/limits.rs").as_deref(),
+        Ok(wanted_of_limits.as_str())
+    );
     let same = |after: &str| {
         has_the_same_lines(
             &Source::read("before.rs", text)?,

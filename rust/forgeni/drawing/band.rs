@@ -69,7 +69,7 @@ impl<'a> Band<'a> {
         bars(self.states().map(|state| state.calls.get(&caller)))
     }
 
-    /// A row for each slot that was made or reserved, by rising number.
+    /// A row for each slot that was made or reserved, in ascending order of number.
     pub(super) fn slots(self) -> Vec<Row> {
         let slots = numbers(self.states().flat_map(|state| state.slots.keys()));
         let row = |slot| {
@@ -79,7 +79,7 @@ impl<'a> Band<'a> {
         slots.into_iter().map(row).collect()
     }
 
-    /// A row for each caller with an open call, by rising number.
+    /// A row for each caller with an open call, in ascending order of number.
     pub(super) fn callers(self) -> Vec<Row> {
         let callers = numbers(self.states().flat_map(|state| state.calls.keys()));
         let row = |caller| {
@@ -121,7 +121,7 @@ impl Row {
     }
 }
 
-/// These numbers, each once, by rising number.
+/// These numbers, each once, in ascending order of number.
 fn numbers<'a>(all: impl Iterator<Item = &'a u32>) -> Vec<u32> {
     let all: BTreeSet<u32> = all.copied().collect();
     all.into_iter().collect()

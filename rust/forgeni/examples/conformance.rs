@@ -26,14 +26,14 @@ use std::sync::atomic::{AtomicBool, AtomicI64, Ordering::Relaxed};
 use std::sync::{Barrier, Mutex, RwLock};
 use std::thread::{scope, yield_now};
 
-/// A slot has few generations, so that the last one comes.
+/// A slot has few generations, so that the last one is reached.
 const GENERATIONS: u32 = 4;
 
 /// How many reservations a thread makes in a phase, and how many phases there are.
 const RESERVATIONS: u32 = 4;
 const PHASES: u32 = 3_000;
 
-/// So many may live on to the next phase.
+/// The most entities that live on to the next phase.
 const LIVING: usize = 6;
 
 fn main() -> Result<(), CheckError> {

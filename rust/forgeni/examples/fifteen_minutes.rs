@@ -68,7 +68,7 @@ impl Parts {
         Ok(())
     }
 
-    /// Takes an entity out, and then its drones. It may have gone with its ship before.
+    /// Removes an entity, and then its drones. It may already be gone, with its ship.
     fn sink(&mut self, entities: &mut Entities, one: Handle) {
         if self.despawn(entities, one).is_ok() {
             let mut drones: Vec<Handle> = self.place.keys().collect();

@@ -44,17 +44,17 @@ use std::thread;
 /// How many frames old a projectile is.
 const AGE: ComponentId = ComponentId(0);
 
-/// A projectile that was aimed at has it.
+/// Set on a projectile that was aimed at.
 const TARGET: ComponentId = ComponentId(1);
 
-/// At this age a projectile is taken out.
+/// A projectile of this age is removed.
 const LIMIT: i64 = 2;
 
 #[derive(Clone, Copy)]
 enum System {
     /// Launches that many projectiles, all at once.
     Launch(u32),
-    /// Makes each projectile a frame older, and takes out those that are old enough.
+    /// Makes each projectile a frame older, and removes those that are old enough.
     Age,
     /// Aims at the projectile of that rank by birth. If `Age` takes it out in the same frame, that
     /// command comes first and this one is a fault.
@@ -118,7 +118,7 @@ fn run_all(all: &mut [LentCommands<'_>], threads: usize) -> Result<(), OutOfMemo
     })
 }
 
-/// Plays the game, and tells what each frame did and who is left in the end.
+/// Plays the game, and prints what each frame did and what is left in the end.
 fn play(threads: usize) -> Result<String, Box<dyn Error>> {
     let mut story = String::new();
     let mut world = World::new();

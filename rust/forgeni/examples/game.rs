@@ -4,8 +4,7 @@
 //! components, spawn, and issue commands of the game's own type, each into its log. A sync point
 //! runs the commands in the order of the systems.
 //!
-//! The game runs on 1, 2, 4 and 8 threads. Which handles it gets depends on them, and nothing else
-//! does:
+//! The game runs on 1, 2, 4 and 8 threads. Only the handles depend on their number:
 //!
 //! ```text
 //! threads: 1, launched: 46519, lost: 15871, digest: 782db46486321508
@@ -14,8 +13,9 @@
 //! threads: 8, launched: 46519, lost: 15871, digest: 782db46486321508
 //! ```
 
-use forgeni::{Entities, Entry, Follows, Handle, HandleMap, Lent, Log, ReserveError, SyncPoint};
-use std::{error::Error, iter, sync::Mutex, thread};
+use forgeni::{run_logs, Entities, Entry, Follows, Handle, HandleMap, Log, LogCommands};
+use forgeni::{ReserveError, SyncPoint};
+use std::{error::Error, sync::Mutex};
 
 const SHIPS: i32 = 10_000;
 const FRAMES: usize = 20;
@@ -46,7 +46,7 @@ pub struct Parts {
     events: Vec<Event>,
 }
 
-/// What one frame hands on to the next.
+/// What one frame passes to the next.
 enum Event {
     Launched,
     Lost,
@@ -66,46 +66,28 @@ enum Command {
 pub struct Game {
     entities: Entities,
     pub parts: Parts,
-    /// How often each event happened.
+    /// How many times each event happened.
     score: [usize; 2],
 }
 
 /// A system of one stage. It borrows what it reads and changes.
-type System<'a> =
-    Box<dyn FnOnce(&mut Log<Command>, &mut Lent<'_>) -> Result<(), ReserveError> + Send + 'a>;
+type System<'a> = Mutex<Box<dyn FnMut(&mut Commands<'_>) -> Result<(), ReserveError> + Send + 'a>>;
+
+type Commands<'a> = LogCommands<'a, Command>;
 
 /// A system that changes components, and no more.
-fn change<'a>(run: impl FnOnce() + Send + 'a) -> System<'a> {
-    Box::new(|_, _| {
+fn change<'a>(mut run: impl FnMut() + Send + 'a) -> System<'a> {
+    issue(move |_| {
         run();
         Ok(())
     })
 }
 
-/// Runs systems side by side. A thread takes the next one that nobody has taken.
-fn stage(
-    entities: &mut Entities,
-    threads: usize,
-    systems: [System<'_>; 4],
-) -> Result<Vec<Log<Command>>, Box<dyn Error>> {
-    let mut logs: Vec<_> = systems.iter().map(|_| Log::new()).collect();
-    entities.phase(threads, |_, reservers| {
-        let jobs = Mutex::new(systems.into_iter().zip(&mut logs));
-        let work = |reserver: &mut Lent<'_>| {
-            let mut taken = iter::from_fn(|| jobs.lock().expect("no panic").next());
-            taken.try_for_each(|(system, log)| system(log, reserver))
-        };
-        thread::scope(|scope| {
-            // This thread works too, so a game on one thread starts none.
-            let (own, others) = reservers.split_first_mut().expect("a thread");
-            let start = |reserver| scope.spawn(|| work(reserver));
-            let running: Vec<_> = others.iter_mut().map(start).collect();
-            work(own)?;
-            let mut running = running.into_iter();
-            running.try_for_each(|thread| thread.join().expect("no panic"))
-        })
-    })??;
-    Ok(logs)
+/// A system that spawns and issues commands. A spawn that is refused ends the game.
+fn issue<'a>(
+    run: impl FnMut(&mut Commands<'_>) -> Result<(), ReserveError> + Send + 'a,
+) -> System<'a> {
+    Mutex::new(Box::new(run))
 }
 
 impl Game {
@@ -124,7 +106,7 @@ impl Game {
 
     pub fn frame(&mut self, threads: usize) -> Result<(), Box<dyn Error>> {
         let (all, score) = (&mut self.parts, &mut self.score);
-        let events = all.events.drain(..);
+        let mut events = all.events.drain(..);
         let systems: [System<'_>; 4] = [
             change(|| all.bodies.for_each_mut(|_, body| body.place += body.speed)),
             change(|| all.tanks.for_each_mut(|_, tank| tank.fuel += tank.gain)),
@@ -133,35 +115,37 @@ impl Game {
                 let star = |ship| (all.drones[ship].len() >= 6).then_some('*');
                 all.names.for_each_mut(|ship, name| name.extend(star(ship)));
             }),
-            change(|| events.for_each(|event| score[event as usize] += 1)),
+            change(move || events.by_ref().for_each(|event| score[event as usize] += 1)),
         ];
-        let logs = stage(&mut self.entities, threads, systems)?;
+        let logs = run_logs(&mut self.entities, &systems, threads)?;
+        drop(systems);
         self.sync(logs)?;
 
-        // The commands come in this order. So all find their entities, since those that go go last.
+        // The commands come in this order, so each finds its entity: despawns come last.
         let all = &self.parts;
         let systems: [System<'_>; 4] = [
-            Box::new(|log, _| {
+            issue(|log| {
                 let mut far = all.bodies.iter().filter(|it| it.1.place * it.1.speed > 100);
                 far.try_for_each(|(one, _)| Ok(log.push(Command::Turn(one))?))
             }),
-            Box::new(|log, reserver| {
+            issue(|log| {
                 for ship in all.drones.keys().filter(|it| all.tanks[*it].fuel >= 60) {
-                    let drone = log.spawn(reserver)?;
+                    let drone = log.spawn()?;
                     log.push(Command::Launch { drone, ship })?;
                 }
                 Ok(())
             }),
-            Box::new(|log, _| {
+            issue(|log| {
                 let mut full = all.ships.iter().filter(|it| all.tanks[it.0].fuel > 15);
                 full.try_for_each(|(drone, &ship)| Ok(log.push(Command::Refuel { drone, ship })?))
             }),
-            Box::new(|log, _| {
+            issue(|log| {
                 let mut empty = all.tanks.iter().filter(|(_, tank)| tank.fuel <= 0);
                 empty.try_for_each(|(one, _)| Ok(log.push(Command::Despawn(one))?))
             }),
         ];
-        let logs = stage(&mut self.entities, threads, systems)?;
+        let logs = run_logs(&mut self.entities, &systems, threads)?;
+        drop(systems);
         self.sync(logs)
     }
 
@@ -210,7 +194,7 @@ impl Parts {
         Ok(())
     }
 
-    /// Takes an entity out, and its drones with it. A drone may have gone with its ship before.
+    /// Removes an entity, and its drones with it. A drone may already be gone, with its ship.
     fn despawn(&mut self, entities: &mut Entities, one: Handle) -> Result<(), Box<dyn Error>> {
         if !entities.is_alive(one) {
             return Ok(());

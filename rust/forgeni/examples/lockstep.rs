@@ -1,13 +1,13 @@
 //! A simulation that is the same on every machine, handles included: 10,000 frames with the same
 //! inputs on one worker, on four and on eight. After each frame a digest of all handles and
-//! components is the same, though the workers take the systems in whatever order they come. Each
-//! 1,000 frames the game steps back eight frames and plays them again, and each digest is that of
-//! the first time.
+//! components is the same, although the workers take the systems in any order. Each 1,000 frames
+//! the game steps back eight frames and plays them again, and each digest is that of the first
+//! time.
 //!
 //! Systems spawn while they run, in blocks: each system has a block of handles of its own, so which
-//! handle a spawn gets doesn't depend on the other systems. A system's next block is twice what it
-//! used of this one, at least 64. The sizes are a part of the game, so a frame that is played again
-//! has the same ones.
+//! handle a spawn gets doesn't depend on the other systems. A system's next block is twice as large
+//! as what it used of this one, and at least 64. The sizes are part of the game, so a frame that is
+//! played again has the same ones.
 //!
 //! It prints
 //!
@@ -26,10 +26,11 @@
 
 use forgeni::{fill_in_blocks, CommandsInBlocks, ComponentId, View, World};
 use forgeni::{run_in_blocks, BlockCommands, BlockSize, Entities, Entry, Handle, HandleMap};
-use forgeni::{OutOfMemory, StdThreads, SyncPoint};
+use forgeni::{StdThreads, SyncPoint};
 
-/// An error may come from any thread.
-type Result<T> = std::result::Result<T, Box<dyn std::error::Error + Send + Sync>>;
+/// A system can return any error, from any thread.
+type Result<T> = std::result::Result<T, Failure>;
+type Failure = Box<dyn std::error::Error + Send + Sync>;
 
 const FRAMES: u64 = 10_000;
 const SYSTEMS: usize = 6;
@@ -39,7 +40,7 @@ const EVERY: u64 = 1_000;
 /// How many entities the game holds about.
 const MANY: u64 = 240;
 
-/// A number that looks like no other (the steps of splitmix64).
+/// A pseudo-random number (the steps of splitmix64).
 fn mixed(number: u64) -> u64 {
     let mut all = number.wrapping_add(0x9e37_79b9_7f4a_7c15);
     all = (all ^ all >> 30).wrapping_mul(0xbf58_476d_1ce4_e5b9);
@@ -56,16 +57,14 @@ enum Command {
 }
 
 /// Spawns an entity with this energy.
-fn spawn(
-    commands: &mut BlockCommands<'_, Command>,
-    energy: u64,
-) -> std::result::Result<(), OutOfMemory> {
+fn spawn(commands: &mut BlockCommands<'_, Command>, energy: u64) -> Result<()> {
     match commands.spawn() {
-        Ok(new) => commands.push(Command::Change(new, energy)),
+        Ok(new) => commands.push(Command::Change(new, energy))?,
         // A block that is used up refuses, and it does so on every machine. The sync point counts
         // it.
-        Err(refused) => refused.or_memory(),
+        Err(refused) => refused.or_memory()?,
     }
+    Ok(())
 }
 
 #[derive(Clone)]
@@ -102,11 +101,7 @@ impl Game {
     }
 
     /// A system looks at its share of the entities. Many of them spawn, as long as there are few.
-    fn run(
-        &self,
-        system: usize,
-        commands: &mut BlockCommands<'_, Command>,
-    ) -> std::result::Result<(), OutOfMemory> {
+    fn run(&self, system: usize, commands: &mut BlockCommands<'_, Command>) -> Result<()> {
         let crowd = self.energy.len() as u64;
         for (one, energy) in &self.energy {
             if one.index() as usize % SYSTEMS != system {
@@ -126,7 +121,7 @@ impl Game {
         Ok(())
     }
 
-    /// Runs a frame: the workers take one system after another, in whatever order they come.
+    /// Runs a frame: the workers take one system after another, in any order.
     fn step(&mut self, workers: usize) -> Result<()> {
         let entities = std::mem::take(&mut self.entities);
         let sizes = self.sizes.map(|it| it.size());
@@ -159,10 +154,7 @@ impl Game {
                 energies.remove(one);
                 match entities.free(one) {
                     Ok(_) => Ok(()),
-                    Err(error) => Err((
-                        entry,
-                        Box::<dyn std::error::Error + Send + Sync>::from(error),
-                    )),
+                    Err(error) => Err((entry, Failure::from(error))),
                 }
             }
         })?;
@@ -182,7 +174,7 @@ impl Game {
     }
 }
 
-/// The digest after each frame, the game at the end, and how many frames were played again.
+/// Returns the digest after each frame, the game at the end, and how many frames were played again.
 fn play(workers: usize) -> Result<(Vec<u64>, Game, u64)> {
     let mut game = Game::new()?;
     let mut digests: Vec<u64> = vec![];
@@ -212,11 +204,7 @@ const ENERGY: ComponentId = ComponentId(0);
 
 /// A system of that game: as `Game::run`, but it reads the world, and issues the world's own
 /// commands.
-fn run_in_world(
-    system: usize,
-    view: &View<'_>,
-    commands: &mut CommandsInBlocks<'_>,
-) -> std::result::Result<(), OutOfMemory> {
+fn run_in_world(system: usize, view: &View<'_>, commands: &mut CommandsInBlocks<'_>) -> Result<()> {
     let (all, input) = (view.with(ENERGY)?, mixed(view.phase() ^ 0x10c5));
     let crowd = all.len() as u64;
     for one in all {
@@ -227,8 +215,9 @@ fn run_in_world(
         let luck = mixed(one.to_bits() ^ energy as u64 ^ input);
         match luck % 64 {
             0..8 if luck >> 8 & 0xff < 512 - crowd.min(512) => {
-                let spawned = commands.spawn_many_with(2, &[(ENERGY, luck as i64)]);
-                spawned.map_or_else(|refused| refused.or_memory(), |_| Ok(()))?;
+                if let Err(refused) = commands.spawn_many_with(2, &[(ENERGY, luck as i64)]) {
+                    refused.or_memory()?;
+                }
             }
             8..12 if crowd > MANY / 2 => commands.despawn(one)?,
             _ => commands.insert_with(one, &[(ENERGY, energy.wrapping_add(luck as i64))])?,

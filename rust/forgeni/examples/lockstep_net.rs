@@ -1,6 +1,7 @@
 //! A game in lockstep over TCP: a host on one worker, a guest on four, and a third player who joins
-//! by an image. Nobody waits for late inputs: a machine plays the player's last one, and steps back
-//! if another one comes. Eight frames later it compares a digest of its world with the others'.
+//! by an image. No machine waits for late inputs: a machine plays the player's last one, and steps
+//! back if another one comes. Eight frames later it compares a digest of its world with the
+//! others'.
 //!
 //! In a second game the guest's machine loses an entity in frame 100. The digests after that frame
 //! differ, and the images of both machines say in which slot. It prints
@@ -21,23 +22,23 @@ use std::net::{TcpListener, TcpStream};
 use std::process::{Child, Command};
 use std::{env, time::Duration};
 
-/// An error may come from any thread.
+/// An error from any thread.
 type Result<T> = std::result::Result<T, Box<dyn std::error::Error + Send + Sync>>;
 
 const FRAMES: usize = 240;
 const PLAYERS: usize = 3;
 const SYSTEMS: usize = 4;
-/// So many frames later, each machine knows all inputs, and none steps back further.
+/// After this many frames each machine knows all inputs, and none steps back further.
 const LAG: usize = 8;
 const KEPT: usize = LAG + 2;
 /// The frame from which on the third player plays, and the one that goes wrong in the second game.
 const JOINS: usize = 120;
 const WRONG: usize = 100;
-/// Of an image from elsewhere, how many bytes and how many slots are read at most.
+/// The most bytes and the most slots that an image from elsewhere may have.
 const MOST: u32 = 1 << 20;
 const ENERGY: ComponentId = ComponentId(0);
 
-/// A number that looks like no other (the steps of splitmix64).
+/// A pseudo-random number (the steps of splitmix64).
 fn mixed(number: u64) -> u64 {
     let mut all = number.wrapping_add(0x9e37_79b9_7f4a_7c15);
     all = (all ^ all >> 30).wrapping_mul(0xbf58_476d_1ce4_e5b9);
@@ -128,7 +129,7 @@ impl Game {
         Ok(bytes.fold(0, |all, byte| mixed(all ^ byte)))
     }
 
-    /// All entities with their energy, by rising slot.
+    /// All entities with their energy, in slot order.
     fn entities(&self) -> Result<Vec<(Handle, Option<i64>)>> {
         let all = self.world.by_birth()?.into_iter();
         let mut all: Vec<_> = all.map(|one| (one, self.world.get(one, ENERGY))).collect();
@@ -137,7 +138,7 @@ impl Game {
     }
 }
 
-/// A machine of one player. The host, of player 0, hands on to each guest what it knows.
+/// A machine of one player. The host, player 0, passes what it knows to each guest.
 struct Machine {
     player: usize,
     /// The frames from which on the third player plays, and in which this machine goes wrong.
@@ -156,7 +157,7 @@ struct Machine {
 }
 
 impl Machine {
-    /// The machine whose next frame is this one. It knows that nobody plays in the third place yet.
+    /// The machine whose next frame is this one. It knows that there is no third player yet.
     fn new(player: usize, joins: usize, wrong: usize, game: Game, frame: usize) -> Result<Self> {
         let (count, third) = (FRAMES + LAG + 1, |frame| [0, 0, u64::from(frame < joins)]);
         let mut machine = Self {
@@ -270,7 +271,7 @@ fn receive(link: &mut TcpStream) -> Result<Vec<u8>> {
 
 fn linked(stream: TcpStream) -> Result<TcpStream> {
     stream.set_nodelay(true)?;
-    // Whoever says nothing for so long is gone.
+    // A machine that is silent for this long is gone.
     stream.set_read_timeout(Some(Duration::from_secs(60)))?;
     Ok(stream)
 }

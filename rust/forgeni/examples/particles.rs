@@ -3,8 +3,8 @@
 //! those that they light. At the sync point all of that takes effect.
 //!
 //! `cargo run --release --example particles 500` runs 500 frames. It runs all of them on 1, 2, 4
-//! and 8 threads, and says on the standard error how many frames a second that were. Which handle a
-//! spark has depends on the threads, and nothing else does:
+//! and 8 threads, and says on the standard error how many frames a second that were. Only the
+//! sparks' handles depend on the threads:
 //!
 //! ```text
 //! 10 frames: 17948 burnt, 17995 lit, 100047 living
@@ -16,7 +16,7 @@ use std::error::Error;
 use std::sync::atomic::{AtomicUsize, Ordering};
 use std::time::Instant;
 
-/// An error that may come from any thread.
+/// An error from any thread.
 type Failed = Box<dyn Error + Send + Sync>;
 
 const SPARKS: usize = 100_000;
@@ -61,7 +61,7 @@ impl Spark {
     }
 }
 
-/// A number that looks like no other (the steps of splitmix64).
+/// A pseudo-random number (the steps of splitmix64).
 fn mixed(number: u64) -> u64 {
     let mut all = number.wrapping_add(0x9e37_79b9_7f4a_7c15);
     all = (all ^ all >> 30).wrapping_mul(0xbf58_476d_1ce4_e5b9);
@@ -85,13 +85,13 @@ struct Game {
     counts: Counts,
 }
 
-/// What a game has come to.
+/// The outcome of a game.
 #[derive(Clone, Copy, Debug, Default, PartialEq, Eq)]
 struct Counts {
     burnt: usize,
     lit: usize,
     living: usize,
-    /// Of all sparks and where they are, in whatever order.
+    /// A digest of all sparks and their places, in any order.
     sum: u64,
 }
 
@@ -122,8 +122,8 @@ impl Game {
         self.sync(wanted)
     }
 
-    /// Runs a system for each part of the sparks. A thread takes the next part that nobody has
-    /// taken.
+    /// Runs a system for each part of the sparks. Each thread takes the next part that isn't taken
+    /// yet.
     fn systems(&mut self, threads: usize) -> Result<Vec<Wanted>, Failed> {
         let living: Vec<Handle> = self.entities.iter().collect();
         let parts: Vec<&[Handle]> = living.chunks(PART).collect();
@@ -163,7 +163,7 @@ impl Game {
         Ok(())
     }
 
-    /// What it has come to, whatever handles its sparks have.
+    /// The outcome, whatever handles the sparks have.
     fn counts(&self) -> Counts {
         let numbers = self.fires.iter().map(|(one, fire)| {
             let Place([x, y]) = self.places[one];

@@ -6,8 +6,7 @@
 //! digest adds up the sparks in any order. A game that sends handles to other machines reserves on
 //! one worker: with one, the handles are compared too.
 //!
-//! How long a frame and a snapshot take goes to the standard error (see it with `--release`). It
-//! prints
+//! It writes to standard error how long a frame and a snapshot take (use `--release`). It prints
 //!
 //! ```text
 //! 24 frames: 50079 sparks, digest 42ca87774f266707
@@ -22,7 +21,7 @@ use forgeni::{tables, Entities, Follows, Handle, HandleMap, JoinMaps, Lent};
 use std::thread;
 use std::time::Instant;
 
-/// An error may come from any thread.
+/// An error from any thread.
 type Result<T> = std::result::Result<T, Box<dyn std::error::Error + Send + Sync>>;
 
 const SPARKS: u32 = 50_000;
@@ -30,7 +29,7 @@ const FRAMES: usize = 24;
 /// How many frames the game can step back.
 const BACK: usize = 8;
 
-/// How long a spark burns. What becomes of it follows from its seed.
+/// How long a spark burns. All that it does follows from its seed.
 #[derive(Clone, Copy)]
 struct Life {
     seed: u64,
@@ -40,7 +39,7 @@ struct Life {
 /// A spark that burns out, and the handles of those that it lights.
 type Burnt = (Handle, Vec<Handle>);
 
-/// A number that looks like no other (the steps of splitmix64).
+/// A pseudo-random number (the steps of splitmix64).
 fn mixed(number: u64) -> u64 {
     let mut all = number.wrapping_add(0x9e37_79b9_7f4a_7c15);
     all = (all ^ all >> 30).wrapping_mul(0xbf58_476d_1ce4_e5b9);
@@ -88,7 +87,7 @@ impl Game {
         (from..FRAMES).map(play_one).collect()
     }
 
-    /// Takes the state of another game. Memory is needed only for what that one has more slots.
+    /// Takes over the state of another game. It allocates only if that game has more slots.
     fn take_over(&mut self, other: &Self) -> Result<()> {
         self.entities.try_clone_from(&other.entities)?;
         Ok(self.sparks.try_clone_from(&other.sparks)?)
@@ -143,7 +142,7 @@ impl Game {
         Ok(burnt?.into_iter().flatten().collect())
     }
 
-    /// All that the game is but its handles, in 64 bits.
+    /// A digest of the whole game, except for its handles.
     fn digest(&self) -> u64 {
         let all = &self.sparks;
         let walk = (&all.places, &all.speeds, &all.lives).join();
@@ -163,7 +162,7 @@ fn burn(part: &[Handle], lives: &HandleMap<Life>, lent: &mut Lent<'_>) -> Result
     burnt.map(lit).collect()
 }
 
-/// Prints what holds. If it doesn't, that is an error.
+/// Prints the statement if it holds, and returns an error if it doesn't.
 fn holds(it: bool, what: &str) -> Result<()> {
     let printed = it.then(|| println!("{what}"));
     printed.ok_or_else(|| format!("not so: {what}").into())

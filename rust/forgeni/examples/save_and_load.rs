@@ -1,4 +1,4 @@
-//! A game that one process saves, and that goes on in another one.
+//! A game that one process saves and another one continues.
 //!
 //! The save has the image of the allocator and the sparks in the order of their rows. It is made in
 //! the middle of a frame, while handles are reserved for the sparks to come: the flush of the
@@ -6,8 +6,8 @@
 //! handles.
 //!
 //! `save_and_load save FILE` and `save_and_load load FILE` do one half each, also on different
-//! machines. How long a save and a load take goes to the standard error (see it with `--release`).
-//! It prints
+//! machines. It writes to standard error how long a save and a load take (use `--release`). It
+//! prints
 //!
 //! ```text
 //! saved in a frame: 50000 sparks, living or reserved
@@ -27,7 +27,7 @@ const SPARKS: u32 = 50_000;
 /// How many frames are played before the save, and after it.
 const FRAMES: u64 = 24;
 
-/// A number that looks like no other (the steps of splitmix64).
+/// A pseudo-random number (the steps of splitmix64).
 fn mixed(number: u64) -> u64 {
     let mut all = number.wrapping_add(0x9e37_79b9_7f4a_7c15);
     all = (all ^ all >> 30).wrapping_mul(0xbf58_476d_1ce4_e5b9);
@@ -165,7 +165,7 @@ fn load(file: &Path) -> Result<()> {
     Ok(fs::write(file, game.save()?)?)
 }
 
-/// Prints what holds. If it doesn't, that is an error.
+/// Prints the statement if it holds, and returns an error if it doesn't.
 fn holds(it: bool, what: &str) -> Result<()> {
     let printed = it.then(|| println!("{what}"));
     printed.ok_or_else(|| format!("not so: {what}").into())

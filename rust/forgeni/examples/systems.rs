@@ -1,7 +1,7 @@
 //! The game of `frames.rs`, smaller, by `run_frame`: systems are functions, and workers run them.
 //!
 //! The game is played on one worker and on eight, and both games tell the same story. In the last
-//! frame a system panics. The panic is handed on, and the world is as it was. It prints
+//! frame a system panics. The panic is propagated, and the world is as it was. It prints
 //!
 //! ```text
 //! frame 0: born 3, alive 3, faults 0
@@ -13,7 +13,7 @@
 //! 9 are alive
 //! ```
 
-use forgeni::{run_frame, ComponentId, OutOfMemory, ReserveError, SystemCommands, View, World};
+use forgeni::{run_frame, ComponentId, ReserveError, SystemCommands, View, World};
 use std::error::Error;
 use std::fmt::Write;
 use std::panic::{catch_unwind, resume_unwind, AssertUnwindSafe};
@@ -21,23 +21,22 @@ use std::panic::{catch_unwind, resume_unwind, AssertUnwindSafe};
 /// How many frames old a projectile is.
 const AGE: ComponentId = ComponentId(0);
 
-/// A projectile that was aimed at has it.
+/// Set on a projectile that was aimed at.
 const TARGET: ComponentId = ComponentId(1);
 
-/// At this age a projectile is taken out.
+/// A projectile of this age is removed.
 const LIMIT: i64 = 2;
 
-type System = fn(&View<'_>, &mut SystemCommands<'_>) -> Result<(), OutOfMemory>;
+type System = fn(&View<'_>, &mut SystemCommands<'_>) -> Result<(), ReserveError>;
 
-/// Launches three projectiles. The queue keeps a refusal, and the sync point reports it.
-fn launch(_: &View<'_>, commands: &mut SystemCommands<'_>) -> Result<(), OutOfMemory> {
-    commands
-        .spawn_many_with(3, &[(AGE, 0)])
-        .map_or_else(ReserveError::or_memory, |_| Ok(()))
+/// Launches three projectiles. If they are refused, the frame ends with that error.
+fn launch(_: &View<'_>, commands: &mut SystemCommands<'_>) -> Result<(), ReserveError> {
+    commands.spawn_many_with(3, &[(AGE, 0)])?;
+    Ok(())
 }
 
-/// Makes each projectile a frame older, and takes out those that are old enough.
-fn age(view: &View<'_>, commands: &mut SystemCommands<'_>) -> Result<(), OutOfMemory> {
+/// Makes each projectile a frame older, and removes those that are old enough.
+fn age(view: &View<'_>, commands: &mut SystemCommands<'_>) -> Result<(), ReserveError> {
     for one in view.with(AGE)? {
         match view.get(one, AGE) {
             Some(age) if age < LIMIT => commands.insert_with(one, &[(AGE, age + 1)])?,
@@ -49,22 +48,22 @@ fn age(view: &View<'_>, commands: &mut SystemCommands<'_>) -> Result<(), OutOfMe
 
 /// Aims at the oldest projectile. If `age` takes it out in the same frame, that command comes first
 /// and this one is a fault.
-fn aim(view: &View<'_>, commands: &mut SystemCommands<'_>) -> Result<(), OutOfMemory> {
-    match view.with(AGE)?.first() {
-        Some(oldest) => commands.insert_with(*oldest, &[(TARGET, 1)]),
-        None => Ok(()),
+fn aim(view: &View<'_>, commands: &mut SystemCommands<'_>) -> Result<(), ReserveError> {
+    if let Some(oldest) = view.with(AGE)?.first() {
+        commands.insert_with(*oldest, &[(TARGET, 1)])?;
     }
+    Ok(())
 }
 
-fn breaks(_: &View<'_>, _: &mut SystemCommands<'_>) -> Result<(), OutOfMemory> {
-    // As `panic!`, without its message.
+fn breaks(_: &View<'_>, _: &mut SystemCommands<'_>) -> Result<(), ReserveError> {
+    // Like `panic!`, but without a message.
     resume_unwind(Box::new("out of arrows"))
 }
 
 /// The systems of a frame, in the order in which their commands take effect.
 const SYSTEMS: [System; 3] = [launch, age, aim];
 
-/// Plays the game, and tells what each frame did.
+/// Plays the game, and prints what each frame did.
 fn play(workers: usize) -> Result<(World, String), Box<dyn Error>> {
     let (mut world, mut story) = (World::new(), String::new());
     for frame in 0..4 {

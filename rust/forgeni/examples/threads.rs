@@ -24,7 +24,7 @@ fn main() -> Result<(), Box<dyn Error>> {
     a.meet(b)?;
     a.reserve_into(&mut given, 24)?;
 
-    // The threads are joined, so nobody has a reserver but we.
+    // The threads are joined, so no other thread has a reserver.
     let once: HashSet<Handle> = given.iter().copied().collect();
     if once.len() == given.len() {
         println!("{} handles, none of them twice", given.len());
@@ -36,7 +36,7 @@ fn main() -> Result<(), Box<dyn Error>> {
     Ok(())
 }
 
-/// One thread reserves one by one, the other at once.
+/// One thread reserves handles one by one, the other all at once.
 fn side_by_side(a: &mut Reserver, b: &mut Reserver) -> Result<Vec<Handle>, ReserveError> {
     thread::scope(|scope| {
         let bulk = scope.spawn(|| b.reserve_many(400));

@@ -1,34 +1,101 @@
-//! Blocks: the handles that come next are [dealt](crate::Entities::open_in_blocks) to callers in
-//! advance, so they don't depend on which thread is first.
+//! Blocks: the handles that come next are dealt to callers in advance, so which handle a caller
+//! gets doesn't depend on which thread is first.
 //!
-//! [`run_in_blocks`](crate::run_in_blocks) runs systems that fill logs in blocks, and
-//! [`run_frame_in_blocks`](crate::run_frame_in_blocks) runs the systems of a world. A [`BlockSize`]
-//! for each system, which [adapts](BlockSize::adapt) after each frame, gives the sizes for the next
-//! one.
+//! There are two kinds:
+//! - [`Entities::open_in_blocks`](crate::Entities::open_in_blocks) deals blocks that refuse a
+//!   request for more than they have left. So no handle ever depends on a thread.
+//! - [`Entities::share_behind_blocks`](crate::Entities::share_behind_blocks) deals blocks, and
+//!   shares the handles behind them. A reserver whose block is used up goes on to the shared
+//!   handles, so none is refused as long as the allocator has handles. If [`Ended::requested_past`]
+//!   is 0 at the end, no handle depends on a thread. Use it if no spawn may be lost.
+//!
+//! [`run_in_blocks`](crate::run_in_blocks) runs systems that fill logs in blocks of the first kind,
+//! and [`run_frame_in_blocks`](crate::run_frame_in_blocks) runs the systems of a world. A
+//! [`BlockSize`] for each system [adapts](BlockSize::adapt) to what it wanted, frame by frame:
+//!
+//! ```
+//! # #[cfg(feature = "std")] {
+//! use forgeni::{run_in_blocks, BlockCommands, BlockSize, Entities, StdThreads, SyncPoint};
+//!
+//! let (mut entities, mut refused) = (Entities::new(), 0);
+//! let mut sizes = [BlockSize::new(1_000); 3];
+//! for wave in [40, 60, 90, 140] {
+//!     // Each system launches a wave, which is larger in each frame.
+//!     let launch = |commands: &mut BlockCommands<'_, u32>| {
+//!         (0..wave).try_for_each(|_| match commands.spawn() {
+//!             Ok(drone) => commands.push(drone.index()),
+//!             Err(why) => why.or_memory(),
+//!         })
+//!     };
+//!     let (blocks, reservers) = entities.open_in_blocks(&sizes.map(|it| it.size()))?;
+//!     let (mut logs, reservers) = run_in_blocks(&StdThreads, &blocks, reservers, &[launch; 3], 2)?;
+//!     for (size, reserver) in sizes.iter_mut().zip(&reservers) {
+//!         size.adapt(reserver.wanted());
+//!     }
+//!     entities = blocks.close(reservers)?;
+//!     refused += logs.iter().map(|log| log.refused()).sum::<usize>();
+//!     let _sync = SyncPoint::begin(&mut entities, &mut logs, &mut Vec::new())?;
+//! }
+//! // A block had 64 handles at first, and then twice as many as the system had wanted.
+//! assert_eq!((entities.len(), refused, sizes[0].size()), (990, 0, 280));
+//! # }
+//! # Ok::<(), Box<dyn std::error::Error + Send + Sync>>(())
+//! ```
+//!
+//! With threads of your own, and blocks that never refuse:
+//!
+//! ```
+//! use forgeni::{BlockSize, Entities};
+//!
+//! let (mut entities, mut sizes) = (Entities::new(), [BlockSize::new(1_000); 3]);
+//! for wave in [40, 60, 900] {
+//!     let (phase, mut reservers) = entities.share_behind_blocks(&sizes.map(|it| it.size()))?;
+//!     std::thread::scope(|scope| {
+//!         for mine in &mut reservers {
+//!             scope.spawn(move || (0..wave).for_each(|_| drop(mine.reserve())));
+//!         }
+//!     });
+//!     for (size, reserver) in sizes.iter_mut().zip(&reservers) {
+//!         size.adapt(reserver.wanted());
+//!     }
+//!     let ended = phase.close(reservers)?;
+//!     // In the last frame the blocks have 120 handles, and the rest comes from past them.
+//!     assert_eq!(ended.requested_past() > 0, wave == 900);
+//!     entities = ended.into_entities()?;
+//!     entities.flush(&mut Vec::new())?;
+//! }
+//! assert_eq!(entities.len(), 3_000);
+//! # Ok::<(), Box<dyn std::error::Error + Send + Sync>>(())
+//! ```
 
 use crate::in_blocks::open_in_blocks;
 use crate::numbers::next_number;
+use crate::phase::closed;
+use crate::phases::share_behind_blocks;
 use crate::shown::shows;
+use crate::threads::{Phase, Reserver, ShareError};
 use crate::{Entities, HandedBack};
 use alloc::vec::Vec;
 
 pub use crate::in_blocks::{BlockError, BlockReserver, BlockSize, Blocks};
-pub use crate::in_blocks::{DealError, EndError};
+pub use crate::in_blocks::{DealError, EndError, Ended, Overflow};
 
 /// # Blocks
 impl Entities {
-    /// Deals out the handles that would be given next, to callers, in blocks of these sizes: each
-    /// caller gets a reserver of its own block. A block is smaller where the allocator has no more
-    /// handles.
+    /// Deals out the handles that come next, in blocks of these sizes: each caller gets a reserver
+    /// of its own block. A block is smaller if the allocator has no more handles.
     ///
-    /// [`share`](Self::share) gives each request the next handle, so which thread gets which
-    /// depends on who was first. In blocks it doesn't: the handles of a caller depend on the
-    /// allocator, on the sizes, and on what this caller reserved before. So a simulation is the
-    /// same on every number of threads, if its callers are its systems. A reservation takes no
+    /// [`share`](Self::share) gives each request the next handle, so which thread gets which handle
+    /// depends on the order in which they ask. In blocks it doesn't: the handles of a caller depend
+    /// on the allocator, on the sizes, and on what this caller reserved before. So a simulation
+    /// whose callers are its systems is the same with any number of threads. A reservation takes no
     /// atomic step.
     ///
-    /// Opening takes time and memory for each block, however large they are. [`Blocks::close`]
-    /// gives the allocator back, and a [`flush`](Self::flush) brings to life what was used.
+    /// A request for more than is left of a block is refused. If no spawn may be lost, use
+    /// [`share_behind_blocks`](Self::share_behind_blocks).
+    ///
+    /// Opening takes time and memory for each block, however large it is. [`Blocks::close`] gives
+    /// the allocator back, and a [`flush`](Self::flush) brings to life what was used.
     ///
     /// ```
     /// use forgeni::Entities;
@@ -63,9 +130,58 @@ impl Entities {
     ) -> Result<(Blocks, Vec<BlockReserver>), HandedBack<Entities, DealError>> {
         Ok(open_in_blocks(self, sizes)?.numbered(next_number()))
     }
+
+    /// Deals the next handles in blocks of these sizes, at most 1,023 of them, and shares the rest.
+    /// A reserver whose block is used up goes on to the shared handles, so it is refused only
+    /// if the allocator has no more.
+    ///
+    /// A reservation from a block makes no atomic step. As long as no reserver goes past its block,
+    /// its handles depend only on the allocator, the sizes and what it reserved before.
+    /// [`Ended::requested_past`] counts the handles requested past the blocks: if it is 0, no
+    /// handle depends on a thread.
+    ///
+    /// ```
+    /// use forgeni::Entities;
+    ///
+    /// let (phase, mut reservers) = Entities::new().share_behind_blocks(&[2, 2])?;
+    /// let second = reservers[1].reserve()?;
+    /// let first = reservers[0].reserve_many(2)?;
+    /// let past = reservers[0].reserve()?;
+    /// assert_eq!((first[0].index(), second.index(), past.index()), (0, 2, 4));
+    /// let ended = phase.close(reservers)?;
+    /// assert_eq!(ended.requested_past(), 1);
+    /// let mut entities = ended.into_entities()?;
+    /// let mut born = Vec::new();
+    /// entities.flush(&mut born)?;
+    /// assert_eq!(born.len(), 4);
+    ///
+    /// // What was left of the blocks is given next.
+    /// assert_eq!(entities.alloc()?.index(), 3);
+    /// # Ok::<(), Box<dyn std::error::Error + Send + Sync>>(())
+    /// ```
+    ///
+    /// # Errors
+    ///
+    /// The same as for [`share`](Self::share), and [`ShareError::Count`] for more than 1,023
+    /// blocks.
+    ///
+    /// # Aborts
+    ///
+    /// The same as for `share`.
+    #[allow(clippy::type_complexity)]
+    pub fn share_behind_blocks(
+        self,
+        sizes: &[u32],
+    ) -> Result<(Phase<Overflow>, Vec<Reserver<Overflow>>), HandedBack<Entities, ShareError>> {
+        let opening = share_behind_blocks(self, sizes)?;
+        opening
+            .numbered(next_number())
+            .map_err(|phase| HandedBack::new(closed(phase).cancel(), ShareError::Memory))
+    }
 }
 
 shows! {
     Blocks: count;
     BlockReserver: size used;
+    Ended: requested_past;
 }

@@ -23,7 +23,7 @@ use crate::{Entities, FreeError, Freed, HandleMap, SparseMap};
 /// # Ok::<(), Box<dyn std::error::Error + Send + Sync>>(())
 /// ```
 pub trait Follows {
-    /// Drops what it has for this handle.
+    /// Drops what it keeps for this handle.
     ///
     /// ```
     /// use forgeni::{Entities, Follows, Handle};

@@ -1,7 +1,7 @@
 //! Frames: systems run on workers over one world or one allocator, and a sync point applies what
 //! they issued.
 
-use crate::guarding::{caught, guarded};
+use crate::guarding::{caught, guarded, of_frame, of_logs};
 use crate::running::NoGate;
 use crate::{phases, running};
 use crate::{Entities, HandedBack, Handle, Log, Report, SyncPoint, World};
@@ -68,8 +68,9 @@ pub use crate::system::*;
 /// - [`NeedsFlush`](FrameError::NeedsFlush), [`Workers`](FrameError::Workers),
 ///   [`Systems`](FrameError::Systems) and [`Memory`](FrameError::Memory): no system ran, and the
 ///   world is as it was.
-/// - [`Lost`](FrameError::Lost): a system returned an error, or systems are left and no worker has
-///   memory for another one. No command was applied. What the systems that ran had reserved stays
+/// - [`Lost`](FrameError::Lost): a system returned an error, and this has the first one in the
+///   order of the systems. Or some systems didn't run, since no worker has memory for another one:
+///   then it has none. No command was applied. What the systems that ran had reserved stays
 ///   reserved, and nothing else is: [`World::flush`] brings it to life, without components.
 /// - [`Unapplied`](FrameError::Unapplied) and [`Stopped`](FrameError::Stopped): all systems ran,
 ///   and the sync point ran out of memory. It can be repeated or continued.
@@ -86,11 +87,11 @@ pub use crate::system::*;
 /// With more than one worker, threads are started as [`std::thread::scope`] starts them. If memory
 /// for that runs out, the process ends. Without the feature `std`, and where no thread can be
 /// started, as on `wasm32-unknown-unknown`, the caller's thread does all the work.
-pub fn run_frame<S: System + Sync>(
+pub fn run_frame<S: System<SharedSource, E> + Sync, E: Send>(
     world: &mut World,
     systems: &[S],
     workers: usize,
-) -> Result<Report, FrameError> {
+) -> Result<Report, FrameError<E>> {
     run_frame_on(&StdThreads, world, systems, workers)
 }
 
@@ -131,20 +132,21 @@ pub fn run_frame<S: System + Sync>(
 ///
 /// The same as [`run_frame`]. If no system panics but the `Join` does, its panic is propagated when
 /// all workers have ended. The frame is complete then: only its report is lost.
-pub fn run_frame_on<J: Join + Sync, S: System + Sync>(
+pub fn run_frame_on<J: Join + Sync, S: System<SharedSource, E> + Sync, E: Send>(
     join: &J,
     world: &mut World,
     systems: &[S],
     workers: usize,
-) -> Result<Report, FrameError> {
+) -> Result<Report, FrameError<E>> {
     guarded(join, systems, FrameError::Memory, |join, systems| {
-        Ok(phases::run_frame(join, world, systems, workers, &NoGate).map(|frame| frame.sync))
+        let ran = phases::run_frame(join, world, systems, workers, &NoGate);
+        Ok(ran.map(|frame| frame.sync).map_err(of_frame))
     })
 }
 
 /// Runs each system once, on that many workers side by side, 1 to 64, each with a [`Log`] of its
 /// own. The logs are in the order of the systems, whichever ended first, for a [`SyncPoint`] of the
-/// allocator. There can be up to 65,536 systems. If there are none, the call takes no memory.
+/// allocator. There can be up to 65,536 systems. If there are none, the call doesn't allocate.
 ///
 /// Each worker takes the next system that isn't taken yet, until none is left. A spawn reserves at
 /// once, so which handle it returns depends on the workers. If a thread can't be started, another
@@ -195,9 +197,10 @@ pub fn run_frame_on<J: Join + Sync, S: System + Sync>(
 /// - [`NeedsFlush`](LogError::NeedsFlush), [`Workers`](LogError::Workers),
 ///   [`Systems`](LogError::Systems) and [`Memory`](LogError::Memory): no system ran, and the
 ///   allocator is as it was.
-/// - [`Lost`](LogError::Lost): a system returned an error, or systems are left and no worker has
-///   memory for the log of another one. The logs are dropped. What the systems that ran had
-///   reserved stays reserved, and nothing else is: [`Entities::flush`] brings it to life.
+/// - [`Lost`](LogError::Lost): a system returned an error, and this has the first one in the order
+///   of the systems. Or some systems didn't run, since no worker has memory for the log of another
+///   one: then it has none. The logs are dropped. What the systems that ran had reserved stays
+///   reserved, and nothing else is: [`Entities::flush`] brings it to life.
 ///
 /// # Panics
 ///
@@ -212,11 +215,11 @@ pub fn run_frame_on<J: Join + Sync, S: System + Sync>(
 /// # Aborts
 ///
 /// The same as for [`run_frame`].
-pub fn run_logs<C: Send, S: LogSystem<C> + Sync>(
+pub fn run_logs<C: Send, S: LogSystem<C, SharedSource, E> + Sync, E: Send>(
     entities: &mut Entities,
     systems: &[S],
     workers: usize,
-) -> Result<Vec<Log<C>>, LogError> {
+) -> Result<Vec<Log<C>>, LogError<E>> {
     run_logs_on(&StdThreads, entities, systems, workers)
 }
 
@@ -250,14 +253,14 @@ pub fn run_logs<C: Send, S: LogSystem<C> + Sync>(
 /// The same as [`run_logs`]. If no system panics but the `Join` does, its panic is propagated when
 /// all workers have ended. What they reserved stays reserved, and the logs are dropped. If a
 /// command panics then, that panic is lost.
-pub fn run_logs_on<J: Join + Sync, C: Send, S: LogSystem<C> + Sync>(
+pub fn run_logs_on<J: Join + Sync, C: Send, S: LogSystem<C, SharedSource, E> + Sync, E: Send>(
     join: &J,
     entities: &mut Entities,
     systems: &[S],
     workers: usize,
-) -> Result<Vec<Log<C>>, LogError> {
+) -> Result<Vec<Log<C>>, LogError<E>> {
     guarded(join, systems, LogError::Memory, |join, systems| {
-        caught(|| running::run_logs(join, entities, systems, workers))
+        caught(|| running::run_logs(join, entities, systems, workers).map_err(of_logs))
     })
 }
 
@@ -296,23 +299,34 @@ pub fn run_logs_on<J: Join + Sync, C: Send, S: LogSystem<C> + Sync>(
 /// [`HandedBack`] has the logs that the sync point didn't take, and the error. `born` is unchanged.
 ///
 /// - Those of [`run_logs`]. There are no logs.
-/// - [`Unborn`](LogError::Unborn): all systems ran, and there is no memory for what is born. What
-///   they reserved stays reserved, and the logs are those of all systems, for [`SyncPoint::begin`].
+/// - [`Unborn`](LogError::Unborn): all systems ran, and there isn't enough memory for what is born.
+///   What they reserved stays reserved, and the logs are those of all systems, for
+///   [`SyncPoint::begin`].
 ///
 /// # Panics
 ///
 /// If a system panics, or a command panics when it is dropped: the same as [`run_logs`]. If no
 /// system panics but the `Join` does, its panic is propagated when all workers have ended. What
 /// they reserved is alive, and their logs are dropped.
-pub fn run_to_sync_point<J: Join + Sync, C: Send, S: LogSystem<C> + Sync>(
+#[allow(clippy::type_complexity)]
+pub fn run_to_sync_point<J: Join + Sync, C: Send, S, E: Send>(
     join: &J,
     entities: &mut Entities,
     systems: &[S],
     workers: usize,
     born: &mut Vec<Handle>,
-) -> Result<SyncPoint<C>, HandedBack<Vec<Log<C>>, LogError>> {
+) -> Result<SyncPoint<C>, HandedBack<Vec<Log<C>>, LogError<E>>>
+where
+    S: LogSystem<C, SharedSource, E> + Sync,
+{
     let memory = HandedBack::new(Vec::new(), LogError::Memory);
     guarded(join, systems, memory, |join, systems| {
-        caught(|| running::run_to_sync_point(join, entities, systems, workers, born))
+        caught(|| {
+            let begun = running::run_to_sync_point(join, entities, systems, workers, born);
+            begun.map_err(|unbegun| {
+                let (logs, error) = unbegun.into_parts();
+                HandedBack::new(logs, of_logs(error))
+            })
+        })
     })
 }

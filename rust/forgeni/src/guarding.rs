@@ -1,7 +1,7 @@
 //! Systems whose panics are caught.
 
 use crate::frames::Join;
-use crate::{LogCommands, LogSystem, OutOfMemory, Source, System, View, WorldCommands};
+use crate::{FrameError, LogCommands, LogError, LogSystem, Source, System, View, WorldCommands};
 use alloc::boxed::Box;
 use alloc::vec::Vec;
 use core::any::Any;
@@ -76,20 +76,36 @@ impl<T> Guarded<'_, T> {
     }
 }
 
-impl<S: Source, T: System<S>> System<S> for Guarded<'_, T> {
-    /// A system that panics has stopped, like one that ran out of memory: the frame is lost, and
-    /// the world is closed with what was reserved.
-    fn run(&self, view: &View<'_>, commands: &mut WorldCommands<'_, S>) -> Result<(), OutOfMemory> {
-        self.run(|| self.0.run(view, commands), Err(OutOfMemory))
+impl<S: Source, E, T: System<S, E>> System<S, Option<E>> for Guarded<'_, T> {
+    /// A system that panics has stopped, like one that returned an error, but has none: the frame
+    /// is lost, and the world is closed with what was reserved.
+    fn run(&self, view: &View<'_>, commands: &mut WorldCommands<'_, S>) -> Result<(), Option<E>> {
+        self.run(|| self.0.run(view, commands).map_err(Some), Err(None))
     }
 }
 
 /// The same for a system that fills a log.
-impl<C, S: Source, T: LogSystem<C, S>> LogSystem<C, S> for Guarded<'_, T> {
-    fn run(&self, commands: &mut LogCommands<'_, C, S>) -> Result<(), OutOfMemory> {
-        self.run(|| self.0.run(commands), Err(OutOfMemory))
+impl<C, S: Source, E, T: LogSystem<C, S, E>> LogSystem<C, S, Option<E>> for Guarded<'_, T> {
+    fn run(&self, commands: &mut LogCommands<'_, C, S>) -> Result<(), Option<E>> {
+        self.run(|| self.0.run(commands).map_err(Some), Err(None))
     }
 }
+
+/// The error of a run, from that of its guarded systems: one that panicked has none.
+macro_rules! unguarded {
+    ($of:ident, $error:ident: $($same:ident)*; $($with:ident)*) => {
+        pub(crate) fn $of<E>(error: $error<Option<E>>) -> $error<E> {
+            match error {
+                $error::Lost(error) => $error::Lost(error.flatten()),
+                $($error::$same => $error::$same,)*
+                $($error::$with(it) => $error::$with(it),)*
+            }
+        }
+    };
+}
+
+unguarded!(of_frame, FrameError: NeedsFlush Workers Systems Memory; Unapplied Stopped);
+unguarded!(of_logs, LogError: NeedsFlush Workers Systems Memory Unborn;);
 
 impl<J: Join> Join for Guarded<'_, J> {
     fn join(&self, first: &mut (dyn FnMut() + Send), second: &mut (dyn FnMut() + Send)) {

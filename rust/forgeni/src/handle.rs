@@ -5,6 +5,7 @@ use core::str::FromStr;
 
 pub use crate::handles::{Handle, ParseHandleError};
 
+/// # The placeholder
 impl Handle {
     /// A handle that is never alive, for a field that is initialised before there is an entity. No
     /// world and no allocator gives it, except one made by

@@ -21,8 +21,8 @@ pub use crate::components::handle_map::{Entry, HandleMap, InsertError, Iter, Key
 pub use crate::components::handle_map::{OccupiedEntry, VacantEntry, Values};
 pub use crate::several::{IterMut, SlotsMut};
 
-/// Ends the process, as `Vec` does, when there is no memory for a value and the caller can't return
-/// an error.
+/// Ends the process, as `Vec` does, when there isn't enough memory for a value and the caller can't
+/// return an error.
 #[cold]
 fn out_of_memory<T>() -> ! {
     handle_alloc_error(Layout::new::<(u32, T)>())
@@ -54,13 +54,56 @@ pub trait AnyMap:
     /// The type of the values.
     type Value;
 
-    /// The value of the handle, if it has one.
+    /// Returns a reference to the handle's value, if it has one.
+    ///
+    /// ```
+    /// use forgeni::{AnyMap, Handle, SparseMap};
+    ///
+    /// /// The fuel of an entity, or 0 if it has none.
+    /// fn fuel(map: &impl AnyMap<Value = u32>, of: Handle) -> u32 {
+    ///     map.get(of).copied().unwrap_or(0)
+    /// }
+    ///
+    /// let (cart, horse) = ("0v1".parse()?, "1v1".parse()?);
+    /// let fuels = SparseMap::from([(cart, 30)]);
+    /// assert_eq!((fuel(&fuels, cart), fuel(&fuels, horse)), (30, 0));
+    /// # Ok::<(), forgeni::ParseHandleError>(())
+    /// ```
     fn get(&self, handle: Handle) -> Option<&Self::Value>;
 
-    /// A mutable reference to the value of the handle, if it has one.
+    /// Returns a mutable reference to the handle's value, if it has one.
+    ///
+    /// ```
+    /// use forgeni::{AnyMap, Handle, HandleMap};
+    ///
+    /// fn refuel(map: &mut impl AnyMap<Value = u32>, of: Handle) {
+    ///     if let Some(fuel) = map.get_mut(of) {
+    ///         *fuel = 100;
+    ///     }
+    /// }
+    ///
+    /// let cart = "0v1".parse()?;
+    /// let mut fuels = HandleMap::from([(cart, 30)]);
+    /// refuel(&mut fuels, cart);
+    /// assert_eq!(fuels[cart], 100);
+    /// # Ok::<(), forgeni::ParseHandleError>(())
+    /// ```
     fn get_mut(&mut self, handle: Handle) -> Option<&mut Self::Value>;
 
-    /// Whether the handle has a value.
+    /// Returns `true` if the handle has a value.
+    ///
+    /// ```
+    /// use forgeni::{AnyMap, Handle, HandleMap, SparseMap};
+    ///
+    /// fn both(one: Handle, first: &impl AnyMap, second: &impl AnyMap) -> bool {
+    ///     first.contains(one) && second.contains(one)
+    /// }
+    ///
+    /// let cart = "0v1".parse()?;
+    /// let (masses, names) = (HandleMap::from([(cart, 900)]), SparseMap::<&str>::new());
+    /// assert!(!both(cart, &masses, &names));
+    /// # Ok::<(), forgeni::ParseHandleError>(())
+    /// ```
     fn contains(&self, handle: Handle) -> bool {
         self.get(handle).is_some()
     }
@@ -73,7 +116,7 @@ pub trait AnyMap:
     /// /// Marks them, in a map of either kind.
     /// fn mark(map: &mut impl AnyMap<Value = u32>, all: &[Handle]) {
     ///     for one in all {
-    ///         // Who can't be marked, isn't.
+    ///         // A handle that the map refuses isn't marked.
     ///         let _refused = map.insert(*one, 1);
     ///     }
     /// }
@@ -95,27 +138,76 @@ pub trait AnyMap:
         value: Self::Value,
     ) -> Result<Option<Self::Value>, HandedBack<Self::Value, InsertError>>;
 
-    /// Removes the value of the handle, and returns it if it had one.
+    /// Removes the handle's value, and returns it if there was one.
+    ///
+    /// ```
+    /// use forgeni::{AnyMap, Handle, HandleMap};
+    ///
+    /// fn take<T>(map: &mut impl AnyMap<Value = T>, of: Handle) -> Result<T, &'static str> {
+    ///     map.remove(of).ok_or("it has none")
+    /// }
+    ///
+    /// let cart = "0v1".parse()?;
+    /// let mut names = HandleMap::from([(cart, "cart")]);
+    /// assert_eq!(take(&mut names, cart), Ok("cart"));
+    /// assert!(take(&mut names, cart).is_err());
+    /// # Ok::<(), forgeni::ParseHandleError>(())
+    /// ```
     fn remove(&mut self, handle: Handle) -> Option<Self::Value>;
 
-    /// How many values there are.
+    /// Returns the number of values.
+    ///
+    /// ```
+    /// use forgeni::{AnyMap, SparseMap};
+    ///
+    /// fn line(name: &str, map: &impl AnyMap) -> String {
+    ///     format!("{name}: {}", map.len())
+    /// }
+    ///
+    /// let names = SparseMap::from([("0v1".parse()?, "cart")]);
+    /// assert_eq!(line("names", &names), "names: 1");
+    /// # Ok::<(), forgeni::ParseHandleError>(())
+    /// ```
     fn len(&self) -> usize;
 
-    /// Whether there are no values.
+    /// Returns `true` if the map has no values.
+    ///
+    /// ```
+    /// use forgeni::{AnyMap, SparseMap};
+    ///
+    /// fn is_burnt_out(fires: &impl AnyMap) -> bool {
+    ///     fires.is_empty()
+    /// }
+    ///
+    /// assert!(is_burnt_out(&SparseMap::<u32>::new()));
+    /// ```
     fn is_empty(&self) -> bool {
         self.len() == 0
     }
 
-    /// The handles and their values: in slot order for a `HandleMap`, in the order of `entries` for
-    /// a `SparseMap`.
+    /// Returns an iterator over the handles and their values: in slot order for a `HandleMap`, in
+    /// the order of `entries` for a `SparseMap`.
+    ///
+    /// ```
+    /// use forgeni::{AnyMap, HandleMap};
+    ///
+    /// fn total(map: &impl AnyMap<Value = u32>) -> u32 {
+    ///     map.iter().map(|(_, it)| *it).sum()
+    /// }
+    ///
+    /// let masses = HandleMap::from([("0v1".parse()?, 900), ("1v1".parse()?, 80)]);
+    /// assert_eq!(total(&masses), 980);
+    /// # Ok::<(), forgeni::ParseHandleError>(())
+    /// ```
     fn iter(&self) -> impl DoubleEndedIterator<Item = (Handle, &Self::Value)> + Clone;
 
     /// The handles, in slot order. Those of a `SparseMap` are collected into a list first: `None`
-    /// if there is no memory for it.
+    /// if there isn't enough memory for it.
     #[doc(hidden)]
     fn by_slot(&self) -> Option<impl BySlot>;
 
-    /// The handles and mutable references to their values, in the same order.
+    /// Returns an iterator over the handles and mutable references to their values, in the same
+    /// order.
     ///
     /// ```
     /// use forgeni::{AnyMap, SparseMap};
@@ -132,16 +224,62 @@ pub trait AnyMap:
     fn iter_mut(&mut self) -> impl DoubleEndedIterator<Item = (Handle, &mut Self::Value)>;
 
     /// Drops the values for which `keep` returns `false`.
+    ///
+    /// ```
+    /// use forgeni::{AnyMap, SparseMap};
+    ///
+    /// fn cool(map: &mut impl AnyMap<Value = u32>) {
+    ///     map.retain(|_, heat| {
+    ///         *heat -= 10;
+    ///         *heat > 0
+    ///     });
+    /// }
+    ///
+    /// let (cart, horse) = ("0v1".parse()?, "1v1".parse()?);
+    /// let mut heats = SparseMap::from([(cart, 10), (horse, 50)]);
+    /// cool(&mut heats);
+    /// assert_eq!((heats.len(), heats[horse]), (1, 40));
+    /// # Ok::<(), forgeni::ParseHandleError>(())
+    /// ```
     fn retain(&mut self, keep: impl FnMut(Handle, &mut Self::Value) -> bool);
 
     /// Drops all values. The room stays.
+    ///
+    /// ```
+    /// use forgeni::{AnyMap, HandleMap};
+    ///
+    /// /// Counts hits anew in each second.
+    /// fn begin_frame(hits: &mut impl AnyMap, frame: u32) {
+    ///     if frame % 60 == 0 {
+    ///         hits.clear();
+    ///     }
+    /// }
+    ///
+    /// let mut hits = HandleMap::from([("0v1".parse()?, 3)]);
+    /// begin_frame(&mut hits, 120);
+    /// assert!(hits.is_empty());
+    /// # Ok::<(), forgeni::ParseHandleError>(())
+    /// ```
     fn clear(&mut self);
 
-    /// A handle that has a value and is neither alive nor reserved, if there is one: the first in
-    /// the order of [`iter`](Self::iter).
+    /// Returns a handle that has a value and is neither alive nor reserved, if there is one: the
+    /// first in the order of [`iter`](Self::iter).
     ///
     /// It is for a program that refuses a save whose maps name handles that its allocator doesn't
     /// have.
+    ///
+    /// ```
+    /// use forgeni::{AnyMap, Entities, HandleMap};
+    ///
+    /// let (mut entities, mut names) = (Entities::new(), HandleMap::new());
+    /// let (cart, horse) = (entities.alloc()?, entities.alloc()?);
+    /// names.insert(cart, "cart")?;
+    /// names.insert(horse, "horse")?;
+    /// assert_eq!(names.stale(&entities), None);
+    /// entities.free(horse)?;
+    /// assert_eq!(names.stale(&entities), Some(horse));
+    /// # Ok::<(), Box<dyn std::error::Error + Send + Sync>>(())
+    /// ```
     fn stale(&self, entities: &Entities) -> Option<Handle> {
         let mut handles = self.iter().map(|(one, _)| one);
         handles.find(|one| !entities.contains(*one))
@@ -160,7 +298,7 @@ pub trait AnyMap:
     /// let (cart, horse) = (entities.alloc()?, entities.alloc()?);
     /// names.insert(cart, "cart")?;
     /// names.insert(horse, "horse")?;
-    /// // Somebody freed it, and knew nothing of names.
+    /// // It was freed elsewhere, and its name was left.
     /// entities.free(cart)?;
     /// names.sweep(&entities);
     /// assert!(names.keys().eq([horse]));
@@ -230,41 +368,10 @@ macro_rules! traits_of_a_map {
             }
         }
 
+        /// # Changing values
         impl<T> $Map<T> {
-            /// The same as [`reserve`](Self::reserve), under std's name for a call that returns an
-            /// error.
-            ///
-            /// # Errors
-            ///
-            /// Out of memory.
-            #[inline]
-            pub fn try_reserve(&mut self, additional: usize) -> Result<(), OutOfMemory> {
-                self.reserve(additional)
-            }
-
-            /// Calls `change` on each value once, in the order of [`iter`](Self::iter).
-            ///
-            /// ```
-            /// use forgeni::{Handle, HandleMap};
-            ///
-            /// let handle = |index| Handle::new(index, 1).unwrap();
-            /// let speeds: HandleMap<f32> = (0..3).map(|index| (handle(index), 0.5)).collect();
-            /// let mut places: HandleMap<f32> = (0..3).map(|index| (handle(index), 1.0)).collect();
-            /// places.for_each_mut(|one, place| *place += speeds[one]);
-            /// assert!(places.values().all(|place| *place == 1.5));
-            /// ```
-            ///
-            /// # Panics
-            ///
-            /// A panic in `change` is propagated. All values stay, with the changes that `change`
-            /// had made by then.
-            #[inline]
-            pub fn for_each_mut(&mut self, mut change: impl FnMut(Handle, &mut T)) {
-                self.iter_mut().for_each(|(one, it)| change(one, it));
-            }
-
-            /// The value of the handle. If it has none, `make` is called, and the handle gets the
-            /// value that it returns.
+            /// Returns a mutable reference to the handle's value. If the handle has none, `make` is
+            /// called first, and the handle gets the value that it returns.
             ///
             /// ```
             /// use forgeni::{Handle, HandleMap};
@@ -290,7 +397,29 @@ macro_rules! traits_of_a_map {
                 self.entry(handle).or_insert_with(make)
             }
 
-            /// Mutable references to the values, in the order of [`iter`](Self::iter).
+            /// Calls `change` on each value once, in the order of [`iter`](Self::iter).
+            ///
+            /// ```
+            /// use forgeni::{Handle, HandleMap};
+            ///
+            /// let handle = |index| Handle::new(index, 1).unwrap();
+            /// let speeds: HandleMap<f32> = (0..3).map(|index| (handle(index), 0.5)).collect();
+            /// let mut places: HandleMap<f32> = (0..3).map(|index| (handle(index), 1.0)).collect();
+            /// places.for_each_mut(|one, place| *place += speeds[one]);
+            /// assert!(places.values().all(|place| *place == 1.5));
+            /// ```
+            ///
+            /// # Panics
+            ///
+            /// A panic in `change` is propagated. All values stay, with the changes that `change`
+            /// had made by then.
+            #[inline]
+            pub fn for_each_mut(&mut self, mut change: impl FnMut(Handle, &mut T)) {
+                self.iter_mut().for_each(|(one, it)| change(one, it));
+            }
+
+            /// Returns an iterator over mutable references to the values, in the order of
+            /// [`iter`](Self::iter).
             ///
             /// ```
             /// use forgeni::{Handle, HandleMap};
@@ -302,6 +431,31 @@ macro_rules! traits_of_a_map {
             /// ```
             pub fn values_mut(&mut self) -> impl DoubleEndedIterator<Item = &mut T> {
                 self.iter_mut().map(|(_, it)| it)
+            }
+        }
+
+        /// # Room, by std's name
+        impl<T> $Map<T> {
+            /// The same as [`reserve`](Self::reserve), under std's name for a call that returns an
+            /// error.
+            ///
+            /// ```
+            /// use forgeni::{HandleMap, SparseMap};
+            ///
+            /// let mut masses: HandleMap<u32> = HandleMap::new();
+            /// let mut names: SparseMap<String> = SparseMap::new();
+            /// masses.try_reserve(100)?;
+            /// names.try_reserve(100)?;
+            /// assert!(masses.capacity() >= 100 && names.capacity() >= 100);
+            /// # Ok::<(), forgeni::OutOfMemory>(())
+            /// ```
+            ///
+            /// # Errors
+            ///
+            /// Out of memory.
+            #[inline]
+            pub fn try_reserve(&mut self, additional: usize) -> Result<(), OutOfMemory> {
+                self.reserve(additional)
             }
         }
 
@@ -435,8 +589,8 @@ fn no_value(handle: Handle) -> ! {
     panic!("{handle} has no value")
 }
 
-/// The values are moved into a list first. If there is no memory for it, the process ends, as for a
-/// `Vec`. [`into_entries`](HandleMap::into_entries) returns an error instead.
+/// The values are moved into a list first. If there isn't enough memory for it, the process ends,
+/// as for a `Vec`. [`into_entries`](HandleMap::into_entries) returns an error instead.
 impl<T> IntoIterator for HandleMap<T> {
     type Item = (Handle, T);
     type IntoIter = vec::IntoIter<(Handle, T)>;

@@ -72,13 +72,21 @@ pub struct History {
 }
 
 impl History {
-    /// A list without changes and without a limit, at tick 0. It takes no memory.
+    /// Creates a history without changes and without a limit, at tick 0. It doesn't allocate.
+    ///
+    /// ```
+    /// use forgeni::History;
+    ///
+    /// let history = History::new();
+    /// assert!(history.is_empty() && history.tick() == 0);
+    /// ```
     #[must_use]
     pub const fn new() -> Self {
         Self::with_limit(usize::MAX)
     }
 
-    /// A list that keeps at most that many changes, the latest ones. It takes no memory.
+    /// Creates a history that keeps at most that many changes, the latest ones. It doesn't
+    /// allocate.
     ///
     /// ```
     /// use forgeni::{Handle, History};
@@ -119,7 +127,16 @@ impl History {
         self.tick = self.tick.max(tick);
     }
 
-    /// The current tick.
+    /// Returns the current tick.
+    ///
+    /// ```
+    /// use forgeni::History;
+    ///
+    /// let mut history = History::new();
+    /// history.begin(7);
+    /// // What a renderer asks for in its next frame.
+    /// assert!(history.since(history.tick() + 1).is_some_and(|changes| changes.len() == 0));
+    /// ```
     #[must_use]
     pub fn tick(&self) -> u64 {
         self.tick
@@ -127,6 +144,17 @@ impl History {
 
     /// Lists births: what [`Entities::flush`](crate::Entities::flush) or
     /// [`alloc_many`](crate::Entities::alloc_many) brought to life.
+    ///
+    /// ```
+    /// use forgeni::{Entities, History};
+    ///
+    /// let (mut entities, mut history, mut born) = (Entities::new(), History::new(), Vec::new());
+    /// entities.request_many(3)?;
+    /// entities.flush(&mut born)?;
+    /// history.born(&born);
+    /// assert_eq!(history.len(), 3);
+    /// # Ok::<(), Box<dyn std::error::Error>>(())
+    /// ```
     pub fn born(&mut self, handles: &[Handle]) {
         handles.iter().for_each(|one| self.push(Change::Born(*one)));
     }
@@ -156,7 +184,7 @@ impl History {
         self.changes.push_back((self.tick, change));
     }
 
-    /// The changes of this tick and later ones, in order.
+    /// Returns an iterator over the changes of this tick and later ones, in order.
     ///
     /// Returns `None` if the list may lack some of them. Then mirror all [living
     /// entities](crate::Entities::iter) again.
@@ -219,13 +247,32 @@ impl History {
         self.lost = Some(self.tick);
     }
 
-    /// How many changes it has.
+    /// Returns the number of changes.
+    ///
+    /// ```
+    /// use forgeni::{Entities, History};
+    ///
+    /// let mut history = History::new();
+    /// history.born(&Entities::new().alloc_many(5)?);
+    /// assert_eq!(history.len(), 5);
+    /// # Ok::<(), forgeni::AllocError>(())
+    /// ```
     #[must_use]
     pub fn len(&self) -> usize {
         self.changes.len()
     }
 
-    /// Whether it has no changes.
+    /// Returns `true` if it has no changes.
+    ///
+    /// ```
+    /// use forgeni::{Entities, History};
+    ///
+    /// let mut history = History::new();
+    /// history.born(&Entities::new().alloc_many(5)?);
+    /// history.forget_before(1);
+    /// assert!(history.is_empty());
+    /// # Ok::<(), forgeni::AllocError>(())
+    /// ```
     #[must_use]
     pub fn is_empty(&self) -> bool {
         self.changes.is_empty()

@@ -23,14 +23,14 @@ pub trait JoinMaps {
     /// A handle, and its value in each of the maps.
     type Item;
 
-    /// The handles that have a value in each of the maps, with their values. The first map can be
-    /// borrowed mutably, and then its values can be changed.
+    /// Returns an iterator over the handles that have a value in each of the maps, with their
+    /// values. The first map can be borrowed mutably, and then its values can be changed.
     ///
     /// The walk goes over the first map, in its order, and looks each handle up in the others. If
     /// another map has less than half as many values, the walk goes over that map instead, in slot
-    /// order. It takes no memory, unless that map is a `SparseMap`, whose handles it lists. If
-    /// there is no memory for the list, or if the first map is a mutable `SparseMap`, the walk goes
-    /// over the first map anyway.
+    /// order. It doesn't allocate, unless that map is a `SparseMap`, whose handles it lists. If
+    /// there isn't enough memory for the list, or if the first map is a mutable `SparseMap`, the
+    /// walk goes over the first map anyway.
     ///
     /// ```
     /// use forgeni::{HandleMap, JoinMaps};
@@ -41,7 +41,7 @@ pub trait JoinMaps {
     /// places.insert(horse, 20)?;
     /// let mut speeds = HandleMap::new();
     /// speeds.insert(horse, 3)?;
-    /// // Who has a place, but no speed, stays where it is.
+    /// // An entity with a place and no speed stays where it is.
     /// for (_, place, speed) in (&mut places, &speeds).join() {
     ///     *place += speed;
     /// }
@@ -73,8 +73,17 @@ pub trait Leads {
     /// What the walk returns for a value.
     type Lent;
 
-    /// How many values a walk over this map has. A walk goes over another map only if that has less
-    /// than half as many.
+    /// Returns the number of values that a walk over this map visits. A walk goes over another map
+    /// only if that map has less than half as many.
+    ///
+    /// ```
+    /// use forgeni::map::Leads;
+    /// use forgeni::HandleMap;
+    ///
+    /// let fuels = HandleMap::from([("0v1".parse()?, 30)]);
+    /// assert_eq!(Leads::count(&&fuels), 1);
+    /// # Ok::<(), forgeni::ParseHandleError>(())
+    /// ```
     fn count(&self) -> usize;
 
     /// The values of these handles. If there are none, all values.

@@ -1,7 +1,7 @@
 //! A reserver that is lent, and how anything is lent.
 
-use crate::threads::{OtherPhase, Reserver};
-use crate::{Handle, Refused, ReserveError};
+use crate::threads::{OtherPhase, Phased, Reserver};
+use crate::{Handle, Refused, ReserveError, SharedSource};
 use alloc::vec::Vec;
 
 /// A [`Reserver`] that is lent by a [`phase`](crate::Entities::phase) or by a pool of reservers. It
@@ -28,27 +28,29 @@ use alloc::vec::Vec;
 /// assert_eq!(entities.reserved(), 40);
 /// # Ok::<(), Box<dyn std::error::Error>>(())
 /// ```
-pub struct Lent<'a> {
-    reserver: &'a mut Reserver,
+pub struct Lent<'a, S: Phased = SharedSource> {
+    reserver: &'a mut Reserver<S>,
 }
 
 /// What is lent has these calls of what it borrows, and everything that can be read from it.
 macro_rules! lends {
     (
-        $Lent:ident.$field:ident: $Of:ident;
-        $($call:ident($($name:ident: $type:ty),*) -> $returns:ty;)*
+        $Lent:ident.$field:ident: $Of:ident $([$S:ident: $Bound:path])?;
+        $($(#[$example:meta])* $call:ident($($name:ident: $type:ty),*) -> $returns:ty;)*
     ) => {
-        impl<'a> $Lent<'a> {
-            pub(crate) fn of($field: &'a mut $Of) -> Self {
+        impl<'a $(, $S: $Bound)?> $Lent<'a $(, $S)?> {
+            pub(crate) fn of($field: &'a mut $Of $(<$S>)?) -> Self {
                 Self { $field }
             }
 
             $(
-                #[doc = concat!("As [`", stringify!($Of), "::", stringify!($call), "`].")]
+                #[doc = concat!("The same as [`", stringify!($Of), "::", stringify!($call), "`].")]
+                ///
+                $(#[$example])*
                 ///
                 /// # Errors
                 ///
-                /// The same as there.
+                #[doc = concat!("Those of [`", stringify!($Of), "::", stringify!($call), "`].")]
                 #[inline]
                 pub fn $call(&mut self, $($name: $type),*) -> $returns {
                     self.$field.$call($($name),*)
@@ -57,16 +59,19 @@ macro_rules! lends {
         }
 
         /// What can be read from it.
-        impl core::ops::Deref for $Lent<'_> {
-            type Target = $Of;
+        impl $(<$S: $Bound>)? core::ops::Deref for $Lent<'_ $(, $S)?> {
+            type Target = $Of $(<$S>)?;
 
             #[inline]
-            fn deref(&self) -> &$Of {
+            fn deref(&self) -> &Self::Target {
                 self.$field
             }
         }
 
-        impl core::fmt::Debug for $Lent<'_> {
+        impl $(<$S: $Bound>)? core::fmt::Debug for $Lent<'_ $(, $S)?>
+        where
+            $Of $(<$S>)?: core::fmt::Debug,
+        {
             fn fmt(&self, out: &mut core::fmt::Formatter<'_>) -> core::fmt::Result {
                 self.$field.fmt(out)
             }
@@ -77,19 +82,48 @@ macro_rules! lends {
 pub(crate) use lends;
 
 lends! {
-    Lent.reserver: Reserver;
+    Lent.reserver: Reserver[S: Phased];
+    /// ```
+    /// use forgeni::Entities;
+    ///
+    /// let mut entities = Entities::new();
+    /// let first = entities.phase(1, |_shared, reservers| reservers[0].reserve())??;
+    /// entities.flush(&mut Vec::new())?;
+    /// assert!(entities.is_alive(first));
+    /// # Ok::<(), Box<dyn std::error::Error>>(())
+    /// ```
     reserve() -> Result<Handle, Refused>;
+    /// ```
+    /// use forgeni::Entities;
+    ///
+    /// let mut entities = Entities::new();
+    /// let wave = entities.phase(1, |_shared, reservers| reservers[0].reserve_many(10))??;
+    /// assert_eq!((wave.len(), entities.reserved()), (10, 10));
+    /// # Ok::<(), Box<dyn std::error::Error>>(())
+    /// ```
     reserve_many(n: u32) -> Result<Vec<Handle>, ReserveError>;
+    /// ```
+    /// use forgeni::Entities;
+    ///
+    /// let (mut entities, mut bullets) = (Entities::new(), Vec::with_capacity(100));
+    /// entities.phase(1, |_shared, reservers| {
+    ///     (0..10).try_for_each(|_| reservers[0].reserve_into(&mut bullets, 10))
+    /// })??;
+    /// assert_eq!(bullets.len(), 100);
+    /// # Ok::<(), Box<dyn std::error::Error>>(())
+    /// ```
     reserve_into(handles: &mut Vec<Handle>, n: u32) -> Result<(), ReserveError>;
 }
 
-impl Lent<'_> {
+impl<S: Phased> Lent<'_, S> {
     /// The same, for a shorter time.
     #[cfg(feature = "std")]
-    pub(crate) fn again(&mut self) -> Lent<'_> {
+    pub(crate) fn again(&mut self) -> Lent<'_, S> {
         Lent::of(self.reserver)
     }
+}
 
+impl Lent<'_> {
     /// The same as [`Reserver::meet`].
     ///
     /// ```
@@ -109,7 +143,7 @@ impl Lent<'_> {
     ///
     /// # Errors
     ///
-    /// The same as there.
+    /// [`OtherPhase`] if they are not of one phase. Nothing has changed then.
     #[inline]
     pub fn meet(&mut self, other: &mut Lent<'_>) -> Result<(), OtherPhase> {
         self.reserver.meet(other.reserver)

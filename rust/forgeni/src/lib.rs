@@ -13,10 +13,12 @@ extern crate std;
 
 // A page of a type has its `impl` blocks in the order in which these modules are declared.
 mod entities;
-mod handle;
 pub mod world;
 
 include!("proved/modules.rs");
+
+mod flushing;
+mod handle;
 
 pub mod handle_map;
 mod several;

@@ -30,12 +30,13 @@
 //! ```
 
 use crate::lent::Lent;
+use crate::threads::Phased;
 use crate::{Handle, Refused};
 use core::fmt;
 
 pub use crate::logs::{BeginError, Entry, Log, Reserves, SyncPoint};
 
-impl Reserves for Lent<'_> {
+impl<S: Phased> Reserves for Lent<'_, S> {
     #[inline]
     fn reserve_one(&mut self) -> Result<Handle, Refused> {
         self.reserve()

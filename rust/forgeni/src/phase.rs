@@ -2,14 +2,14 @@
 
 use crate::lending::Lending;
 use crate::lent::Lent;
-use crate::threads::{Reserver, ShareError, Shared};
+use crate::threads::{Phase, Phased, Reserver, ShareError};
 use crate::{Entities, HandedBack};
 use alloc::vec::Vec;
 
 /// # Phases
 impl Entities {
     /// Shares the allocator among `callers` reservers, 1 to 1,024, for as long as `run` runs. The
-    /// allocator is back when it returns, as after [`Shared::close`]: `run` can't lose a reserver,
+    /// allocator is back when it returns, as after [`Phase::close`]: `run` can't lose a reserver,
     /// since each is only [`Lent`] to it.
     ///
     /// ```
@@ -64,7 +64,7 @@ impl Entities {
     pub fn phase<T>(
         &mut self,
         callers: usize,
-        run: impl FnOnce(&Shared, &mut [Lent<'_>]) -> T,
+        run: impl FnOnce(&Phase, &mut [Lent<'_>]) -> T,
     ) -> Result<T, ShareError> {
         let mut lending = Lending::begin(
             self,
@@ -80,8 +80,8 @@ impl Entities {
     }
 }
 
-/// The allocator, after a phase that had all its reservers.
-pub(crate) fn closed((shared, reservers): (Shared, Vec<Reserver>)) -> Entities {
-    let closed = shared.close(reservers);
+/// What a phase ended with that had all its reservers.
+pub(crate) fn closed<S: Phased>((phase, reservers): (Phase<S>, Vec<Reserver<S>>)) -> S::Closed {
+    let closed = phase.close(reservers);
     closed.expect("all reservers of the phase are here, and nobody else has one")
 }

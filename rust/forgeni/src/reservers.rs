@@ -2,7 +2,7 @@
 
 use crate::lent::Lent;
 use crate::shown::shows;
-use crate::threads::Reserver;
+use crate::threads::{Phased, Reserver};
 use crate::waiting::Waiting;
 use crate::{HandedBack, OutOfMemory};
 use alloc::vec::Vec;
@@ -33,7 +33,7 @@ use std::thread_local;
 /// # Ok::<(), Box<dyn std::error::Error + Send + Sync>>(())
 /// ```
 ///
-/// In a [`phase`](crate::Entities::phase), it is made of the reservers that are lent:
+/// In a [`phase`](crate::Entities::phase), it can be made of the reservers that are lent:
 ///
 /// ```
 /// use forgeni::{Entities, Reservers};
@@ -76,7 +76,8 @@ pub struct Reservers<R = Reserver> {
 #[repr(align(128))]
 struct Place<R>(Mutex<R>);
 
-/// What a [`Reservers`] can hold: a [`Reserver`], a [`Lent`], or a `&mut` to one of them.
+/// What a [`Reservers`] can hold: a [`Reserver`], a [`Lent`], or a `&mut` to one of them, of any
+/// [source](Phased).
 ///
 /// No other type can implement it.
 ///
@@ -98,36 +99,45 @@ pub trait Lends: sealed::Lends {}
 impl<R: sealed::Lends> Lends for R {}
 
 mod sealed {
-    use super::{Lent, Reserver};
+    use super::{Lent, Phased, Reserver};
 
     pub trait Lends {
-        fn lend(&mut self) -> Lent<'_>;
+        type Source: Phased;
+
+        fn lend(&mut self) -> Lent<'_, Self::Source>;
     }
 
-    impl Lends for Reserver {
+    impl<S: Phased> Lends for Reserver<S> {
+        type Source = S;
+
         #[inline]
-        fn lend(&mut self) -> Lent<'_> {
+        fn lend(&mut self) -> Lent<'_, S> {
             Lent::of(self)
         }
     }
 
-    impl Lends for Lent<'_> {
+    impl<S: Phased> Lends for Lent<'_, S> {
+        type Source = S;
+
         #[inline]
-        fn lend(&mut self) -> Lent<'_> {
+        fn lend(&mut self) -> Lent<'_, S> {
             self.again()
         }
     }
 
     impl<R: Lends> Lends for &mut R {
+        type Source = R::Source;
+
         #[inline]
-        fn lend(&mut self) -> Lent<'_> {
+        fn lend(&mut self) -> Lent<'_, R::Source> {
             (**self).lend()
         }
     }
 }
 
 impl<R: Lends> Reservers<R> {
-    /// A pool of these reservers, which may belong to several phases. There must be at least one.
+    /// Creates a pool of these reservers, which may belong to several phases. There must be at
+    /// least one.
     ///
     /// ```
     /// use forgeni::{Entities, Reservers};
@@ -142,7 +152,7 @@ impl<R: Lends> Reservers<R> {
     ///
     /// # Errors
     ///
-    /// [`HandedBack`] has all of them, if there is no memory for the list of them.
+    /// [`HandedBack`] has all of them, if there isn't enough memory for the list of them.
     pub fn new<I>(reservers: I) -> Result<Self, HandedBack<I::IntoIter, OutOfMemory>>
     where
         I: IntoIterator<Item = R>,
@@ -184,7 +194,7 @@ impl<R: Lends> Reservers<R> {
     ///
     /// If the pool has no reservers. A panic in `run` is propagated, and the reserver is as good as
     /// before.
-    pub fn with<T>(&self, run: impl FnOnce(&mut Lent<'_>) -> T) -> T {
+    pub fn with<T>(&self, run: impl FnOnce(&mut Lent<'_, R::Source>) -> T) -> T {
         let mut loan = self.free().unwrap_or_else(|| self.awaited());
         run(&mut loan.reserver.lend())
     }
@@ -198,7 +208,7 @@ impl<R: Lends> Reservers<R> {
     /// let (_shared, reservers) = Entities::new().share(1)?;
     /// let pool = Reservers::new(reservers)?;
     /// pool.with(|_only| {
-    ///     // Nobody waits for what is lent already.
+    ///     // The only reserver is lent, and this doesn't wait for it.
     ///     assert!(pool.try_with(|reserver| reserver.reserve()).is_none());
     /// });
     /// assert!(pool.try_with(|reserver| reserver.reserve()).is_some());
@@ -208,7 +218,7 @@ impl<R: Lends> Reservers<R> {
     /// # Panics
     ///
     /// A panic in `run` is propagated, and the reserver is as good as before.
-    pub fn try_with<T>(&self, run: impl FnOnce(&mut Lent<'_>) -> T) -> Option<T> {
+    pub fn try_with<T>(&self, run: impl FnOnce(&mut Lent<'_, R::Source>) -> T) -> Option<T> {
         let mut loan = self.free()?;
         Some(run(&mut loan.reserver.lend()))
     }
@@ -253,7 +263,7 @@ impl Drop for Wakes<'_> {
 }
 
 impl<R> Reservers<R> {
-    /// How many reservers it has.
+    /// Returns the number of reservers.
     ///
     /// ```
     /// use forgeni::{Entities, Reservers};
@@ -269,7 +279,7 @@ impl<R> Reservers<R> {
         self.places.len()
     }
 
-    /// The reservers, in the order in which they were handed in. Each is moved once.
+    /// Returns the reservers, in the order in which they were handed in. Each is moved once.
     ///
     /// If memory runs out for the list, the process ends, as with `Vec`.
     ///

@@ -37,7 +37,7 @@ use core::slice;
 pub struct SlotsMut<'a, T>(&'a mut [Slot<T>], u32);
 
 impl<'a, T> SlotsMut<'a, T> {
-    /// Which slots of the map these are.
+    /// Returns the range of slots that this part covers.
     ///
     /// ```
     /// use forgeni::{Entities, HandleMap};
@@ -53,8 +53,8 @@ impl<'a, T> SlotsMut<'a, T> {
         self.1..self.1 + self.0.len() as u32
     }
 
-    /// Splits the part at this slot of the map: the slots below it, and the others. So a part can
-    /// be split again, for more threads.
+    /// Splits the part at this slot of the map, into the slots below it and the others, so that
+    /// more threads can have a part.
     ///
     /// ```
     /// use forgeni::{Entities, HandleMap};
@@ -78,7 +78,8 @@ impl<'a, T> SlotsMut<'a, T> {
         (Self(below, first), Self(above, middle))
     }
 
-    /// A mutable reference to the handle's value, if it has one and its slot is here.
+    /// Returns a mutable reference to the handle's value, if it has one and its slot is in this
+    /// part.
     ///
     /// ```
     /// use forgeni::HandleMap;
@@ -99,7 +100,7 @@ impl<'a, T> SlotsMut<'a, T> {
         (slot.generation() == handle.generation()).then(|| slot.value_mut())
     }
 
-    /// The handles and mutable references to their values, in slot order.
+    /// Returns an iterator over the handles and mutable references to their values, in slot order.
     ///
     /// ```
     /// use forgeni::{Entities, HandleMap};
@@ -125,8 +126,8 @@ impl<'a, T> IntoIterator for SlotsMut<'a, T> {
     }
 }
 
-/// The handles of a [`HandleMap`], or of some of its slots, and mutable references to their values,
-/// in slot order.
+/// An iterator over the handles of a [`HandleMap`], or of some of its slots, and mutable references
+/// to their values, in slot order.
 ///
 /// It is created by [`HandleMap::iter_mut`].
 ///
@@ -199,9 +200,10 @@ fn within(slots: Range<u32>, count: usize) -> Range<usize> {
     end.min(slots.start as usize)..end
 }
 
+/// # Several values at once
 impl<T> HandleMap<T> {
-    /// The handles and mutable references to their values, in slot order. It takes time for each
-    /// slot.
+    /// Returns an iterator over the handles and mutable references to their values, in slot order.
+    /// It takes time for each slot.
     ///
     /// ```
     /// use forgeni::{Handle, HandleMap};
@@ -218,13 +220,52 @@ impl<T> HandleMap<T> {
         self.all_slots().into_iter()
     }
 
-    /// All slots, whose values can be changed.
-    pub(crate) fn all_slots(&mut self) -> SlotsMut<'_, T> {
-        SlotsMut(&mut self.slots, 0)
+    /// Returns mutable references to the values of several handles, or `None` if one of them has no
+    /// value or is passed twice.
+    ///
+    /// ```
+    /// use forgeni::{Handle, HandleMap};
+    /// use std::mem;
+    ///
+    /// let [ball, cart] = [Handle::new(0, 1).unwrap(), Handle::new(7, 1).unwrap()];
+    /// let mut places: HandleMap<u32> = [(ball, 1), (cart, 2)].into_iter().collect();
+    /// let [one, other] = places.get_disjoint_mut([cart, ball]).unwrap();
+    /// mem::swap(one, other);
+    /// assert_eq!((places[ball], places[cart]), (2, 1));
+    /// assert!(places.get_disjoint_mut([ball, ball]).is_none());
+    /// ```
+    pub fn get_disjoint_mut<const N: usize>(&mut self, all: [Handle; N]) -> Option<[&mut T; N]> {
+        let known = all.iter().all(|one| self.contains(*one));
+        let slots = known.then_some(all)?.map(|one| one.index() as usize);
+        let slots = self.slots.get_disjoint_mut(slots).ok()?;
+        Some(slots.map(Slot::value_mut))
     }
 
-    /// The handles of some slots and their values, in slot order. It takes time for each of these
-    /// slots.
+    /// Moves all values out, in slot order. Those that the iterator doesn't reach are dropped with
+    /// it. The map is empty afterwards, and keeps its room.
+    ///
+    /// ```
+    /// use forgeni::{Handle, HandleMap};
+    ///
+    /// let one = Handle::new(3, 1).unwrap();
+    /// let mut hits: HandleMap<u32> = [(one, 5)].into_iter().collect();
+    /// assert!(hits.drain().eq([(one, 5)]));
+    /// assert!(hits.is_empty() && hits.capacity() >= 4);
+    /// ```
+    pub fn drain(&mut self) -> impl DoubleEndedIterator<Item = (Handle, T)> {
+        self.len = 0;
+        let slots = self.slots.drain(..).enumerate();
+        slots.filter_map(|(at, slot)| {
+            let handle = slot.handle(at as u32)?;
+            Some((handle, slot.into_value(handle.generation())?))
+        })
+    }
+}
+
+/// # Part of the slots
+impl<T> HandleMap<T> {
+    /// Returns an iterator over the handles of some slots and their values, in slot order. It takes
+    /// time for each of these slots.
     ///
     /// ```
     /// use forgeni::{Handle, HandleMap};
@@ -244,7 +285,8 @@ impl<T> HandleMap<T> {
         slots.filter_map(move |it| seen(first, it))
     }
 
-    /// The handles of some slots and mutable references to their values, in slot order.
+    /// Returns an iterator over the handles of some slots and mutable references to their values,
+    /// in slot order.
     ///
     /// ```
     /// use forgeni::{Entities, HandleMap};
@@ -262,28 +304,6 @@ impl<T> HandleMap<T> {
         let slots = within(slots, self.slots.len());
         let first = slots.start as u32;
         SlotsMut(&mut self.slots[slots], first).into_iter()
-    }
-
-    /// Makes room for all slots of another map, so that [`try_clone_from`](Self::try_clone_from)
-    /// takes no memory for them.
-    ///
-    /// ```
-    /// use forgeni::HandleMap;
-    ///
-    /// let now: HandleMap<u32> = [("99v1".parse()?, 5)].into_iter().collect();
-    /// let mut snapshot = HandleMap::new();
-    /// // Before the match. In a frame a snapshot takes no memory then.
-    /// snapshot.reserve_for(&now)?;
-    /// snapshot.try_clone_from(&now)?;
-    /// assert_eq!(snapshot.len(), 1);
-    /// # Ok::<(), Box<dyn std::error::Error>>(())
-    /// ```
-    ///
-    /// # Errors
-    ///
-    /// Out of memory.
-    pub fn reserve_for(&mut self, source: &Self) -> Result<(), OutOfMemory> {
-        self.reserve(source.slots.len().saturating_sub(self.slots.len()))
     }
 
     /// Splits the map into the slots below this one and the others, so that two threads can write
@@ -306,46 +326,37 @@ impl<T> HandleMap<T> {
     pub fn split_at_mut(&mut self, slot: u32) -> (SlotsMut<'_, T>, SlotsMut<'_, T>) {
         self.all_slots().split_at_mut(slot)
     }
+}
 
-    /// Moves all values out, in slot order. Those that the iterator doesn't reach are dropped with
-    /// it. The map is empty afterwards, and keeps its room.
+/// # Room for a snapshot
+impl<T> HandleMap<T> {
+    /// Makes room for all slots of another map, so that [`try_clone_from`](Self::try_clone_from)
+    /// doesn't allocate for them.
     ///
     /// ```
-    /// use forgeni::{Handle, HandleMap};
+    /// use forgeni::HandleMap;
     ///
-    /// let one = Handle::new(3, 1).unwrap();
-    /// let mut hits: HandleMap<u32> = [(one, 5)].into_iter().collect();
-    /// assert!(hits.drain().eq([(one, 5)]));
-    /// assert!(hits.is_empty() && hits.capacity() >= 4);
+    /// let now: HandleMap<u32> = [("99v1".parse()?, 5)].into_iter().collect();
+    /// let mut snapshot = HandleMap::new();
+    /// // Before the match, so that snapshots within a frame don't allocate.
+    /// snapshot.reserve_for(&now)?;
+    /// snapshot.try_clone_from(&now)?;
+    /// assert_eq!(snapshot.len(), 1);
+    /// # Ok::<(), Box<dyn std::error::Error>>(())
     /// ```
-    pub fn drain(&mut self) -> impl DoubleEndedIterator<Item = (Handle, T)> {
-        self.len = 0;
-        let slots = self.slots.drain(..).enumerate();
-        slots.filter_map(|(at, slot)| {
-            let handle = slot.handle(at as u32)?;
-            Some((handle, slot.into_value(handle.generation())?))
-        })
+    ///
+    /// # Errors
+    ///
+    /// Out of memory.
+    pub fn reserve_for(&mut self, source: &Self) -> Result<(), OutOfMemory> {
+        self.reserve(source.slots.len().saturating_sub(self.slots.len()))
     }
+}
 
-    /// Mutable references to the values of several handles. Returns `None` if one of them has no
-    /// value, or is passed twice.
-    ///
-    /// ```
-    /// use forgeni::{Handle, HandleMap};
-    /// use std::mem;
-    ///
-    /// let [ball, cart] = [Handle::new(0, 1).unwrap(), Handle::new(7, 1).unwrap()];
-    /// let mut places: HandleMap<u32> = [(ball, 1), (cart, 2)].into_iter().collect();
-    /// let [one, other] = places.get_disjoint_mut([cart, ball]).unwrap();
-    /// mem::swap(one, other);
-    /// assert_eq!((places[ball], places[cart]), (2, 1));
-    /// assert!(places.get_disjoint_mut([ball, ball]).is_none());
-    /// ```
-    pub fn get_disjoint_mut<const N: usize>(&mut self, all: [Handle; N]) -> Option<[&mut T; N]> {
-        let known = all.iter().all(|one| self.contains(*one));
-        let slots = known.then_some(all)?.map(|one| one.index() as usize);
-        let slots = self.slots.get_disjoint_mut(slots).ok()?;
-        Some(slots.map(Slot::value_mut))
+impl<T> HandleMap<T> {
+    /// All slots, whose values can be changed.
+    pub(crate) fn all_slots(&mut self) -> SlotsMut<'_, T> {
+        SlotsMut(&mut self.slots, 0)
     }
 }
 
@@ -403,9 +414,10 @@ impl<'a, T> IntoIterator for &'a mut HandleMap<T> {
     }
 }
 
+/// # Making one with room
 impl<T> SparseMap<T> {
-    /// A map without values and without a limit, with room for that many values. For 0 values it
-    /// takes no memory.
+    /// Creates a map without values and without a limit, with room for that many values. For 0
+    /// values it doesn't allocate.
     ///
     /// ```
     /// use forgeni::SparseMap;
@@ -424,60 +436,11 @@ impl<T> SparseMap<T> {
         map.entries.try_reserve_exact(values)?;
         Ok(map)
     }
+}
 
-    /// Makes room for that many more values. A value in a slot that has none yet also takes four
-    /// bytes for each slot up to its own.
-    ///
-    /// ```
-    /// use forgeni::SparseMap;
-    ///
-    /// let mut bosses = SparseMap::from([("7v1".parse()?, "dragon")]);
-    /// bosses.reserve(10)?;
-    /// assert!(bosses.capacity() >= 11);
-    /// # Ok::<(), Box<dyn std::error::Error>>(())
-    /// ```
-    ///
-    /// # Errors
-    ///
-    /// Out of memory.
-    pub fn reserve(&mut self, additional: usize) -> Result<(), OutOfMemory> {
-        Ok(self.entries.try_reserve(additional)?)
-    }
-
-    /// Makes room for all that another map has, so that [`try_clone_from`](Self::try_clone_from)
-    /// takes no memory for it.
-    ///
-    /// ```
-    /// use forgeni::SparseMap;
-    ///
-    /// let now = SparseMap::from([("99v1".parse()?, 5)]);
-    /// let mut snapshot = SparseMap::new();
-    /// // Before the match. In a frame a snapshot takes no memory then.
-    /// snapshot.reserve_for(&now)?;
-    /// snapshot.try_clone_from(&now)?;
-    /// assert!(snapshot.slots() >= 100);
-    /// # Ok::<(), Box<dyn std::error::Error>>(())
-    /// ```
-    ///
-    /// # Errors
-    ///
-    /// Out of memory.
-    pub fn reserve_for(&mut self, source: &Self) -> Result<(), OutOfMemory> {
-        self.reserve(source.len().saturating_sub(self.len()))?;
-        let slots = source.positions.len().saturating_sub(self.positions.len());
-        Ok(self.positions.try_reserve(slots)?)
-    }
-
-    /// The handles and their values, in slot order. It takes time for each slot.
-    pub(crate) fn iter_by_slot(&self) -> impl Iterator<Item = (Handle, &T)> {
-        let slots = self.positions.iter().zip(0..);
-        slots.filter_map(|(at, slot)| {
-            let (one, it) = self.entries.get(*at as usize)?;
-            (one.index() == slot).then_some((*one, it))
-        })
-    }
-
-    /// The handles and mutable references to their values, in the order of
+/// # Several values at once
+impl<T> SparseMap<T> {
+    /// Returns an iterator over the handles and mutable references to their values, in the order of
     /// [`entries`](Self::entries).
     ///
     /// ```
@@ -490,6 +453,29 @@ impl<T> SparseMap<T> {
     /// ```
     pub fn iter_mut(&mut self) -> impl DoubleEndedIterator<Item = (Handle, &mut T)> {
         self.entries.iter_mut().map(|(one, it)| (*one, it))
+    }
+
+    /// Returns mutable references to the values of several handles, or `None` if one of them has no
+    /// value or is passed twice.
+    ///
+    /// ```
+    /// use forgeni::{Handle, SparseMap};
+    ///
+    /// let (knight, dragon): (Handle, Handle) = ("0v1".parse()?, "7v1".parse()?);
+    /// let mut shields = SparseMap::from([(knight, 50), (dragon, 900)]);
+    /// // The blow hurts both.
+    /// if let Some([one, other]) = shields.get_disjoint_mut([knight, dragon]) {
+    ///     (*one, *other) = (*one - 10, *other - 5);
+    /// }
+    /// assert_eq!((shields[knight], shields[dragon]), (40, 895));
+    /// # Ok::<(), Box<dyn std::error::Error>>(())
+    /// ```
+    pub fn get_disjoint_mut<const N: usize>(&mut self, all: [Handle; N]) -> Option<[&mut T; N]> {
+        let known = all.iter().all(|one| self.contains(*one));
+        let slots = known.then_some(all)?.map(|one| one.index() as usize);
+        let entries = slots.map(|slot| self.positions[slot] as usize);
+        let entries = self.entries.get_disjoint_mut(entries).ok()?;
+        Some(entries.map(|(_, it)| it))
     }
 
     /// Moves all values out, in the order of [`entries`](Self::entries). Those that the iterator
@@ -512,28 +498,62 @@ impl<T> SparseMap<T> {
     pub fn drain(&mut self) -> impl DoubleEndedIterator<Item = (Handle, T)> {
         self.entries.drain(..)
     }
+}
 
-    /// Mutable references to the values of several handles. Returns `None` if one of them has no
-    /// value, or is passed twice.
+/// # Room
+impl<T> SparseMap<T> {
+    /// Makes room for that many more values. A value in a slot that has none yet also takes four
+    /// bytes for each slot up to its own.
     ///
     /// ```
-    /// use forgeni::{Handle, SparseMap};
+    /// use forgeni::SparseMap;
     ///
-    /// let (knight, dragon): (Handle, Handle) = ("0v1".parse()?, "7v1".parse()?);
-    /// let mut shields = SparseMap::from([(knight, 50), (dragon, 900)]);
-    /// // Both lose something by the blow.
-    /// if let Some([one, other]) = shields.get_disjoint_mut([knight, dragon]) {
-    ///     (*one, *other) = (*one - 10, *other - 5);
-    /// }
-    /// assert_eq!((shields[knight], shields[dragon]), (40, 895));
+    /// let mut bosses = SparseMap::from([("7v1".parse()?, "dragon")]);
+    /// bosses.reserve(10)?;
+    /// assert!(bosses.capacity() >= 11);
     /// # Ok::<(), Box<dyn std::error::Error>>(())
     /// ```
-    pub fn get_disjoint_mut<const N: usize>(&mut self, all: [Handle; N]) -> Option<[&mut T; N]> {
-        let known = all.iter().all(|one| self.contains(*one));
-        let slots = known.then_some(all)?.map(|one| one.index() as usize);
-        let entries = slots.map(|slot| self.positions[slot] as usize);
-        let entries = self.entries.get_disjoint_mut(entries).ok()?;
-        Some(entries.map(|(_, it)| it))
+    ///
+    /// # Errors
+    ///
+    /// Out of memory.
+    pub fn reserve(&mut self, additional: usize) -> Result<(), OutOfMemory> {
+        Ok(self.entries.try_reserve(additional)?)
+    }
+
+    /// Makes room for all that another map has, so that [`try_clone_from`](Self::try_clone_from)
+    /// doesn't allocate for it.
+    ///
+    /// ```
+    /// use forgeni::SparseMap;
+    ///
+    /// let now = SparseMap::from([("99v1".parse()?, 5)]);
+    /// let mut snapshot = SparseMap::new();
+    /// // Before the match, so that snapshots within a frame don't allocate.
+    /// snapshot.reserve_for(&now)?;
+    /// snapshot.try_clone_from(&now)?;
+    /// assert!(snapshot.slots() >= 100);
+    /// # Ok::<(), Box<dyn std::error::Error>>(())
+    /// ```
+    ///
+    /// # Errors
+    ///
+    /// Out of memory.
+    pub fn reserve_for(&mut self, source: &Self) -> Result<(), OutOfMemory> {
+        self.reserve(source.len().saturating_sub(self.len()))?;
+        let slots = source.positions.len().saturating_sub(self.positions.len());
+        Ok(self.positions.try_reserve(slots)?)
+    }
+}
+
+impl<T> SparseMap<T> {
+    /// The handles and their values, in slot order. It takes time for each slot.
+    pub(crate) fn iter_by_slot(&self) -> impl Iterator<Item = (Handle, &T)> {
+        let slots = self.positions.iter().zip(0..);
+        slots.filter_map(|(at, slot)| {
+            let (one, it) = self.entries.get(*at as usize)?;
+            (one.index() == slot).then_some((*one, it))
+        })
     }
 }
 

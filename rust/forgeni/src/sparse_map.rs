@@ -9,8 +9,10 @@ use alloc::vec::{self, Vec};
 pub use crate::components::sparse_map::{Entry, OccupiedEntry, VacantEntry};
 pub use crate::components::sparse_map::{Iter, SparseMap};
 
+/// # Keys and values
 impl<T> SparseMap<T> {
-    /// The handles that have a value, in the order of [`entries`](Self::entries).
+    /// Returns an iterator over the handles that have a value, in the order of
+    /// [`entries`](Self::entries).
     ///
     /// ```
     /// use forgeni::{Handle, SparseMap};
@@ -25,7 +27,7 @@ impl<T> SparseMap<T> {
         self.entries().iter().map(|(one, _)| *one)
     }
 
-    /// The values, in the order of [`entries`](Self::entries).
+    /// Returns an iterator over the values, in the order of [`entries`](Self::entries).
     ///
     /// ```
     /// use forgeni::{Handle, SparseMap};
@@ -37,15 +39,6 @@ impl<T> SparseMap<T> {
     #[inline]
     pub fn values(&self) -> impl DoubleEndedIterator<Item = &T> + ExactSizeIterator + Clone {
         self.entries().iter().map(|(_, it)| it)
-    }
-
-    /// The handles that have a value, in slot order, if there is memory for a list of them.
-    pub(crate) fn sorted(&self) -> Option<vec::IntoIter<Handle>> {
-        let mut handles = Vec::new();
-        handles.try_reserve_exact(self.len()).ok()?;
-        handles.extend(self.keys());
-        handles.sort_unstable();
-        Some(handles.into_iter())
     }
 
     /// Calls `keep` on each value once, from the last entry to the first, and drops the values for
@@ -84,7 +77,18 @@ impl<T> SparseMap<T> {
     }
 }
 
-/// It takes no memory.
+impl<T> SparseMap<T> {
+    /// The handles that have a value, in slot order, if there is memory for a list of them.
+    pub(crate) fn sorted(&self) -> Option<vec::IntoIter<Handle>> {
+        let mut handles = Vec::new();
+        handles.try_reserve_exact(self.len()).ok()?;
+        handles.extend(self.keys());
+        handles.sort_unstable();
+        Some(handles.into_iter())
+    }
+}
+
+/// It doesn't allocate.
 impl<T> IntoIterator for SparseMap<T> {
     type Item = (Handle, T);
     type IntoIter = vec::IntoIter<(Handle, T)>;

@@ -10,13 +10,16 @@ use std::sync::{Mutex, PoisonError};
 
 /// Where the handles of a system come from: [`SharedSource`] or [`Blocks`]. As a bound, it lets one
 /// function or system serve both: see [`LogCommands`].
+///
 pub use crate::allocator::Source;
 pub use crate::commands::{IssuedCommands, SystemCommands};
 /// The source for systems of [`run_frame`](crate::run_frame) and [`run_logs`](crate::run_logs).
+///
 pub use crate::reserving::SharedSource;
 pub use crate::running::{LogSystem, System};
 
 pub use crate::allocator::Reserved;
+pub use crate::in_blocks::OverflowReserver;
 pub use crate::reserving::SharedReserver;
 
 /// Issues the commands of one system of a world, with handles from the source `S`.
@@ -107,10 +110,8 @@ pub type BlockCommands<'a, C> = LogCommands<'a, C, Blocks>;
 /// ```
 pub type CommandsInBlocks<'a> = WorldCommands<'a, Blocks>;
 
-/// What a system returns.
-type Ran = Result<(), OutOfMemory>;
-
-/// Returns the closure, as a [`System`]. The call lets Rust infer the types of its parameters:
+/// Returns the closure, as a [`System`]. The call lets Rust infer the types of its parameters, and
+/// its error is [`OutOfMemory`]:
 ///
 /// ```
 /// use forgeni::{run_frame, system, World};
@@ -124,7 +125,7 @@ type Ran = Result<(), OutOfMemory>;
 /// assert_eq!(world.len(), 1);
 /// # Ok::<(), forgeni::FrameError>(())
 /// ```
-pub fn system<F: Fn(&View<'_>, &mut SystemCommands<'_>) -> Ran>(run: F) -> F {
+pub fn system<F: Fn(&View<'_>, &mut SystemCommands<'_>) -> Result<(), OutOfMemory>>(run: F) -> F {
     run
 }
 
@@ -132,15 +133,15 @@ pub fn system<F: Fn(&View<'_>, &mut SystemCommands<'_>) -> Ran>(run: F) -> F {
 /// systems behind pointers, so that several types go into one list.
 macro_rules! systems {
     ([$($of:tt)*] $kind:path, $($with:ident: $type:ty),*) => {
-        impl<$($of)*, F: Fn($($type),*) -> Ran> $kind for F {
-            fn run(&self, $($with: $type),*) -> Ran {
+        impl<$($of)*, F: Fn($($type),*) -> Result<(), E>> $kind for F {
+            fn run(&self, $($with: $type),*) -> Result<(), E> {
                 self($($with),*)
             }
         }
 
         #[cfg(feature = "std")]
-        impl<$($of)*, F: FnMut($($type),*) -> Ran> $kind for Mutex<F> {
-            fn run(&self, $($with: $type),*) -> Ran {
+        impl<$($of)*, F: FnMut($($type),*) -> Result<(), E>> $kind for Mutex<F> {
+            fn run(&self, $($with: $type),*) -> Result<(), E> {
                 self.lock().unwrap_or_else(PoisonError::into_inner)($($with),*)
             }
         }
@@ -158,13 +159,13 @@ macro_rules! systems {
     };
     ($kind:path, $with:tt $run:tt $([$($of:tt)*] $pointer:ty;)*) => {$(
         impl<$($of)*> $kind for $pointer {
-            fn run $with -> Ran $run
+            fn run $with -> Result<(), E> $run
         }
     )*};
 }
 
-systems!([S: Source] System<S>, view: &View<'_>, commands: &mut WorldCommands<'_, S>);
-systems!([C, S: Source] LogSystem<C, S>, commands: &mut LogCommands<'_, C, S>);
+systems!([S: Source, E] System<S, E>, view: &View<'_>, commands: &mut WorldCommands<'_, S>);
+systems!([C, S: Source, E] LogSystem<C, S, E>, commands: &mut LogCommands<'_, C, S>);
 
 shows! {
     SystemCommands<'_>:;

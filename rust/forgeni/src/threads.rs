@@ -1,8 +1,32 @@
-//! Threads that reserve at once: an allocator is [shared](crate::Entities::share) among
-//! [`Reserver`]s, each of which can go to a thread of its own, and [`Shared::close`] gives the
+//! Threads that reserve at the same time: an allocator is [shared](crate::Entities::share) among
+//! [`Reserver`]s, each of which can go to a thread of its own, and [`Phase::close`] gives the
 //! allocator back. [`Entities::phase`](crate::Entities::phase) lends them to a closure, and a pool
 //! of [`Reservers`] serves threads that come and go.
+//!
+//! A phase can also be opened [in blocks](crate::blocks), where the handles of a caller don't
+//! depend on the other threads:
+//! [`Entities::share_behind_blocks`](crate::Entities::share_behind_blocks) opens a
+//! `Phase<Overflow>`, which has the same calls.
+//!
+//! ```
+//! use forgeni::Entities;
+//!
+//! let mut entities = Entities::new();
+//! let (phase, mut reservers) = entities.share(3)?;
+//! std::thread::scope(|scope| {
+//!     for mine in &mut reservers {
+//!         scope.spawn(|| mine.reserve_many(10));
+//!     }
+//! });
+//! entities = phase.close(reservers)?;
+//!
+//! // What was reserved comes to life.
+//! entities.flush(&mut Vec::new())?;
+//! assert_eq!(entities.len(), 30);
+//! # Ok::<(), Box<dyn std::error::Error + Send + Sync>>(())
+//! ```
 
+use crate::in_blocks::Overflow;
 use crate::numbers::next_number;
 use crate::phase::closed;
 use crate::phases::share;
@@ -11,17 +35,18 @@ use crate::shown::shows;
 use crate::{Entities, HandedBack};
 use alloc::vec::Vec;
 
+pub use crate::allocator::Phased;
 pub use crate::lent::Lent;
-pub use crate::phases::{CloseError, OtherPhase, Reserver, ShareError, Shared};
+pub use crate::phases::{CloseError, OtherPhase, Phase, Reserver, ShareError};
 #[cfg(feature = "std")]
 pub use crate::reservers::{Lends, Reservers};
 
 /// # Threads
 impl Entities {
     /// Shares the allocator among `callers` reservers, 1 to 1,024, each of which can go to a thread
-    /// of its own. [`Shared::close`] gives the allocator back, with all that they reserved.
+    /// of its own. [`Phase::close`] gives the allocator back, with all that they reserved.
     ///
-    /// While it is shared, the allocator is inside the [`Shared`], and nothing else can use it.
+    /// While it is shared, the allocator is inside the [`Phase`], and nothing else can use it.
     ///
     /// ```
     /// use forgeni::Entities;
@@ -52,12 +77,12 @@ impl Entities {
     ///
     /// # Aborts
     ///
-    /// Rust's `Arc` ends the process if memory runs out. So the call first allocates as much
-    /// memory, and the process ends only if another thread takes it in between.
+    /// Rust's `Arc` ends the process if memory runs out. So the call first allocates and frees as
+    /// much memory, and the process ends only if another thread takes it in between.
     pub fn share(
         self,
         callers: usize,
-    ) -> Result<(Shared, Vec<Reserver>), HandedBack<Entities, ShareError>> {
+    ) -> Result<(Phase, Vec<Reserver>), HandedBack<Entities, ShareError>> {
         let opening = share(self, callers)?;
         opening
             .numbered(next_number())
@@ -66,7 +91,8 @@ impl Entities {
 }
 
 shows! {
-    Shared: count returned;
+    Phase[S: Phased]: count returned;
     SharedSource: count len;
-    Reserver: number quota_left;
+    Reserver(SharedSource): number quota_left;
+    Reserver(Overflow): size used;
 }

@@ -34,11 +34,10 @@
 //!
 //! # What is proved
 //!
-//! The checker is sound and complete. If no call fails and the end doesn't either, the trace
-//! agrees: a sequential allocator could have given these answers, in an order that keeps each
-//! caller's own. If a call differs, no trace that begins like this agrees, in whatever order its
-//! reservations came. The contracts of [`Checker::call`] and [`Checker::finish`] state this, call
-//! by call.
+//! The checker is sound and complete. If neither a call nor the end fails, the trace agrees: a
+//! sequential allocator could have given these answers, in an order that keeps each caller's own.
+//! If a call differs, no trace that begins like this agrees, in whatever order its reservations
+//! came. The contracts of [`Checker::call`] and [`Checker::finish`] state this, call by call.
 
 use crate::errors::OutOfMemory;
 use crate::handle::Handle;

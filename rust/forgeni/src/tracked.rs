@@ -35,7 +35,14 @@ pub struct Tracked<T> {
 }
 
 impl<T> Tracked<T> {
-    /// A value that is new at this tick.
+    /// Creates a value that is new at this tick.
+    ///
+    /// ```
+    /// use forgeni::Tracked;
+    ///
+    /// let place = Tracked::new(3, 7);
+    /// assert_eq!((*place, place.tick()), (3, 7));
+    /// ```
     #[inline]
     pub const fn new(value: T, tick: u64) -> Self {
         let tick = tick.to_ne_bytes();
@@ -97,21 +104,45 @@ impl<T> Tracked<T> {
         &mut self.value
     }
 
-    /// The tick at which the value was made, or last lent mutably.
+    /// Returns the tick at which the value was made, or last lent mutably.
+    ///
+    /// ```
+    /// use forgeni::Tracked;
+    ///
+    /// let mut place = Tracked::new(3, 0);
+    /// *place.get_mut(5) += 1;
+    /// // To read it changes no tick.
+    /// assert_eq!((*place, place.tick()), (4, 5));
+    /// ```
     #[inline]
     #[must_use]
     pub fn tick(&self) -> u64 {
         u64::from_ne_bytes(self.tick)
     }
 
-    /// Whether that was at this tick or later.
+    /// Returns `true` if the value was made, or last lent mutably, at this tick or later.
+    ///
+    /// ```
+    /// use forgeni::Tracked;
+    ///
+    /// let mut place = Tracked::new(3, 0);
+    /// place.get_mut(5);
+    /// assert!(place.is_changed_since(5) && !place.is_changed_since(6));
+    /// ```
     #[inline]
     #[must_use]
     pub fn is_changed_since(&self, tick: u64) -> bool {
         self.tick() >= tick
     }
 
-    /// The value.
+    /// Returns the value.
+    ///
+    /// ```
+    /// use forgeni::Tracked;
+    ///
+    /// let name = Tracked::new(String::from("Ada"), 0);
+    /// assert_eq!(name.into_inner(), "Ada");
+    /// ```
     #[inline]
     pub fn into_inner(self) -> T {
         self.value
@@ -137,9 +168,11 @@ impl<T> Deref for Tracked<T> {
 
 macro_rules! lists_changes {
     ($Map:ident) => {
+        /// # Changes
         impl<T> $Map<Tracked<T>> {
-            /// The handles and their values, in the order of [`iter`](Self::iter), for each value
-            /// that was made or lent mutably at this tick or later. It takes time for each value.
+            /// Returns an iterator over the handles and their values, in the order of
+            /// [`iter`](Self::iter), for each value that was made or lent mutably at this tick or
+            /// later. It takes time for each value.
             ///
             /// ```
             /// use forgeni::{Handle, HandleMap, Tracked};

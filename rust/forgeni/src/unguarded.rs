@@ -1,6 +1,17 @@
 //! Without the standard library, nothing catches a panic, so systems run as they are.
 
+use crate::{FrameError, LogError};
 use core::convert::Infallible;
+
+/// The error of a frame, as it is.
+pub(crate) fn of_frame<E>(error: FrameError<E>) -> FrameError<E> {
+    error
+}
+
+/// The error of a run of logs, as it is.
+pub(crate) fn of_logs<E>(error: LogError<E>) -> LogError<E> {
+    error
+}
 
 /// Calls `run` with the `Join` and the systems.
 pub(crate) fn guarded<J, S, T, E>(

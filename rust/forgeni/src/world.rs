@@ -20,7 +20,7 @@ pub use crate::worlds::View;
 
 /// # Making one
 impl World {
-    /// A world without entities, with the greatest limits. It takes no memory.
+    /// Creates a world without entities, with the greatest limits. It doesn't allocate.
     ///
     /// ```
     /// use forgeni::World;
@@ -33,7 +33,7 @@ impl World {
         Self::with_limits(Limits::GREATEST)
     }
 
-    /// A world without entities, with these limits. It takes no memory.
+    /// Creates a world without entities, with these limits. It doesn't allocate.
     ///
     /// ```
     /// use forgeni::{AllocError, Limits, World};

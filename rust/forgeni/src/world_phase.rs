@@ -94,9 +94,66 @@ pub struct LentCommands<'a> {
 
 lends! {
     LentCommands.commands: Commands;
+    /// ```
+    /// use forgeni::{ComponentId, World};
+    ///
+    /// const AGE: ComponentId = ComponentId(0);
+    ///
+    /// let mut world = World::new();
+    /// let (oak, queues) = world.phase(1, |_open, systems| systems[0].spawn(&[(AGE, 80)]))?;
+    /// world.apply(queues)?;
+    /// assert_eq!(world.get(oak?, AGE), Some(80));
+    /// # Ok::<(), Box<dyn std::error::Error>>(())
+    /// ```
     spawn(components: &[(ComponentId, i64)]) -> Result<Handle, ReserveError>;
+    /// ```
+    /// use forgeni::World;
+    ///
+    /// let mut world = World::new();
+    /// let (sparks, queues) = world.phase(1, |_open, systems| systems[0].spawn_many(10, &[]))?;
+    /// world.apply(queues)?;
+    /// assert_eq!((sparks?.len(), world.len()), (10, 10));
+    /// # Ok::<(), Box<dyn std::error::Error>>(())
+    /// ```
     spawn_many(n: u32, components: &[(ComponentId, i64)]) -> Result<Vec<Handle>, ReserveError>;
+    /// ```
+    /// use forgeni::{ComponentId, World};
+    ///
+    /// const AGE: ComponentId = ComponentId(0);
+    ///
+    /// let mut world = World::new();
+    /// let oak = world.spawn(&[(AGE, 80)])?;
+    /// let (done, queues) = world.phase(1, |_open, systems| systems[0].insert(oak, &[(AGE, 81)]))?;
+    /// done?;
+    /// world.apply(queues)?;
+    /// assert_eq!(world.get(oak, AGE), Some(81));
+    /// # Ok::<(), Box<dyn std::error::Error>>(())
+    /// ```
     insert(handle: Handle, components: &[(ComponentId, i64)]) -> Result<(), OutOfMemory>;
+    /// ```
+    /// use forgeni::{ComponentId, World};
+    ///
+    /// const LIT: ComponentId = ComponentId(0);
+    ///
+    /// let mut world = World::new();
+    /// let lamp = world.spawn(&[(LIT, 1)])?;
+    /// let (done, queues) = world.phase(1, |_open, systems| systems[0].remove(lamp, LIT))?;
+    /// done?;
+    /// world.apply(queues)?;
+    /// assert_eq!(world.get(lamp, LIT), None);
+    /// # Ok::<(), Box<dyn std::error::Error>>(())
+    /// ```
     remove(handle: Handle, id: ComponentId) -> Result<(), OutOfMemory>;
+    /// ```
+    /// use forgeni::World;
+    ///
+    /// let mut world = World::new();
+    /// let oak = world.spawn(&[])?;
+    /// let (done, queues) = world.phase(1, |_open, systems| systems[0].despawn(oak))?;
+    /// done?;
+    /// world.apply(queues)?;
+    /// assert!(world.is_empty());
+    /// # Ok::<(), Box<dyn std::error::Error>>(())
+    /// ```
     despawn(handle: Handle) -> Result<(), OutOfMemory>;
 }

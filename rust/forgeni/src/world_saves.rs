@@ -11,9 +11,9 @@ use alloc::vec::Vec;
 
 /// # Snapshots
 impl World {
-    /// Another world in the same state: the same entities are alive, with the same births and
-    /// components, the same handles are reserved, and the same calls return the same results. From
-    /// then on the two are independent.
+    /// Returns another world in the same state: the same entities are alive, with the same births
+    /// and components, the same handles are reserved, and the same calls return the same results.
+    /// From then on the two are independent.
     ///
     /// Neither accepts queues from the other's phases: [`SyncError::OtherWorld`].
     ///
@@ -37,7 +37,7 @@ impl World {
         clone_world(self, next_number())
     }
 
-    /// Takes over the state of another world, as [`try_clone`](Self::try_clone) copies it. What
+    /// Copies the state of another world into this one, like [`try_clone`](Self::try_clone). What
     /// this one had before is gone, and the queues of its earlier phases are refused.
     ///
     /// It uses the room that this one has, and never gives it back. So a world that another one is
@@ -61,8 +61,8 @@ impl World {
     ///
     /// # Errors
     ///
-    /// [`OutOfMemory`], and then nothing has changed. It never happens if no entity of the source
-    /// was ever alive.
+    /// [`OutOfMemory`]. Nothing has changed then. It isn't returned if no entity of the source was
+    /// ever alive.
     pub fn try_clone_from(&mut self, source: &Self) -> Result<(), OutOfMemory> {
         clone_world_from(self, source, next_number())
     }
@@ -70,14 +70,14 @@ impl World {
 
 /// # Saves
 impl World {
-    /// The world whose image is all of these bytes.
+    /// Reads the world whose image is exactly these bytes.
     ///
     /// The bytes may come from anywhere. An image that [`write_image`](Self::write_image) wrote is
     /// read as the same world, which gives no handle that was given before. It refuses the queues
-    /// of phases that were opened before: [`SyncError::OtherWorld`]. Bytes that are the image of no
-    /// world are refused. The call takes at most eight bytes of memory for each byte, plus 16 KiB.
-    /// It takes none before it has compared the number of slots with the length of the allocator's
-    /// part.
+    /// of phases that were opened before: [`SyncError::OtherWorld`]. Bytes that aren't the image of
+    /// a world are refused. The call takes at most eight bytes of memory for each byte, plus 16
+    /// KiB. It takes none before it has compared the number of slots with the length of the
+    /// allocator's part.
     ///
     /// A forged image can make the next [`flush`](Self::flush) take all memory, since it can say
     /// that each of 2^32 - 1 slots is reserved. For untrusted bytes, use
@@ -104,8 +104,8 @@ impl World {
         read_world(bytes, next_number())
     }
 
-    /// The world whose image is these bytes, if it has at most `most` slots after its next
-    /// [`flush`](Self::flush).
+    /// Reads the world whose image is exactly these bytes, if it has at most `most` slots after its
+    /// next [`flush`](Self::flush).
     ///
     /// The image of a world can say that 4,294,967,295 handles are reserved. `read_image` reads it,
     /// and the next flush brings them to life. So this is the call for untrusted bytes: it takes no
@@ -168,8 +168,8 @@ impl World {
     ///
     /// # Aborts
     ///
-    /// Rust's `Arc` ends the process if memory runs out. So as much memory is allocated and freed
-    /// first, and the process ends only if another thread takes it in between.
+    /// Rust's `Arc` ends the process if memory runs out. So the call first allocates and frees as
+    /// much memory, and the process ends only if another thread takes it in between.
     pub fn open(
         self,
         count: usize,
@@ -181,8 +181,8 @@ impl World {
     }
 
     /// Opens the world in blocks of these sizes: each caller gets a reserver of its own block, so
-    /// its handles depend on no other caller, and on no thread. A block is smaller where the world
-    /// has no more handles. [`WorldInBlocks::close`] gives the world back.
+    /// its handles don't depend on other callers or on threads. A block is smaller if the world has
+    /// no more handles. [`WorldInBlocks::close`] gives the world back.
     ///
     /// Callers can be systems: with the feature `std`, `run_frame_in_blocks` runs them, and
     /// `fill_in_blocks` runs them and says how much of its block each used.

@@ -7,6 +7,8 @@ mod common;
 mod worlds;
 
 #[cfg(feature = "std")]
+mod behind_blocks;
+#[cfg(feature = "std")]
 mod block_frames;
 mod blocks;
 mod clones;
@@ -32,6 +34,8 @@ mod limits;
 mod log_systems;
 mod logs;
 mod model;
+#[cfg(feature = "std")]
+mod own_errors;
 mod panics;
 mod phases;
 mod recording;

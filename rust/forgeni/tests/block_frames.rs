@@ -192,7 +192,7 @@ fn digests(workers: usize) -> Vec<u64> {
                             Err(refused) => refused.or_memory()?,
                         }
                     }
-                    Ok(())
+                    Ok::<(), OutOfMemory>(())
                 }
             };
             let systems: Vec<_> = (0..SYSTEMS).map(system).collect();
@@ -259,7 +259,8 @@ fn after_a_system_stops_or_panics_all_blocks_count_as_used() {
                 Ok(ran) => {
                     let unrun = ran.expect_err("a system stopped");
                     let (reservers, error) = unrun.into_parts();
-                    assert_eq!((error, reservers.len()), (RunError::Lost, 0));
+                    let lost = RunError::Lost(Some(OutOfMemory));
+                    assert_eq!((error, reservers.len()), (lost, 0));
                 }
                 Err(panic) => assert_eq!(panic.downcast_ref(), Some(&"the system")),
             }
@@ -333,7 +334,7 @@ fn a_block_that_is_used_up_refuses_and_the_system_goes_on() {
             commands.spawn(),
             Err(ReserveError::Space { wanted: 1, left: 0 })
         );
-        Ok(())
+        Ok::<(), OutOfMemory>(())
     };
     let (blocks, reservers) = opened(&[0]);
     assert!(run_in_blocks(&StdThreads, &blocks, reservers, &[full], 1).is_ok());
@@ -764,7 +765,8 @@ fn after_a_system_of_a_world_stops_or_panics_the_world_is_there() {
         else {
             panic!("a system stopped")
         };
-        assert_eq!((error, reservers.len()), (RunError::Lost, 0));
+        let lost = RunError::Lost(Some(OutOfMemory));
+        assert_eq!((error, reservers.len()), (lost, 0));
         assert_eq!(world.view().by_birth().expect("memory").len(), 2);
         expect_all_born(world.close_lost(reservers).expect("memory"), &blocks);
 

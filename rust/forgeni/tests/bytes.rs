@@ -265,15 +265,16 @@ fn traces() {
 #[cfg(feature = "std")]
 mod threads {
     use super::*;
-    use forgeni::{run_frame, Reservers, SystemCommands, View};
+    use forgeni::{run_frame, OutOfMemory, Reservers, SystemCommands, View};
 
-    /// Of each system: what guards it, its place, its queue, and a list that grows by each.
+    /// Of each system: what guards it, its place, its queue with its error, and a list that grows
+    /// by each.
     #[test]
     fn frames() {
-        let system = |_: &View<'_>, _: &mut SystemCommands<'_>| Ok(());
+        let system = |_: &View<'_>, _: &mut SystemCommands<'_>| Ok::<(), OutOfMemory>(());
         for count in [1 << 8, 1 << 11] {
             let (mut world, systems) = (World::new(), vec![system; count]);
-            let most = (24 + 2 * 32 + 40) * count + 1_024;
+            let most = (24 + 2 * (32 + 8) + 40) * count + 1_024;
             let (_, kept) =
                 held(|| at_most(most, || run_frame(&mut world, &systems, 1).expect("memory")));
             assert_eq!(kept, 0);

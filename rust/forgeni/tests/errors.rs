@@ -3,9 +3,9 @@
 use forgeni::{
     Absent, AllocError, CloseError, CommandQueue, Commands, ComponentId, Entities, Fault,
     FreeError, Freed, GoOnError, HandedBack, Handle, HandleMap, ImageFault, InsertError, Lent,
-    Limits, OpenWorld, OtherPhase, OutOfMemory, ParseHandleError, Queues, Refused, Report,
-    ReserveError, Reserver, ShareError, Shared, State, Stop, Stopped, Storage, StorageError,
-    SyncError, View, World,
+    Limits, OpenWorld, OtherPhase, OutOfMemory, ParseHandleError, Phase, Queues, Refused, Report,
+    ReserveError, Reserver, ShareError, State, Stop, Stopped, Storage, StorageError, SyncError,
+    View, World,
 };
 use std::error::Error;
 
@@ -35,7 +35,7 @@ fn each_error_travels() {
     travels::<ReserveError>();
     travels::<SyncError>();
     travels::<Stop>();
-    travels::<HandedBack<(Shared, Vec<Reserver>), CloseError>>();
+    travels::<HandedBack<(Phase, Vec<Reserver>), CloseError>>();
     travels::<HandedBack<(OpenWorld, Vec<CommandQueue>), CloseError>>();
     travels::<HandedBack<Entities, ShareError>>();
     travels::<HandedBack<World, ShareError>>();
@@ -49,7 +49,7 @@ fn each_error_travels() {
 #[test]
 fn each_type_is_send_and_sync() {
     shared_by_threads::<(Handle, Limits, State, Freed, ComponentId)>();
-    shared_by_threads::<(Entities, Shared, Reserver, Lent<'_>)>();
+    shared_by_threads::<(Entities, Phase, Reserver, Lent<'_>)>();
     shared_by_threads::<(World, OpenWorld, Commands, CommandQueue, Queues)>();
     shared_by_threads::<(Storage, Report, Fault, Stopped)>();
     shared_by_threads::<HandleMap<String>>();

@@ -326,7 +326,7 @@ fn workers_overlap() {
         let together = Barrier::new(workers);
         let system = |_: &View<'_>, _: &mut SystemCommands<'_>| {
             together.wait();
-            Ok(())
+            Ok::<(), OutOfMemory>(())
         };
         let systems = vec![system; 3 * workers];
         run_frame(&mut World::new(), &systems, workers).expect("memory");
@@ -340,7 +340,7 @@ fn each_system_runs_once() {
         move |_: &View<'_>, _: &mut SystemCommands<'_>| {
             let count: &AtomicUsize = count;
             count.fetch_add(1, Ordering::Relaxed);
-            Ok(())
+            Ok::<(), OutOfMemory>(())
         }
     };
     let systems: Vec<_> = runs.iter().map(system).collect();
@@ -360,7 +360,10 @@ fn systems_that_lack_memory() {
         Err(OutOfMemory)
     }
     let lost = |ran: Result<Report, FrameError>| {
-        assert!(matches!(ran, Err(FrameError::Lost)), "{ran:?}");
+        assert!(
+            matches!(ran, Err(FrameError::Lost(Some(OutOfMemory)))),
+            "{ran:?}"
+        );
     };
     let mut world = World::new();
     lost(run_frame(&mut world, &[lacks], 1));
@@ -430,7 +433,7 @@ fn what_a_view_tells() {
         let lives = [late, bare, early, gone, spawned].map(|one| view.contains(one));
         assert_eq!(lives, [true, true, true, false, false]);
         assert_eq!(view.phase(), 0);
-        Ok(())
+        Ok::<(), OutOfMemory>(())
     };
     run_frame(&mut world, &[system], 1).expect("memory");
     assert_eq!(world.get(late, HP), Some(2));
@@ -438,7 +441,7 @@ fn what_a_view_tells() {
 
 #[test]
 fn what_a_frame_wants() {
-    let nothing = |_: &View<'_>, _: &mut SystemCommands<'_>| Ok(());
+    let nothing = |_: &View<'_>, _: &mut SystemCommands<'_>| Ok::<(), OutOfMemory>(());
     let mut world = World::new();
     for workers in [0, 65, usize::MAX] {
         let refused = run_frame(&mut world, &[nothing], workers).expect_err("refused");

@@ -57,7 +57,7 @@ impl<T: Value> Model<T> {
         Ok(self.0.insert(one, value))
     }
 
-    /// All that it has, by rising slot.
+    /// All that it has, in slot order.
     fn all(&self) -> Vec<(Handle, T)> {
         let mut all: Vec<_> = self.0.clone().into_iter().collect();
         all.sort_by_key(|(one, _)| *one);

@@ -446,7 +446,7 @@ fn any_call(lives: &mut Lives, numbers: &mut Numbers) -> Result<(), &'static str
             })
         }
         2 => ended(|| run_frame_on(&joiner, world, &systems, workers)).map(|ran| {
-            assert!(matches!(ran, Ok(_) | Err(FrameError::Lost)));
+            assert!(matches!(ran, Ok(_) | Err(FrameError::Lost(_))));
         }),
         3 => ended(|| {
             let loud = Loud(closure);

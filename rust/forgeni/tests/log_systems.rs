@@ -48,7 +48,7 @@ fn numbered(all: &[Does]) -> Vec<Numbered> {
         .collect()
 }
 
-/// What the sync point hands on: how many spawns and how many commands of each system there are.
+/// What the sync point passes on: how many spawns and how many commands of each system there are.
 fn told(entities: &mut Entities, mut logs: Vec<Log<(Handle, usize)>>) -> Vec<(usize, bool)> {
     let mut all = vec![];
     let mut sync = SyncPoint::begin(entities, &mut logs, &mut vec![]).expect("reserved");
@@ -89,7 +89,7 @@ fn logs_are_in_the_order_of_the_systems() {
 fn each_refused_spawn_has_an_entry() {
     for workers in WORKERS {
         let mut entities = small(7, 9);
-        let system = |commands: &mut LogCommands<'_, ()>| {
+        let system = |commands: &mut LogCommands<'_, ()>| -> Result<(), OutOfMemory> {
             for _ in 0..3 {
                 if let Err(refused) = commands.spawn() {
                     refused.or_memory()?;
@@ -148,7 +148,11 @@ fn a_sync_point_that_does_not_begin() {
         (vec![Does::Spawn(1); 2], 0, LogError::Workers),
         (vec![Does::Spawn(1); 2], 65, LogError::Workers),
         (vec![Does::Spawn(1); 65_537], 1, LogError::Systems),
-        (vec![Does::Spawn(2), Does::Stop], 1, LogError::Lost),
+        (
+            vec![Does::Spawn(2), Does::Stop],
+            1,
+            LogError::Lost(Some(OutOfMemory)),
+        ),
         (vec![Does::Spawn(1)], 1, LogError::NeedsFlush),
     ] {
         let systems = numbered(&systems);
@@ -182,7 +186,7 @@ fn systems_run_side_by_side() {
             .spawn()
             .map_or_else(|refused| refused.or_memory(), |_| Ok(()))?;
         both.wait();
-        Ok(())
+        Ok::<(), OutOfMemory>(())
     };
     let logs = run_logs(&mut entities, &[system; 2], 2).expect("memory");
     assert_eq!((logs.len(), flushed(&mut entities).len()), (2, 2));
@@ -256,7 +260,7 @@ fn a_system_that_stops() {
         let mut entities = Entities::new();
         let systems = numbered(&[Does::Spawn(2), Does::Stop, Does::Spawn(2)]);
         let lost = run_logs(&mut entities, &systems, workers).expect_err("it stopped");
-        assert_eq!(lost, LogError::Lost);
+        assert_eq!(lost, LogError::Lost(Some(OutOfMemory)));
         let born = flushed(&mut entities).len();
         // A worker that stopped leaves the third system to another one.
         assert!(born == 5 || (workers < 3 && born == 3), "{workers}: {born}");

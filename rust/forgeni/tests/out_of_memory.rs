@@ -1435,7 +1435,7 @@ fn a_sync_point_of_systems() {
                 .or_else(|refused| refused.or_memory().map(|()| handle(7, 7)))?;
             commands.push(number)?;
         }
-        Ok(())
+        Ok::<(), OutOfMemory>(())
     };
     each_in_turn(|refusal| {
         let mut entities = three();
@@ -1451,7 +1451,7 @@ fn a_sync_point_of_systems() {
         let (mut logs, error) = unbegun.into_parts();
         match error {
             LogError::Memory => assert_eq!(told(&entities), before),
-            LogError::Lost => assert_eq!(entities.len(), 2),
+            LogError::Lost(_) => assert_eq!(entities.len(), 2),
             error => {
                 assert_eq!((error, logs.len()), (LogError::Unborn, 2));
                 let sync = SyncPoint::begin(&mut entities, &mut logs, &mut born);
@@ -1961,7 +1961,7 @@ mod frames {
                     let again = run_frame(&mut world, &SYSTEMS, 1);
                     again.expect("memory").faults
                 }
-                Err(FrameError::Lost) => {
+                Err(FrameError::Lost(_)) => {
                     lost += 1;
                     expect_lost(world);
                     return refused;
@@ -2024,7 +2024,7 @@ mod frames {
                 Ok(Err(Unframed::Unrun {
                     world,
                     reservers,
-                    error: RunError::Lost,
+                    error: RunError::Lost(_),
                 })) => {
                     let mut world = world.close_lost(reservers).expect("memory");
                     assert_eq!(all(&world), all(&two()));
@@ -2110,7 +2110,7 @@ mod frames {
                     let refused = refused.into_inner();
                     match ran {
                         Ok(report) => assert_eq!((report.born.len(), refused), (4, 0)),
-                        Err(FrameError::Lost) => expect_lost(world),
+                        Err(FrameError::Lost(_)) => expect_lost(world),
                         Err(other) => panic!("{other}"),
                     }
                     refused

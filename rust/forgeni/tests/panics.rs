@@ -155,7 +155,10 @@ mod frames {
 
             let systems = [Does::Spawn(2), Does::Memory];
             let refused = run_frame(&mut world, &systems, workers).expect_err("memory");
-            assert!(matches!(refused, FrameError::Lost), "{refused}");
+            assert!(
+                matches!(refused, FrameError::Lost(Some(OutOfMemory))),
+                "{refused}"
+            );
             world.flush().expect("memory");
             assert_eq!(world.len(), 4);
         }
@@ -186,7 +189,7 @@ mod frames {
     #[test]
     fn a_panic_whose_value_panics() {
         let mut world = one();
-        let system = |_: &View<'_>, commands: &mut SystemCommands<'_>| {
+        let system = |_: &View<'_>, commands: &mut SystemCommands<'_>| -> Result<(), OutOfMemory> {
             commands.spawn_with(&[]).expect("a handle");
             panic_any(Loud)
         };

@@ -2,9 +2,9 @@
 //! shared.
 
 use crate::common::{flushed, handle, small};
-use forgeni::{Entities, Handle, ReserveError, Reserver, Shared};
+use forgeni::{Entities, Handle, Phase, ReserveError, Reserver};
 
-fn shared(entities: Entities, callers: usize) -> (Shared, Vec<Reserver>) {
+fn shared(entities: Entities, callers: usize) -> (Phase, Vec<Reserver>) {
     entities.share(callers).expect("shared")
 }
 

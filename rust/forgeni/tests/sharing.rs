@@ -2,8 +2,8 @@
 
 use crate::common::{flushed, handle, small};
 use forgeni::{
-    AllocError, CloseError, Entities, OtherPhase, Refused, ReserveError, Reserver, ShareError,
-    Shared,
+    AllocError, CloseError, Entities, OtherPhase, Phase, Refused, ReserveError, Reserver,
+    ShareError,
 };
 use std::sync::Mutex;
 
@@ -19,7 +19,7 @@ fn with_two_waiting() -> Entities {
     entities
 }
 
-fn share(entities: Entities, callers: usize) -> (Shared, Vec<Reserver>) {
+fn share(entities: Entities, callers: usize) -> (Phase, Vec<Reserver>) {
     entities.share(callers).expect("shared")
 }
 
@@ -358,10 +358,7 @@ fn phases_without_end() {
 #[test]
 fn what_they_print() {
     let (shared, reservers) = share(small(3, 1), 1);
-    assert_eq!(
-        format!("{shared:?}"),
-        "Shared { count: 1, returned: 0, .. }"
-    );
+    assert_eq!(format!("{shared:?}"), "Phase { count: 1, returned: 0, .. }");
     let text = "Reserver { number: 0, quota_left: 1099511627776, .. }";
     assert_eq!(format!("{:?}", reservers[0]), text);
     assert_eq!(

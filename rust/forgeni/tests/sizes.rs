@@ -505,7 +505,7 @@ mod frames {
                     .spawn_with(&[(HP, 0)])
                     .map_or_else(|why| why.or_memory(), |_| Ok(()))?;
             }
-            Ok(())
+            Ok::<(), OutOfMemory>(())
         };
         let age = |view: &View<'_>, commands: &mut SystemCommands<'_>| {
             let all = view.by_birth()?;

@@ -10,7 +10,7 @@ use std::hash::{DefaultHasher, Hash, Hasher};
 use std::panic::{catch_unwind, resume_unwind, AssertUnwindSafe};
 use std::rc::Rc;
 
-/// All that a map has, by rising slot.
+/// All that a map has, in slot order.
 fn sorted<T: Clone>(map: &SparseMap<T>) -> Vec<(Handle, T)> {
     let all: BTreeMap<Handle, T> = map.iter().map(|(one, it)| (one, it.clone())).collect();
     assert_eq!(all.len(), map.len());

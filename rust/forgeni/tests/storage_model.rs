@@ -216,7 +216,7 @@ fn births_by_falling_slot() {
     assert!(Storage::new().reserve_slots(usize::MAX).is_err());
 }
 
-/// A bundle has the last value of each component, by rising number.
+/// A bundle has the last value of each component, in ascending order of number.
 #[test]
 fn bundles() {
     seeds(2_000, |seed| {

@@ -208,10 +208,7 @@ fn values_of_an_allocator() {
     reservers[1].reserve_many(3).expect("handles");
     let text = "Reserver { number: 1, quota_left: 1099511627773, .. }";
     debugs([
-        (
-            &shared as &dyn Debug,
-            "Shared { count: 2, returned: 0, .. }",
-        ),
+        (&shared as &dyn Debug, "Phase { count: 2, returned: 0, .. }"),
         (&reservers[1], text),
     ]);
     let phase = Entities::new().phase(2, |_, lent| {
@@ -394,14 +391,16 @@ mod frames {
             let queues = systems.into_iter().map(Commands::finish).collect();
             open.close(queues).expect("closed")
         };
+        type Failed = FrameError<&'static str>;
         displays([
-            (&FrameError::NeedsFlush as &dyn Display, NEEDS_FLUSH),
-            (&FrameError::Workers, "a frame has 1 to 64 workers"),
-            (&FrameError::Systems, "a frame has at most 65,536 systems"),
-            (&FrameError::Memory, "out of memory before any system ran"),
-            (&FrameError::Lost, "out of memory while the systems ran"),
+            (&Failed::NeedsFlush as &dyn Display, NEEDS_FLUSH),
+            (&Failed::Workers, "a frame has 1 to 64 workers"),
+            (&Failed::Systems, "a frame has at most 65,536 systems"),
+            (&Failed::Memory, "out of memory before any system ran"),
+            (&Failed::Lost(None), "out of memory while the systems ran"),
+            (&Failed::Lost(Some("no road")), "a system stopped: no road"),
             (
-                &FrameError::Unapplied(queues),
+                &Failed::Unapplied(queues),
                 "the sync point stopped: out of memory",
             ),
         ]);
@@ -412,7 +411,7 @@ mod frames {
                 (&view as &dyn Debug, "View { phase: 1, .. }"),
                 (commands, "SystemCommands { .. }"),
             ]);
-            Ok(())
+            Ok::<(), OutOfMemory>(())
         };
         run_frame(&mut world, &[system], 1).expect("memory");
     }

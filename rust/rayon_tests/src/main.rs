@@ -2,7 +2,8 @@
 //! `rayon::scope` and by a loop: medians in microseconds. And how long a walk over a map takes on
 //! one thread and on four.
 
-use forgeni::{run_frame, run_frame_on, Handle, HandleMap, Rayon, SystemCommands, View, World};
+use forgeni::{run_frame, run_frame_on, Handle, HandleMap, OutOfMemory, Rayon, SystemCommands};
+use forgeni::{View, World};
 use rayon::iter::{IntoParallelRefMutIterator, ParallelIterator};
 use rayon::ThreadPoolBuilder;
 use std::hint::black_box;
@@ -35,7 +36,7 @@ fn walk(threads: usize) {
 }
 
 fn main() {
-    let system = |_: &View<'_>, _: &mut SystemCommands<'_>| {
+    let system = |_: &View<'_>, _: &mut SystemCommands<'_>| -> Result<(), OutOfMemory> {
         black_box(());
         Ok(())
     };

@@ -65,7 +65,7 @@ fn systems_overlap() {
     let together = Barrier::new(4);
     let system = |_: &View<'_>, _: &mut SystemCommands<'_>| {
         together.wait();
-        Ok(())
+        Ok::<(), OutOfMemory>(())
     };
     let mut world = World::new();
     for _ in 0..100 {
@@ -79,7 +79,7 @@ fn rayon_takes_the_pool_of_the_caller() {
     let seen = |_: &View<'_>, _: &mut SystemCommands<'_>| {
         assert_eq!(rayon::current_num_threads(), 3);
         assert!(rayon::current_thread_index().is_some());
-        Ok(())
+        Ok::<(), OutOfMemory>(())
     };
     pool(3).install(|| run_frame_on(&Rayon, &mut World::new(), &[seen; 9], 3).expect("memory"));
 }
@@ -90,7 +90,7 @@ fn a_system_panics() {
     let panics = |_: &View<'_>, commands: &mut SystemCommands<'_>| {
         commands.spawn_with(&[]).expect("a handle");
         assert!(rayon::current_num_threads() == 0, "the system");
-        Ok(())
+        Ok::<(), OutOfMemory>(())
     };
     let mut world = World::new();
     let ran = std::panic::AssertUnwindSafe(|| {

@@ -20,7 +20,7 @@ pub struct Listed {
     pub calls: String,
 }
 
-impl System<Shared> for Listed {
+impl System<Shared, Memory> for Listed {
     ghost may_issue = { λ system view queue. Unit {0} };
 
     #[tactic(auto, using(ent_queue::proofs::Extending::extends_nothing, ent_queue::proofs::Extending::extends_then))]

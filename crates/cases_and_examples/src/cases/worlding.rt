@@ -244,7 +244,7 @@ impl Worlding {
         match run_frame(rt, self.alloc, world, &self.systems, workers, &NoGate) {
             Ok(FrameReport { queues, sync }) => self.keep(queues, Ok(sync)),
             Err(FrameFault::Memory) => Ended::Refused("out of memory"),
-            Err(FrameFault::Lost) => Ended::Lost,
+            Err(FrameFault::Lost(_)) => Ended::Lost,
             Err(FrameFault::Sync { fault, queues }) => self.keep(queues, Err(fault)),
         }
     }

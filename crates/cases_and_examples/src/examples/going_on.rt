@@ -3,6 +3,7 @@ ghost use Rattle.std.specs.Prelude.{◌≡◌, ◌≤◌, ◌^◌, length, IfOk}
 ghost use Rattle.ent_runner.specs.Frame.{Ends};
 
 use anyhow::Result;
+use ent_handle::Memory;
 use ent_runner::{FrameFault, FrameReport, NoGate, System, run_frame};
 use ent_shared::Shared;
 use ent_world::{SyncFault, SyncReport, World};
@@ -13,7 +14,7 @@ use std::thread::Threads;
 pub fn frame_that_goes_on<R, S>(rt: &R, world: &mut World, systems: &[S]) -> Result<FrameReport>
 where
     R: Threads + Sync + AllocGlobal,
-    S: System<Shared> + Sync,
+    S: System<Shared, Memory> + Sync,
     requires flushed { world.old.allocator.asked ≡ 0 }
     requires systems { length systems.now ≤ 2 ^ 16 }
     ensures ends { IfOk result (λ report. Ends S.may_issue systems.now 2 world.old

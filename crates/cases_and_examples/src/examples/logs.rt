@@ -40,7 +40,7 @@ impl Sow<'_> {
     }
 }
 
-impl LogSystem<Met, Shared> for Sow<'_> {
+impl LogSystem<Met, Shared, Memory> for Sow<'_> {
     ghost may_log = { λ _ _. Unit {0} };
 
     #[tactic(auto, using(ent_queue::proofs::Extending::log_extends_then))]

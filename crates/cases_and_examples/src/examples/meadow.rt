@@ -15,7 +15,7 @@ pub const AGE: ComponentId = ComponentId(0);
 #[derive(Clone, Copy)]
 pub struct Sow;
 
-impl System<Shared> for Sow {
+impl System<Shared, Memory> for Sow {
     ghost may_issue = { λ _ _ _. Unit {0} };
 
     fn run(
@@ -35,7 +35,7 @@ impl System<Shared> for Sow {
 #[derive(Clone, Copy)]
 pub struct Grow;
 
-impl System<Shared> for Grow {
+impl System<Shared, Memory> for Grow {
     ghost may_issue = { λ _ _ _. Unit {0} };
 
     #[tactic(auto, using(ent_queue::proofs::Extending::extends_then))]
@@ -61,7 +61,7 @@ pub struct Reap {
     pub ripe: i64,
 }
 
-impl System<Shared> for Reap {
+impl System<Shared, Memory> for Reap {
     ghost may_issue = { λ _ _ queue. length queue ≤ 1 };
 
     fn run(

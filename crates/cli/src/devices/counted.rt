@@ -21,7 +21,7 @@ pub struct Counted<T> {
 }
 
 impl<T> Counted<T> {
-    /// Makes a device that hasn't failed yet. It takes no memory.
+    /// Makes a device that hasn't failed yet. It doesn't allocate.
     pub fn new(device: T) -> Self
         ensures device { device_of result ≡ device }
         ensures failures { failures_of result ≡ 0 }

@@ -10,10 +10,24 @@ ghost use Rattle.ent_blocks.specs.Overflow.{AreUsedOf};
 use crate::closing::take_used;
 use crate::part::Part;
 use ent_alloc::Entities;
+use ent_handle::{HandedBack, Memory};
 use std::alloc::Global;
 use std::marker::Model;
 
 /// A phase that has ended: the allocator, in which what was used is not yet reserved.
+///
+/// ```
+/// use forgeni::Entities;
+///
+/// let (phase, mut reservers) = Entities::new().share_behind_blocks(&[10])?;
+/// reservers[0].reserve_many(10)?;
+/// let ended = phase.close(reservers)?;
+/// // Nothing was requested past the block, so no handle depends on a thread.
+/// assert_eq!(ended.requested_past(), 0);
+/// let entities = ended.into_entities()?;
+/// assert_eq!(entities.reserved(), 10);
+/// # Ok::<(), Box<dyn std::error::Error + Send + Sync>>(())
+/// ```
 #[derive(Drop)]
 pub struct Ended {
     entities: Entities,
@@ -67,24 +81,68 @@ impl Ended {
         }
     }
 
-    /// How many handles were requested past a block, served or refused. If it is 0, which handle
-    /// each caller got depends on no thread.
+    /// Returns the number of handles that were requested past a block, whether served or refused.
+    /// If it is 0, the handles that each caller got don't depend on the threads.
+    ///
+    /// ```
+    /// use forgeni::Entities;
+    ///
+    /// let (phase, mut reservers) = Entities::new().share_behind_blocks(&[2, 2])?;
+    /// reservers[1].reserve_many(2)?;
+    /// reservers[1].reserve_many(3)?;
+    /// // The block was used up, so three came from the shared handles.
+    /// assert_eq!(phase.close(reservers)?.requested_past(), 3);
+    /// # Ok::<(), Box<dyn std::error::Error + Send + Sync>>(())
+    /// ```
     pub fn requested_past(&self) -> u64
         ensures { result ≡ self.now.requested }
     {
         self.requested
     }
 
-    /// The allocator, in which what was used is reserved: a flush brings it to life. What is left
-    /// of the blocks can be given again, and comes before all that nobody got.
+    /// Returns the allocator as it was when the phase was opened: nothing is reserved.
+    ///
+    /// ```
+    /// use forgeni::Entities;
+    ///
+    /// let (phase, mut reservers) = Entities::new().share_behind_blocks(&[2])?;
+    /// let first = reservers[0].reserve()?;
+    /// // The frame is done again, without what it reserved.
+    /// let mut entities = phase.close(reservers)?.cancel();
+    /// assert_eq!(entities.alloc()?, first);
+    /// # Ok::<(), Box<dyn std::error::Error + Send + Sync>>(())
+    /// ```
+    pub fn cancel(self) -> Entities
+        ensures allocator { result.allocator ≡ self.phase.start }
+        ensures rows { result.rows ≡ self.phase.rows }
+    {
+        self.entities
+    }
+
+    /// Returns the allocator, in which what was used is reserved: a flush brings it to life. What
+    /// is left of the blocks can be given again, and comes before the rest of the pool.
     ///
     /// It takes time and memory as [`Blocks::close`](ent_blocks::Blocks::close) does.
     ///
+    /// ```
+    /// use forgeni::Entities;
+    ///
+    /// let (phase, mut reservers) = Entities::new().share_behind_blocks(&[2, 2])?;
+    /// let one = reservers[1].reserve()?;
+    /// let mut entities = phase.close(reservers)?.into_entities()?;
+    /// entities.flush(&mut Vec::new())?;
+    /// assert!(entities.is_alive(one));
+    /// // What is left of the blocks is given next.
+    /// assert_eq!(entities.alloc()?.index(), 0);
+    /// # Ok::<(), Box<dyn std::error::Error + Send + Sync>>(())
+    /// ```
+    ///
     /// # Errors
     ///
-    /// The same phase, if an allocation fails, and for no other reason. It can be tried again. A
-    /// phase without blocks in which nothing came from the shared cursor takes no memory.
-    pub fn into_entities(self, alloc: Global) -> Result<Entities, Self>
+    /// [`HandedBack`] has this value, if an allocation fails, and for no other reason. The call can
+    /// be tried again. It doesn't allocate for a phase without blocks in which nothing came from
+    /// the shared cursor.
+    pub fn into_entities(self, alloc: Global) -> Result<Entities, HandedBack<Self, Memory>>
         ensures after { IfOk result (λ entities. entities.allocator
             ≡ after_blocks self.phase.start self.phase.blocks) }
         ensures rows { IfOk result (λ entities. entities.rows ≡ self.phase.rows) }
@@ -100,7 +158,7 @@ impl Ended {
         ensures brings_to_life { IfOk result (λ entities. (h : HandleValue) →
             IsLive (after_flush entities.allocator) h
             ↔ (IsLive self.phase.start h ⊎ Contains entities.allocator.taken h)) }
-        ensures handed_back { IfErr result (λ ended. ended ≡ self) }
+        ensures handed_back { IfErr result (λ h. h.value ≡ self) }
 
         // Without a block there is nothing to allocate. If there is one, only a test shows that
         // ending succeeds.
@@ -112,7 +170,8 @@ impl Ended {
             requested,
         } = self;
         let Ok(()) = take_used(alloc, &mut entities, &parts) else {
-            return Err(Ended::new(entities, parts, requested));
+            let ended = Ended::new(entities, parts, requested);
+            return Err(HandedBack::new(ended, Memory));
         };
         Ok(entities)
     }

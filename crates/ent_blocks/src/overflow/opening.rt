@@ -1,9 +1,9 @@
 //! An allocator is dealt in blocks, and the rest of it is shared.
-ghost use Rattle.std.specs.Prelude.{◌≡◌, ◌+◌, ◌<◌, ◌≤◌, ◌++◌, [], IfOk, IfErr, All, length};
+ghost use Rattle.std.specs.Prelude.{◌≡◌, ◌+◌, ◌<◌, ◌≤◌, ◌++◌, [], IfOk, IfErr, IsTrue, All, length};
 ghost use Rattle.std.specs.Prelude.{vec_len};
 ghost use Rattle.std.specs.Vec.{vec_capacity};
 ghost use Rattle.ent_alloc.specs.Limits.{quota};
-ghost use Rattle.ent_blocks.specs.Blocks.{blocks_from};
+ghost use Rattle.ent_blocks.specs.Blocks.{are_among, blocks_from};
 ghost use Rattle.ent_shared.specs.Phase.{IsOf as IsReserverOf};
 ghost use Rattle.ent_blocks.specs.Overflow.{IsCallerOf, IsFresh, IsPhase, Overflow, own_blocks};
 ghost use Rattle.ent_blocks.specs.Overflow.{past_history};
@@ -41,6 +41,10 @@ pub fn open_with_overflow(
         ≡ blocks_from 0 (length entities.allocator.pool) sizes.now) }
     ensures reservers { IfOk result (λ made. own_blocks made.1.items ≡ made.0.blocks) }
     ensures own { IfOk result (λ made. All (IsCallerOf made.0) made.1.items) }
+    ensures count { IfOk result (λ made. length made.1.items ≡ length made.0.blocks) }
+    ensures many { IfOk result (λ made. length made.1.items ≡ length sizes.now) }
+    ensures among { IfOk result (λ made.
+        IsTrue (are_among made.0.blocks (own_blocks made.1.items))) }
     // Nobody has gone past its block yet, and each has its whole quota for it.
     ensures nothing { IfOk result (λ made. past_history made.1.items ≡ []) }
     ensures quota { IfOk result (λ made. All (λ c. c.past.own.left ≡ quota) made.1.items) }

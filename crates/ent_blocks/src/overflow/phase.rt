@@ -1,6 +1,6 @@
 ghost use Rattle.std.specs.Prelude.{◌≡◌, ◌≢◌, ◌+◌, ◌-◌, ◌*◌, ◌<◌, ◌≤◌, ◌<ℤ◌, ◌↔◌, ◌++◌, [], true};
 ghost use Rattle.std.specs.Prelude.{length, take, map, sum, sum_by, All, AllPairs, Contains};
-ghost use Rattle.std.specs.Prelude.{IfOk, IsTrue, OnSome, vec_len};
+ghost use Rattle.std.specs.Prelude.{IfOk, IsTrue, OnOk, OnSome, vec_len};
 ghost use Rattle.std.specs.FinSet as set;
 ghost use Rattle.std.specs.FinMap as maps;
 ghost use Rattle.std.specs.Vec.{vec_capacity};
@@ -13,9 +13,9 @@ ghost use Rattle.ent_shared.specs.Record.{requested_by};
 ghost use Rattle.ent_blocks.specs.Blocks.{unused, dealt, lesser, are_among, accounted};
 ghost use Rattle.ent_blocks.specs.Overflow.{IsCallerOf, IsPhase, IsServed, own_blocks, past_of};
 ghost use Rattle.ent_blocks.specs.Overflow.{past_records, past_history, past_block, behind_blocks};
-ghost use Rattle.ent_blocks.specs.Overflow.{IsInOrder, AreUsedOf};
+ghost use Rattle.ent_blocks.specs.Overflow.{IsInOrder, AreUsedOf, MayBeServed};
 
-use crate::accounting::account;
+use crate::accounting::{account, missing};
 use crate::overflow::dealing::dealt;
 use crate::overflow::ended::Ended;
 use crate::overflow::reserver::OverflowReserver;
@@ -26,12 +26,28 @@ use ent_handle::Handle;
 use ent_shared::{Reserver, Shared};
 use std::marker::Model;
 
-/// An allocator whose pool's front is dealt in blocks, one to each [`OverflowReserver`], and whose
-/// rest all of them share. [`open_with_overflow`](crate::open_with_overflow) makes it.
+/// The source of a phase in which the front of the pool is dealt in blocks, one to each caller, and
+/// all callers share the rest.
+/// [`Entities::share_behind_blocks`](forgeni::Entities::share_behind_blocks) opens a phase of it.
 ///
-/// As long as no caller goes past its block, which handles it gets depends on the allocator, on the
-/// sizes, and on what it has reserved before: on no other caller, and on no thread. What it gets
+/// As long as no caller goes past its block, the handles of a caller depend on the allocator, on
+/// the sizes, and on what it has reserved before: not on other callers or on threads. What it gets
 /// past its block depends on when the others go past theirs.
+///
+/// ```
+/// use forgeni::{Entities, Overflow, Reserver, ReserveError};
+///
+/// fn wave(mine: &mut Reserver<Overflow>) -> Result<usize, ReserveError> {
+///     Ok(mine.reserve_many(10)?.len())
+/// }
+///
+/// let (phase, mut reservers) = Entities::new().share_behind_blocks(&[10, 10])?;
+/// for mine in &mut reservers {
+///     wave(mine)?;
+/// }
+/// assert_eq!(phase.close(reservers)?.requested_past(), 0);
+/// # Ok::<(), Box<dyn std::error::Error + Send + Sync>>(())
+/// ```
 #[derive(Drop)]
 pub struct Overflow {
     shared: Shared,
@@ -86,22 +102,22 @@ impl Overflow {
         }
     }
 
-    /// How many blocks it has.
+    /// Returns the number of blocks.
     pub fn count(&self) -> usize
         ensures { result ≡ length self.now.blocks }
     {
         self.parts.len()
     }
 
-    /// Whether the handle was alive when the phase was opened. It takes constant time.
+    /// Returns `true` if the handle was alive when the phase was opened. It takes constant time.
     pub fn is_alive(&self, handle: Handle) -> bool
         ensures { result ≡ set.contains self.now.shared.start.live handle }
     {
         self.shared.is_alive(handle)
     }
 
-    /// The row that was kept with the handle when the phase was opened. `None` if it was not alive
-    /// then, or had no row. It takes constant time.
+    /// Returns the row that the handle had when the phase was opened, or `None` if it wasn't alive
+    /// then or had no row. It takes constant time.
     pub fn row(&self, handle: Handle) -> Option<u32>
         ensures value { result ≡ maps.get self.now.shared.rows handle }
         ensures alive { OnSome result (set.contains self.now.shared.start.live handle ≡ true) }
@@ -109,8 +125,33 @@ impl Overflow {
         self.shared.row(handle)
     }
 
+    /// Returns the allocator as it was when the phase was opened. It doesn't change until the
+    /// close.
+    pub fn opened(&self) -> &Entities
+        ensures start { result.now.allocator ≡ self.now.shared.start }
+        ensures rows { result.now.rows ≡ self.now.shared.rows }
+    {
+        self.shared.opened()
+    }
+
+    /// Whether these callers are in the order in which they were made.
+    pub(super) fn has_in_order(&self, callers: &[OverflowReserver]) -> bool
+        ensures { IsTrue result ↔ IsTrue (are_among self.now.blocks (own_blocks callers.now)) }
+    {
+        missing(&self.parts, callers).is_some()
+    }
+
+    /// Whether a request for `n` handles past the caller's block may be served.
+    pub(super) fn may_be_served_past(&self, caller: &OverflowReserver, n: u32) -> bool
+        ensures { IsTrue result ↔ ((n ≤ caller.now.past.own.left)
+            × (n ≤ length self.now.shared.start.pool)) }
+    {
+        let n = u64::from(n);
+        n <= caller.past.left() && n <= self.shared.pool()
+    }
+
     /// Reserves one handle: the next one of the caller's block, and if the block is used up, one
-    /// that all callers share, by one atomic step. It takes no memory and waits for nobody.
+    /// that all callers share, by one atomic step. It neither allocates nor waits.
     ///
     /// # Errors
     ///
@@ -133,8 +174,7 @@ impl Overflow {
 
     /// Reserves `n` handles at once: all from the caller's block if it has so many left, and else
     /// all from those that the callers share, by one atomic step. The block then keeps what it has
-    /// left. They are listed in the order of [`Entities::reply`]. It takes no memory and waits for
-    /// nobody.
+    /// left. They are listed in the order of [`Entities::reply`]. It neither allocates nor waits.
     ///
     /// # Errors
     ///
@@ -152,6 +192,7 @@ impl Overflow {
         ensures stays { IsCallerOf self.now caller.new }
         ensures served { IsServed self.now caller.old caller.new n result }
         ensures length { IfOk result (λ handles. length handles ≡ n) }
+        ensures enough { OnOk result (MayBeServed self.now caller.old n) }
     {
         if n > caller.part.left() {
             return self.shared.reserve_many(&mut caller.past, n);
@@ -159,11 +200,13 @@ impl Overflow {
         Ok(take_many(self.shared.opened(), &mut caller.part, n))
     }
 
-    /// Ends the phase with all its callers, in the order in which they were made. It takes no
-    /// memory. [`Ended::into_entities`] then gives the allocator.
+    /// Ends the phase with all its callers, in the order in which they were made. It doesn't
+    /// allocate. [`Ended::into_entities`] then gives the allocator.
     pub fn close(self, callers: Vec<OverflowReserver>) -> Ended
         requires own { All (IsCallerOf self) callers.items }
-        requires all { map unused (own_blocks callers.items) ≡ self.blocks }
+        requires among { IsTrue (are_among self.blocks (own_blocks callers.items)) }
+        requires all { length callers.items ≡ length self.blocks }
+        ensures all { map unused (own_blocks callers.items) ≡ self.blocks }
         ensures start { result.phase.start ≡ self.shared.start }
         ensures rows { result.phase.rows ≡ self.shared.rows }
 
@@ -202,12 +245,12 @@ impl Overflow {
     }
 
     /// Ends the phase although some callers may be lost: they were dropped, as by a thread that
-    /// panicked. The others are in the order in which they were made. It takes no memory.
+    /// panicked. The others are in the order in which they were made. It doesn't allocate.
     ///
     /// What is left of a lost one's block counts as used. The cursor tells how many handles were
     /// requested past the blocks, but not which of the lost callers' requests were refused. So the
-    /// front of what lies behind the blocks counts as given, as far as it goes, also those handles
-    /// that nobody got.
+    /// front of what lies behind the blocks counts as given, as far as it goes, even those handles
+    /// that no caller got.
     pub fn close_lost(self, callers: Vec<OverflowReserver>) -> Ended
         requires own { All (IsCallerOf self) callers.items }
         requires among { IsTrue (are_among self.blocks (own_blocks callers.items)) }

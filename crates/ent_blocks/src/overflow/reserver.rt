@@ -1,10 +1,19 @@
 use crate::held::Held;
 use crate::part::Part;
+use ent_alloc::QUOTA;
 use ent_shared::Reserver;
 use std::marker::Model;
 
-/// The right of one caller to the handles of its block, and past it to those that all callers
-/// share.
+/// One caller's right to the handles of its block, and past it to those that all callers share.
+///
+/// ```
+/// use forgeni::{Overflow, OverflowReserver, Source};
+///
+/// /// Code for the reservers of blocks that go on.
+/// fn goes_on<S: Source<Reserver = OverflowReserver>>() {}
+///
+/// goes_on::<Overflow>();
+/// ```
 #[derive(Drop)]
 pub struct OverflowReserver {
     pub(super) part: Part,
@@ -30,16 +39,17 @@ impl Held for OverflowReserver {
 }
 
 impl OverflowReserver {
-    ghost use Rattle.std.specs.Prelude.{◌≡◌, ◌-◌, ◌≤◌};
+    ghost use Rattle.std.specs.Prelude.{◌≡◌, ◌+◌, ◌-◌, ◌^◌, ◌≤◌, min};
+    ghost use Rattle.ent_shared.specs.Record.{requested_by};
 
-    /// How many handles its block has.
+    /// Returns the number of handles in its block.
     pub fn size(&self) -> u32
         ensures { result ≡ self.now.block.size }
     {
         self.part.size()
     }
 
-    /// How many of them are used.
+    /// Returns the number of handles of the block that are used.
     pub fn used(&self) -> u32
         ensures value { result ≡ self.now.block.used }
         ensures within { result ≤ self.now.block.size }
@@ -47,11 +57,33 @@ impl OverflowReserver {
         self.part.used()
     }
 
-    /// How many handles of the block are left.
+    /// Returns the number of handles that are left of the block.
     pub fn left(&self) -> u32
         ensures value { result ≡ self.now.block.size - self.now.block.used }
         ensures within { self.now.block.used ≤ self.now.block.size }
     {
         self.part.left()
+    }
+
+    /// How many handles it requested past its block, served or refused.
+    pub fn requested_past(&self) -> u64
+        ensures value { result ≡ requested_by self.now.past.own }
+        ensures within { result ≤ 2 ^ 40 }
+    {
+        QUOTA - self.past.left()
+    }
+
+    /// How many handles of its block would have been enough: those that are used, and those that it
+    /// requested past it. At most 4,294,967,295.
+    pub fn wanted(&self) -> u32
+        ensures { result
+            ≡ min (self.now.block.used + requested_by self.now.past.own) (2 ^ 32 - 1) }
+    {
+        let wanted = u64::from(self.part.used()) + self.requested_past();
+        if wanted <= u64::from(u32::MAX) {
+            wanted as u32
+        } else {
+            u32::MAX
+        }
     }
 }

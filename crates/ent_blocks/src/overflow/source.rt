@@ -1,18 +1,21 @@
+use crate::overflow::ended::Ended;
 use crate::overflow::phase::Overflow;
 use crate::overflow::reserver::OverflowReserver;
-use ent_alloc::{Refused, Reserved, Source};
+use ent_alloc::{Entities, Phased, Refused, Reserved, Source};
 use ent_handle::Handle;
 
-/// Each reservation is of the next handles of the reserver's own block, as long as that lasts, and
-/// past it an [atomic step](Overflow::reserve) of the cursor that all share.
+/// A reservation takes the next handles of the reserver's own block as long as it lasts. Past it,
+/// it is one atomic step of the cursor that all reservers share.
 impl Source for Overflow {
-    ghost use Rattle.ent_blocks.specs.Overflow.{IsCallerOf, IsServed};
+    ghost use Rattle.ent_blocks.specs.Overflow.{IsCallerOf, IsServed, MayBeServed};
 
     type Reserver = OverflowReserver;
 
     ghost serves = { λ phase caller. IsCallerOf phase caller };
 
     ghost may_reply = { λ phase before after n reply. IsServed phase before after n reply };
+
+    ghost may_give = { λ phase caller n. MayBeServed phase caller n };
 
     ghost start = { λ phase. phase.shared.start };
 
@@ -26,6 +29,10 @@ impl Source for Overflow {
         self.row(handle)
     }
 
+    fn may_serve(&self, caller: &OverflowReserver, n: u32) -> bool {
+        n <= caller.left() || self.may_be_served_past(caller, n)
+    }
+
     #[inline(always)]
     fn serve_one(&self, caller: &mut OverflowReserver) -> Result<Handle, Refused> {
         self.reserve(caller)
@@ -34,5 +41,52 @@ impl Source for Overflow {
     #[inline(always)]
     fn serve_many(&self, caller: &mut OverflowReserver, n: u32) -> Result<Reserved<'_>, Refused> {
         self.reserve_many(caller, n)
+    }
+}
+
+/// It [ends](Ended) without memory, and takes its callers back in the order in which they were made.
+impl Phased for Overflow {
+    ghost use Rattle.std.specs.Prelude.{◌≡◌, All, IsTrue, length};
+    ghost use Rattle.ent_blocks.specs.Blocks.{are_among};
+    ghost use Rattle.ent_blocks.specs.Overflow.{IsCallerOf, own_blocks};
+    ghost use Rattle.ent_blocks.specs.PastEnding.{EndsWithAll, EndsWithSome};
+
+    type Closed = Ended;
+
+    ghost count = { λ phase. length phase.blocks };
+
+    ghost takes = { λ phase callers. IsTrue (are_among phase.blocks (own_blocks callers)) };
+
+    ghost closes = { λ phase callers ended. EndsWithAll phase callers ended };
+
+    ghost closes_lost = { λ phase callers ended. EndsWithSome phase callers ended };
+
+    fn callers(&self) -> usize {
+        self.count()
+    }
+
+    fn as_opened(&self) -> &Entities {
+        self.opened()
+    }
+
+    fn may_take(&self, callers: &[OverflowReserver]) -> bool {
+        self.has_in_order(callers)
+    }
+
+    fn end_with_all(self, callers: Vec<OverflowReserver>) -> Ended
+        requires own { All (IsCallerOf self) callers.items }
+        requires among { IsTrue (are_among self.blocks (own_blocks callers.items)) }
+        requires all { length callers.items ≡ length self.blocks }
+        ensures { EndsWithAll self callers.items result }
+    {
+        self.close(callers)
+    }
+
+    fn end_with_some(self, callers: Vec<OverflowReserver>) -> Ended
+        requires own { All (IsCallerOf self) callers.items }
+        requires among { IsTrue (are_among self.blocks (own_blocks callers.items)) }
+        ensures { EndsWithSome self callers.items result }
+    {
+        self.close_lost(callers)
     }
 }

@@ -23,9 +23,9 @@ use std::mem;
 /// Takes the calls of an allocator one after the other, and compares each answer with the proved
 /// allocator's.
 ///
-/// It holds the allocator and the reservations since the last other call, and nothing else. A call
-/// that fails is the last one: each later call returns the same error. So the first difference
-/// stays, and no call is compared after it.
+/// It holds the allocator and the reservations since the last call of another kind, and nothing
+/// else. A call that fails is the last one: each later call returns the same error. So the first
+/// difference stays, and no call is compared after it.
 ///
 /// ```
 /// use forgeni::trace::Checker;
@@ -52,7 +52,7 @@ pub struct Checker {
 }
 
 impl Checker {
-    /// A checker of an allocator that has given nothing. It takes no memory.
+    /// Creates a checker for an allocator that has given no handles. It doesn't allocate.
     ///
     /// The limits are those of the allocator that is checked: how many slots it may make, and after
     /// which generation it retires a slot. The greatest limits allow every handle, including
@@ -81,8 +81,8 @@ impl Checker {
         }
     }
 
-    /// A checker that begins in the middle: the allocator that is checked is in the same state as
-    /// this one, with its limits and its requests. It takes no memory.
+    /// Creates a checker that begins in the middle: the allocator that is checked is in the same
+    /// state as this one, including its limits and its requests. It doesn't allocate.
     ///
     /// ```
     /// use forgeni::Entities;
@@ -108,7 +108,8 @@ impl Checker {
         }
     }
 
-    /// How many calls it has taken, up to the first that failed. It is the number of the last one.
+    /// Returns the number of calls that it has taken, up to the first that failed. It is also the
+    /// number of the last call.
     ///
     /// It counts to 2^64 − 1, and stays there.
     ///
@@ -129,7 +130,7 @@ impl Checker {
         self.calls
     }
 
-    /// Why it has stopped, if it has.
+    /// Returns the error that stopped it, if there was one.
     ///
     /// ```
     /// use forgeni::{trace, Limits};
@@ -150,10 +151,10 @@ impl Checker {
         }
     }
 
-    /// Takes the next call. Its number is that of the calls so far.
+    /// Takes the next call. Calls are numbered in the order in which they are taken.
     ///
-    /// A reservation is compared together with those before and after it, at the next other call or
-    /// at the end.
+    /// A reservation is compared together with those before and after it, at the next call of
+    /// another kind, or at the end.
     ///
     /// # Errors
     ///
@@ -162,8 +163,8 @@ impl Checker {
     ///   the last flush.
     /// - `Memory`: out of memory.
     ///
-    /// The first error is kept, and each later call returns a copy of it, or `Memory` if there is
-    /// no memory for a copy. [`error`](Self::error) returns the one that is kept.
+    /// The first error is kept, and each later call returns a copy of it, or `Memory` if there
+    /// isn't enough memory for a copy. [`error`](Self::error) returns the one that is kept.
     ///
     /// ```
     /// use forgeni::trace::{Call, CheckError, Checker};
@@ -199,7 +200,7 @@ impl Checker {
     ///
     /// # Errors
     ///
-    /// As of [`call`](Self::call).
+    /// The same as for [`call`](Self::call).
     pub fn alloc<R: Into<AllocReply>>(&mut self, reply: R) -> Result<(), CheckError>
         ensures takes { (told : AllocReply) × R.converts reply told
             × Takes self.old (Call.Alloc (Some told)) self.new }
@@ -224,7 +225,7 @@ impl Checker {
     ///
     /// # Errors
     ///
-    /// As of [`call`](Self::call).
+    /// The same as for [`call`](Self::call).
     pub fn free(&mut self, handle: Handle, reply: FreeReply) -> Result<(), CheckError>
         ensures takes { Takes self.old (Call.Free handle (Some reply)) self.new }
         ensures answers { Answers self.new.comparer result }
@@ -232,7 +233,7 @@ impl Checker {
         self.call(Call::Free(handle, Some(reply)))
     }
 
-    /// Takes a flush. The answer is the handles that came to life, or how many they were.
+    /// Takes a flush. The answer is the handles that came to life, or their number.
     ///
     /// ```
     /// use forgeni::trace::{Checker, FlushReply};
@@ -248,7 +249,7 @@ impl Checker {
     ///
     /// # Errors
     ///
-    /// As of [`call`](Self::call).
+    /// The same as for [`call`](Self::call).
     pub fn flush<R: Into<FlushReply>>(&mut self, reply: R) -> Result<(), CheckError>
         ensures takes { (told : FlushReply) × R.converts reply told
             × Takes self.old (Call.Flush (Some told)) self.new }
@@ -272,7 +273,7 @@ impl Checker {
     ///
     /// # Errors
     ///
-    /// As of [`call`](Self::call).
+    /// The same as for [`call`](Self::call).
     pub fn state(&mut self, handle: Handle, reply: State) -> Result<(), CheckError>
         ensures takes { Takes self.old (Call.State handle (Some reply)) self.new }
         ensures answers { Answers self.new.comparer result }
@@ -295,7 +296,7 @@ impl Checker {
     ///
     /// # Errors
     ///
-    /// As of [`call`](Self::call).
+    /// The same as for [`call`](Self::call).
     pub fn len(&mut self, reply: u32) -> Result<(), CheckError>
         ensures takes { Takes self.old (Call.Len (Some reply)) self.new }
         ensures answers { Answers self.new.comparer result }
@@ -321,7 +322,8 @@ impl Checker {
     ///
     /// # Errors
     ///
-    /// As of [`call`](Self::call). The answer is compared at the next other call, or at the end.
+    /// The same as for [`call`](Self::call). The answer is compared at the next call of another
+    /// kind, or at the end.
     pub fn reserve<R: Into<ReserveReply>>(
         &mut self,
         caller: u32,
@@ -336,7 +338,7 @@ impl Checker {
     }
 
     /// Takes all reservations of a log, in its order, and leaves the log empty. They may overlap
-    /// all that was reserved since the last other call.
+    /// with all that was reserved since the last call of another kind.
     ///
     /// ```
     /// use forgeni::trace::{Checker, Log};
@@ -353,7 +355,7 @@ impl Checker {
     ///
     /// # Errors
     ///
-    /// As of [`call`](Self::call). The log is emptied in any case.
+    /// The same as for [`call`](Self::call). The log is emptied in any case.
     pub fn join(&mut self, log: &mut Log) -> Result<(), CheckError>
         ensures takes { TakesAll self.old (reserve_lines log.old.reservations) self.new }
         ensures emptied { log.new ≡ emptied log.old }
@@ -364,9 +366,9 @@ impl Checker {
     }
 
     /// Takes reservations that overlapped, with one another and with those that were taken since
-    /// the last other call. They are compared now: what is reserved later came later.
+    /// the last call of another kind. They are compared now: what is reserved later came later.
     ///
-    /// Those of one caller are in its order. Those of different callers have no order.
+    /// Those of one caller are in that caller's order. Those of different callers have no order.
     ///
     /// ```
     /// use forgeni::trace::{Checker, Reservation};
@@ -383,7 +385,7 @@ impl Checker {
     ///
     /// # Errors
     ///
-    /// As of [`call`](Self::call).
+    /// The same as for [`call`](Self::call).
     pub fn run(&mut self, reservations: Vec<Reservation>) -> Result<(), CheckError>
         ensures takes { TakesRun self.old reservations.items self.new }
         ensures answers { Answers self.new.comparer result }
@@ -408,7 +410,7 @@ impl Checker {
     ///
     /// # Errors
     ///
-    /// `Differs` or `Memory`, as of [`call`](Self::call), or the error that was kept.
+    /// `Differs` or `Memory`, as for [`call`](Self::call), or the error that was kept.
     pub fn finish(self) -> Result<(), CheckError>
         ensures closes { IfOk self.comparer (λ c. Closes c result) }
         ensures stopped { IfErr self.comparer (λ e. result ≡ Err e) }

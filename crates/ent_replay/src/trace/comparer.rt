@@ -59,15 +59,15 @@ impl Model for Comparer {
 }
 
 impl Comparer {
-    /// One that has taken no line. It takes no memory.
+    /// One that has taken no line. It doesn't allocate.
     pub fn new(alloc: Global, limits: Limits) -> Self
         ensures { result ≡ record { allocator = opening limits; run = [] } }
     {
         Comparer::from_entities(alloc, Entities::new(alloc, limits))
     }
 
-    /// One whose trace begins in the state of this allocator, with its requests. It takes no
-    /// memory.
+    /// One whose trace begins in the state of this allocator, with its requests. It doesn't
+    /// allocate.
     pub fn from_entities(alloc: Global, entities: Entities) -> Self
         ensures { result ≡ record { allocator = entities.allocator; run = [] } }
     {

@@ -51,7 +51,7 @@ impl Model for Log {
 }
 
 impl Log {
-    /// The empty log of this caller. It takes no memory.
+    /// Creates an empty log for this caller. It doesn't allocate.
     ///
     /// ```
     /// use forgeni::trace;
@@ -70,7 +70,13 @@ impl Log {
         }
     }
 
-    /// The caller whose log it is.
+    /// Returns the caller whose log it is.
+    ///
+    /// ```
+    /// use forgeni::trace;
+    ///
+    /// assert_eq!(trace::Log::new(3).caller(), 3);
+    /// ```
     #[must_use]
     pub fn caller(&self) -> u32
         ensures { result ≡ self.now.caller }
@@ -78,7 +84,7 @@ impl Log {
         self.caller
     }
 
-    /// The reservations that aren't joined yet.
+    /// Returns the reservations that haven't been joined yet.
     ///
     /// ```
     /// use forgeni::{trace, Handle};

@@ -19,7 +19,7 @@ pub enum Cause {
     Number,
     /// The word for a handle is not the text of one.
     Handle,
-    /// What stands after `=>` is no answer to that call, or one is missing.
+    /// What follows `=>` isn't an answer to that call, or the answer is missing.
     Reply,
 }
 

@@ -19,9 +19,9 @@ use std::alloc::Global;
 
 /// Records the calls of an allocator that threads share, and checks them as they come.
 ///
-/// While threads reserve, each has one of the [`logs`](Self::logs). The next other call joins the
-/// logs, in the order of the callers, and leaves them empty. The borrow of the logs has ended by
-/// then, so no thread still appends.
+/// While threads reserve, each has one of the [`logs`](Self::logs). The next call of another kind
+/// joins the logs, in the order of the callers, and leaves them empty. The borrow of the logs has
+/// ended by then, so no thread still appends.
 ///
 /// ```
 /// use forgeni::trace::Recorder;
@@ -57,8 +57,8 @@ pub struct Recorder {
 }
 
 impl Recorder {
-    /// A recorder of an allocator that has given nothing, with a log for each of so many callers.
-    /// They are numbered from 0.
+    /// Creates a recorder for an allocator that has given no handles, with a log for each caller.
+    /// The callers are numbered from 0.
     ///
     /// ```
     /// use forgeni::{trace, Limits};
@@ -87,7 +87,7 @@ impl Recorder {
         })
     }
 
-    /// A log for each caller.
+    /// Returns the log of each caller.
     ///
     /// ```
     /// use forgeni::{trace, Handle, Limits};
@@ -106,7 +106,7 @@ impl Recorder {
         self.logs.as_mut_slice()
     }
 
-    /// How many calls were taken, with those of the logs that were joined.
+    /// Returns the number of calls that were taken, including those of the logs that were joined.
     ///
     /// ```
     /// use forgeni::{trace, Handle, Limits};
@@ -139,7 +139,7 @@ impl Recorder {
     ///
     /// # Errors
     ///
-    /// As of [`Checker::call`]. The logs are emptied in any case.
+    /// The same as for [`Checker::call`]. The logs are emptied in any case.
     pub fn call(&mut self, call: Call) -> Result<(), CheckError>
         ensures takes { TakesAll self.old.checker (lines_in_all self.old.logs.items ++ call ∷ [])
             self.new.checker }
@@ -163,7 +163,7 @@ impl Recorder {
     ///
     /// # Errors
     ///
-    /// As of [`call`](Self::call).
+    /// The same as for [`call`](Self::call).
     pub fn alloc<R: Into<AllocReply>>(&mut self, reply: R) -> Result<(), CheckError>
         ensures takes { (told : AllocReply) × R.converts reply told × TakesAll self.old.checker
             (lines_in_all self.old.logs.items ++ Call.Alloc (Some told) ∷ []) self.new.checker }
@@ -187,7 +187,7 @@ impl Recorder {
     ///
     /// # Errors
     ///
-    /// As of [`call`](Self::call).
+    /// The same as for [`call`](Self::call).
     pub fn free(&mut self, handle: Handle, reply: FreeReply) -> Result<(), CheckError>
         ensures takes { TakesAll self.old.checker
             (lines_in_all self.old.logs.items ++ Call.Free handle (Some reply) ∷ [])
@@ -198,7 +198,7 @@ impl Recorder {
         self.call(Call::Free(handle, Some(reply)))
     }
 
-    /// Takes a flush. The answer is the handles that came to life, or how many they were.
+    /// Takes a flush. The answer is the handles that came to life, or their number.
     ///
     /// ```
     /// use forgeni::{trace, Handle, Limits};
@@ -212,7 +212,7 @@ impl Recorder {
     ///
     /// # Errors
     ///
-    /// As of [`call`](Self::call).
+    /// The same as for [`call`](Self::call).
     pub fn flush<R: Into<FlushReply>>(&mut self, reply: R) -> Result<(), CheckError>
         ensures takes { (told : FlushReply) × R.converts reply told × TakesAll self.old.checker
             (lines_in_all self.old.logs.items ++ Call.Flush (Some told) ∷ []) self.new.checker }
@@ -237,7 +237,7 @@ impl Recorder {
     ///
     /// # Errors
     ///
-    /// As of [`call`](Self::call).
+    /// The same as for [`call`](Self::call).
     pub fn state(&mut self, handle: Handle, reply: State) -> Result<(), CheckError>
         ensures takes { TakesAll self.old.checker
             (lines_in_all self.old.logs.items ++ Call.State handle (Some reply) ∷ [])
@@ -262,7 +262,7 @@ impl Recorder {
     ///
     /// # Errors
     ///
-    /// As of [`call`](Self::call).
+    /// The same as for [`call`](Self::call).
     pub fn len(&mut self, reply: u32) -> Result<(), CheckError>
         ensures takes { TakesAll self.old.checker
             (lines_in_all self.old.logs.items ++ Call.Len (Some reply) ∷ []) self.new.checker }
@@ -286,7 +286,7 @@ impl Recorder {
     ///
     /// # Errors
     ///
-    /// As of [`Checker::finish`].
+    /// The same as for [`Checker::finish`].
     pub fn finish(self) -> Result<(), CheckError>
         ensures { Finishes self.checker (lines_in_all self.logs.items) result }
     {

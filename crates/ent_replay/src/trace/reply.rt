@@ -88,7 +88,7 @@ pub enum FreeReply {
 pub enum FlushReply {
     /// The handles that came to life, in their order.
     Born(HandleList),
-    /// How many they were.
+    /// The number of handles that came to life.
     Count(u32),
 }
 
@@ -129,7 +129,7 @@ pub enum ReserveReply {
     Handles(HandleList),
     /// Too few were left. How many isn't compared.
     Space,
-    /// Too few were left, and this many.
+    /// Too few were left: only this many.
     SpaceLeft(u32),
 }
 

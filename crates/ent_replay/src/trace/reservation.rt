@@ -31,8 +31,8 @@ pub struct Reservation {
 }
 
 impl Reservation {
-    /// The reservation of that many handles by this caller, with its answer. It has no number yet,
-    /// so its number is 0.
+    /// Creates a reservation of that many handles by this caller, with its answer. It isn't
+    /// numbered yet: its number is 0.
     ///
     /// ```
     /// use forgeni::trace;

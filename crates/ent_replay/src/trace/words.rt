@@ -9,7 +9,7 @@ ghost use Rattle.ent_replay.specs.Words.{AreFew, words_told};
 use crate::trace::read_fault::Cause;
 use ent_handle::split_once;
 
-/// What stands before a comment.
+/// What comes before a comment.
 pub(super) fn before_comment(line: &[u8]) -> &[u8]
     ensures { result.now ≡ before_comment line.now }
 {
@@ -37,7 +37,7 @@ fn front(text: &[u8], blanks: bool) -> (&[u8], &[u8])
     }
 }
 
-/// The first word of a text, and what stands after it.
+/// The first word of a text, and what follows it.
 pub(super) fn first_word(text: &[u8]) -> Option<(&[u8], &[u8])>
     ensures found { IfSome result (λ parts.
         words_in text.now ≡ parts.0.now ∷ words_in parts.1.now) }
@@ -80,7 +80,7 @@ pub(super) fn few_words(text: &[u8]) -> Few<'_>
     }
 }
 
-/// One more word before `=>`, and what stands after the word.
+/// One more word before `=>`, and what follows the word.
 fn argument(text: &[u8]) -> Result<(&[u8], &[u8]), Cause>
     ensures found { IfOk result (λ parts.
         words_in text.now ≡ parts.0.now ∷ words_in parts.1.now) }
@@ -94,7 +94,7 @@ fn argument(text: &[u8]) -> Result<(&[u8], &[u8]), Cause>
     }
 }
 
-/// A call has no more words: what stands after `=>`, if it is there.
+/// A call has no more words: what follows `=>`, if it is there.
 pub(super) fn no_argument(text: &[u8]) -> Result<Option<&[u8]>, Cause>
     ensures { ReadsAsView words_told result (no_argument (words_in text.now)) }
 {
@@ -105,7 +105,7 @@ pub(super) fn no_argument(text: &[u8]) -> Result<Option<&[u8]>, Cause>
     }
 }
 
-/// A call has one more word: the word, and what stands after `=>`, if it is there.
+/// A call has one more word: the word, and what follows `=>`, if it is there.
 pub(super) fn one_argument(text: &[u8]) -> Result<(&[u8], Option<&[u8]>), Cause>
     ensures { ReadsAsView (λ call. (call.0.now, words_told call.1)) result
         (one_argument (words_in text.now)) }
@@ -114,7 +114,7 @@ pub(super) fn one_argument(text: &[u8]) -> Result<(&[u8], Option<&[u8]>), Cause>
     Ok((word, no_argument(others)?))
 }
 
-/// A call has two more words: both, and what stands after `=>`, if it is there.
+/// A call has two more words: both, and what follows `=>`, if it is there.
 pub(super) fn two_arguments(text: &[u8]) -> Result<(&[u8], &[u8], Option<&[u8]>), Cause>
     ensures { ReadsAsView (λ call. (call.0.now, call.1.now, words_told call.2)) result
         (two_arguments (words_in text.now)) }

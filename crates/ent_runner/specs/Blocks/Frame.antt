@@ -1,6 +1,6 @@
 -- A frame in blocks: systems fill queues, each from a block of its own, and the sync point applies
 -- the queues in the order of the systems. What it ends with depends on the world, the sizes of the
--- blocks and the systems alone: there is no history, and no word of workers.
+-- blocks and the systems alone: there is no history, and workers don't appear.
 use Rattle.std.specs.Prelude.{◌≡◌, ℕ, List}
 use Rattle.ent_handle.specs.Handle.{Handle}
 use Rattle.ent_alloc.specs.Sequential.{born}

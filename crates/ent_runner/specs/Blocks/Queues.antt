@@ -1,12 +1,12 @@
 -- Systems of a frame that fill queues, each from a block of its own. What comes of it depends on
 -- the world, the blocks and the systems alone: there is no history. Workers appear only in how far
 -- the systems came if they were broken off.
-use Rattle.std.specs.Prelude.{◌≡◌, ℕ, ◌<◌, List, [], ◌∷◌, length, slice_get, Some}
+use Rattle.std.specs.Prelude.{◌≡◌, ℕ, ◌<◌, List, [], ◌∷◌, length, Option, slice_get, Some}
 use Rattle.ent_alloc.specs.Sequential.{Allocator}
 use Rattle.ent_blocks.specs.Blocks.{Block}
 use Rattle.ent_queue.specs.Command.{Command}
 use Rattle.ent_queue.specs.Drawing.{AreDrawnBy, after_commands}
-use Rattle.ent_runner.specs.Frame.{queue_at, SystemMayIssue}
+use Rattle.ent_runner.specs.Frame.{queue_at, SystemMayIssue, SystemMayLeave}
 use Rattle.ent_runner.specs.Runs.{AreRun, StopShort}
 use Rattle.ent_world.specs.OpenWorld.{View}
 
@@ -29,17 +29,20 @@ pub record HaveIssued {S : Type 0} (may : S → View → List Command → Type 0
       → AreDrawnBy s block (queue_at queues n)
   pub used : after ≡ blocks_after_queues before queues
 
--- That many workers have run some of the systems, and stopped.
-pub record HaveStopped {S : Type 0} (may leave : S → View → List Command → Type 0)
-    (systems : List S) (workers : ℕ) (view : View) (s : Allocator) (before : List Block)
-    : Type 0 where
+-- That many workers have run some of the systems, and stopped, with this error if one of them
+-- returned one.
+pub record HaveStopped {S E : Type 0} (may : S → View → List Command → Type 0)
+    (leave : S → View → List Command → E → Type 0) (systems : List S) (workers : ℕ) (view : View)
+    (s : Allocator) (before : List Block) (error : Option E) : Type 0 where
   -- for each worker the systems that it ran
   pub ran : List (List ℕ)
   pub count : ℕ
   pub run : AreRun workers count ran
   -- what each of them had issued when it ended or stopped
   pub queues : List (List Command)
-  pub short : StopShort (SystemMayIssue may systems view) (SystemMayIssue leave systems view) queues
-      [] (length systems) count ran
+  -- the error that each of them returned, if it did
+  pub errors : List (Option E)
+  pub short : StopShort (SystemMayIssue may systems view) (SystemMayLeave leave systems view) queues
+      [] errors (length systems) count ran error
   pub draws : (n : ℕ) (block : Block) → n < count → slice_get before n ≡ Some block
       → AreDrawnBy s block (queue_at queues n)

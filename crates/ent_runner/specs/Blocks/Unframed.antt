@@ -1,4 +1,4 @@
--- What is said of a frame in blocks that didn't end.
+-- What holds of a frame in blocks that wasn't completed.
 use Rattle.std.specs.Prelude.{◌≡◌, ◌≢◌, ℕ, ◌<◌, ◌-◌, ◌↔◌, IsTrue, List, length, Err}
 use Rattle.ent_blocks.specs.Blocks.{Block, Reserver, are_among}
 use Rattle.ent_blocks.specs.Faults.{IsMissing}
@@ -14,21 +14,21 @@ use Rattle.ent_runner.specs.declared.blocks.frame.Unframed.TheVariants as unfram
 use Rattle.ent_runner.specs.declared.blocks.run_error.RunError.{RunError}
 
 -- no queues were filled, for this reason
-abbrev pub IsUnrun : {J : Type 0} → RunError → Unframed J → Type 0
+abbrev pub IsUnrun : {J E : Type 0} → RunError E → Unframed J E → Type 0
 IsUnrun e (unframed.Unrun world reservers error) = error ≡ e
 IsUnrun e (unframed.Unended left queues) = ⊥
 IsUnrun e (unframed.Sync world fault queues) = ⊥
 
 -- what holds if no queues were filled
-abbrev pub IfUnrun : {J : Type 0} → (WorldInBlocks → List Reserver → RunError → Type 0) → Unframed J
-    → Type 0
+abbrev pub IfUnrun : {J E : Type 0} → (WorldInBlocks → List Reserver → RunError E → Type 0)
+    → Unframed J E → Type 0
 IfUnrun P (unframed.Unrun world reservers error) = P world reservers.items error
 IfUnrun P (unframed.Unended left queues) = Unit {0}
 IfUnrun P (unframed.Sync world fault queues) = Unit {0}
 
 -- what holds if the world was not closed
-abbrev pub IfUnended : {J : Type 0}
-    → (WorldInBlocks → List Reserver → EndError → List (List Command) → Type 0) → Unframed J
+abbrev pub IfUnended : {J E : Type 0}
+    → (WorldInBlocks → List Reserver → EndError → List (List Command) → Type 0) → Unframed J E
     → Type 0
 IfUnended P (unframed.Unrun world reservers error) = Unit {0}
 IfUnended P (unframed.Unended left queues) =
@@ -36,16 +36,16 @@ IfUnended P (unframed.Unended left queues) =
 IfUnended P (unframed.Sync world fault queues) = Unit {0}
 
 -- what holds if the sync point stopped
-abbrev pub IfSyncStopped : {J : Type 0} → (World → SyncFault → List (List Command) → Type 0)
-    → Unframed J → Type 0
+abbrev pub IfSyncStopped : {J E : Type 0} → (World → SyncFault → List (List Command) → Type 0)
+    → Unframed J E → Type 0
 IfSyncStopped P (unframed.Unrun world reservers error) = Unit {0}
 IfSyncStopped P (unframed.Unended left queues) = Unit {0}
 IfSyncStopped P (unframed.Sync world fault queues) = P world fault queues.items
 
 -- what holds if it stopped at a command
-abbrev pub IfStoppedAt : {J : Type 0} → (World → ℕ → ℕ → ℕ → List (List Command) → Type 0)
-    → Unframed J → Type 0
-IfStoppedAt {J} P unframed = IfSyncStopped {J = J} (λ world fault queues.
+abbrev pub IfStoppedAt : {J E : Type 0} → (World → ℕ → ℕ → ℕ → List (List Command) → Type 0)
+    → Unframed J E → Type 0
+IfStoppedAt {J} {E} P unframed = IfSyncStopped {J = J} {E = E} (λ world fault queues.
     IfStopped {X = World} (Err fault) (λ system command done so_far.
     P world system command done queues)) unframed
 

@@ -33,7 +33,7 @@ pub record AreClaimsRuled (numbers workers : ℕ) (s : State (Unit {0}) (List Cl
   pub claimed : ℕ
   pub within : claimed ≤ numbers
   pub counts : word ≡ claimed + sum_by ended_in s.views
-  -- nobody has ended while a number was left
+  -- no worker has ended while a number was left
   pub none_early : claimed < numbers → sum_by ended_in s.views ≡ 0
   pub partition : (f : ℕ → ℕ) → sum_by (weigh_claims f) s.views
       ≡ sum_by f (range_with_len 0 claimed)
@@ -51,7 +51,7 @@ ClaimTells before found after =
     (after.1 ≡ before.1)
     × ((r : ClaimRecord) → before.0 ≡ r ∷ [] → r.ended ≡ false → AfterClaim r found after.0)
 
--- What the rule says once no thread steps any more, and these records are known.
+-- What the rule says once all threads have stopped, and these records are known.
 pub record AreClaimsClosed (numbers workers : ℕ) (records : List ClaimRecord) : Type 0 where
   pub claimed : ℕ
   pub within : claimed ≤ numbers

@@ -107,8 +107,9 @@ module _ {O : Type 0} where
       ⊎ (length (all_done team) < numbers)
 
   -- The claims are open, the workers are ready for them, and there is room for what they hand back.
-  pub record IsRoom (claims : Claims) (team : List (Worker O)) (claimers : Vec Claimer Global)
-      (by_number : List (Option O)) (outputs : Vec O Global) : Type 0 where
+  pub record IsRoom {P : Type 0} (claims : Claims) (team : List (Worker O))
+      (claimers : Vec Claimer Global) (by_number : List (Option O)) (outputs : Vec P Global)
+      : Type 0 where
     pub some : 0 < claims.workers
     pub count : length team ≡ claims.workers
     pub each : All (λ (w : Worker O). IsClaimerOf claims w.claimer × IsNewWorker w) team

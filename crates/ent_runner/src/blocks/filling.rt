@@ -3,12 +3,14 @@ ghost use Rattle.std.specs.Prelude.{IfErr};
 ghost use Rattle.ent_blocks.specs.Blocks.{blocks_of};
 ghost use Rattle.ent_blocks.specs.Faults.{IsErrWith};
 ghost use Rattle.ent_runner.specs.Blocks.Queues.{HaveIssued, HaveStopped};
+ghost use Rattle.ent_runner.specs.Blocks.Refusing.{IfLost, IfNotLost};
 ghost use Rattle.ent_runner.specs.declared.blocks.run_error.RunError.TheVariants as failed;
 
 use crate::BlockNumbering;
 use crate::blocks::room::{Room, WORKERS, check, prepare};
 use crate::blocks::run_error::RunError;
 use crate::blocks::splitting::split;
+use crate::crew::first_error;
 use crate::frame::gate::NoGate;
 use crate::frame::system::System;
 use crate::stage::BlockStage;
@@ -26,20 +28,21 @@ use std::thread::Threads;
 /// The handles of a system's spawns are the next ones of its block, in the pool's order, whatever
 /// the others do, whichever worker runs it, and however many workers there are.
 ///
-/// A worker takes the next system that nobody has taken yet, until none is left. If a thread can't
-/// be started, another one does its work. One worker starts no thread.
+/// Each worker takes the next system that isn't taken yet, until none is left. If a thread can't be
+/// started, another one does its work. One worker starts no thread.
 ///
 /// # Errors
 ///
-/// [`HandedBack`] has the reservers that are handed back, and the first of these errors that holds.
+/// [`HandedBack`] has the reservers that are handed back, and the first of these errors that
+/// applies.
 ///
 /// - [`RunError::Workers`], [`RunError::Systems`], [`RunError::Reservers`],
-///   [`RunError::OtherPhase`],
-///   [`RunError::Memory`]: no system ran, and the reservers are handed back as they were. No systems
-///   take no memory.
-/// - [`RunError::Lost`]: a system returned an error, or systems are left and no worker has memory
-///   for another one. All queues and reservers are dropped: [`Blocks::close_lost`] ends the phase.
-pub fn fill_in_blocks<R, J: BlockNumbering + Send + Sync, S>(
+///   [`RunError::OtherPhase`], [`RunError::Memory`]: no system ran, and the reservers are handed
+///   back as they were. With no systems, it doesn't allocate.
+/// - [`RunError::Lost`]: a system returned an error, and this has the first one in the order of the
+///   systems. Or some systems didn't run, since no worker has memory for another one: then it has
+///   none. All queues and reservers are dropped: [`Blocks::close_lost`] ends the phase.
+pub fn fill_in_blocks<R, J: BlockNumbering + Send + Sync, S, E>(
     rt: &R,
     alloc: Global,
     blocks: &Blocks<J>,
@@ -47,10 +50,14 @@ pub fn fill_in_blocks<R, J: BlockNumbering + Send + Sync, S>(
     view: View<'_>,
     systems: &[S],
     workers: usize,
-) -> Result<(Vec<CommandQueue>, Vec<BlockReserver<J>>), HandedBack<Vec<BlockReserver<J>>, RunError>>
+) -> Result<
+    (Vec<CommandQueue>, Vec<BlockReserver<J>>),
+    HandedBack<Vec<BlockReserver<J>>, RunError<E>>,
+>
 where
     R: Threads + Sync,
-    S: System<Blocks<J>> + Sync,
+    S: System<Blocks<J>, E> + Sync,
+    E: Drop + Send,
     ensures ok { IfOk result (λ ran. HaveIssued S.may_issue systems.now view.entry blocks.now.phase.start
         (blocks_of reservers.items) ran.0.items (blocks_of ran.1.items)) }
     ensures of { IfOk result (λ ran. All (λ r. r.number ≡ blocks.now.number) ran.1.items) }
@@ -67,15 +74,14 @@ where
         × ¬ (All (λ r. r.number ≡ blocks.now.number) reservers.items)) }
     ensures memory_some { IsErrWith result (λ h. h.error ≡ failed.Memory)
         → 0 < length systems.now }
-    ensures handed_back { IfErr result (λ h. h.error ≢ failed.Lost
-        → h.value.items ≡ reservers.items) }
+    ensures handed_back { IfErr result (λ h.
+        IfNotLost (h.value.items ≡ reservers.items) h.error) }
 
     // What is left if the systems were broken off.
-    ensures lost { IsErrWith result (λ h. h.error ≡ failed.Lost) → HaveStopped S.may_issue
-        S.may_leave systems.now workers view.entry blocks.now.phase.start
-        (blocks_of reservers.items) }
-    ensures lost_some { IsErrWith result (λ h. h.error ≡ failed.Lost) → 0 < length systems.now }
-    ensures lost_reservers { IfErr result (λ h. h.error ≡ failed.Lost → h.value.items ≡ []) }
+    ensures lost { IfErr result (λ h. IfLost (HaveStopped S.may_issue S.may_leave systems.now workers
+        view.entry blocks.now.phase.start (blocks_of reservers.items)) h.error) }
+    ensures lost_some { IfErr result (λ h. IfLost (λ _. 0 < length systems.now) h.error) }
+    ensures lost_reservers { IfErr result (λ h. IfLost (λ _. h.value.items ≡ []) h.error) }
 {
     if let Err(error) = check(blocks, &reservers, systems.len(), workers) {
         return Err(HandedBack::new(reservers, error));
@@ -103,8 +109,9 @@ where
         systems: &issuers,
     };
     let mut nothing = [(); WORKERS];
-    let Ok(done) = crew.work(rt, &mut nothing[..workers], &stage) else {
-        return Err(HandedBack::new(returned, RunError::Lost));
+    let done = match crew.work(rt, &mut nothing[..workers], &stage) {
+        Ok(done) => done,
+        Err(left) => return Err(HandedBack::new(returned, RunError::Lost(first_error(left)))),
     };
     split(done, &mut queues, &mut returned);
     Ok((queues, returned))

@@ -6,6 +6,7 @@ ghost use Rattle.ent_blocks.specs.Faults.{IsErrWith};
 ghost use Rattle.ent_runner.specs.Blocks.Frame.{EndsInBlocks, StopsInBlocks, view_in_blocks};
 ghost use Rattle.ent_runner.specs.Blocks.Queues.{HaveStopped, HaveIssued};
 ghost use Rattle.ent_runner.specs.Blocks.Unframed.{IsUnrun, IfUnrun, IfUnended, IfSyncStopped};
+ghost use Rattle.ent_runner.specs.Blocks.Refusing.{IfLost, IfNotLost};
 ghost use Rattle.ent_runner.specs.Blocks.Unframed.{IfStoppedAt, IsWhyUnended};
 ghost use Rattle.ent_runner.specs.declared.blocks.run_error.RunError.TheVariants as failed;
 ghost use Rattle.ent_world.specs.Memory.{TakesMemoryAt};
@@ -26,21 +27,22 @@ use std::thread::Threads;
 
 /// A frame in blocks that didn't end.
 #[derive(Drop)]
-pub enum Unframed<J: BlockNumbering> {
-    /// The systems filled no queues. The world is as it was opened, and no command was applied.
+pub enum Unframed<J: BlockNumbering, E> {
+    /// The systems filled no queues. The world is as it was when it was opened, and no command was
+    /// applied.
     Unrun {
-        /// The world as it was opened.
+        /// The world as it was when it was opened.
         world: WorldInBlocks<J>,
         /// The reservers that were handed in, as they were. None, if systems ran:
         /// [`WorldInBlocks::close_lost`] ends the phase without them.
         reservers: Vec<BlockReserver<J>>,
         /// Why there are no queues.
-        error: RunError,
+        error: RunError<E>,
     },
     /// All systems ran, and the world was not closed. [`WorldInBlocks::close`] closes it, and
     /// [`World::apply`] does the sync point.
     Unended {
-        /// The world as it was opened, the reservers, and why it wasn't closed.
+        /// The world as it was when it was opened, the reservers, and why it wasn't closed.
         unended: HandedBack<(WorldInBlocks<J>, Vec<BlockReserver<J>>), EndError>,
         /// The queue of each system, in the order of the systems.
         queues: Vec<CommandQueue>,
@@ -66,22 +68,23 @@ pub enum Unframed<J: BlockNumbering> {
 ///
 /// # Errors
 ///
-/// - [`Unframed::Unrun`] as of [`fill_in_blocks`]: no command was applied.
-/// - [`Unframed::Unended`] if all systems ran, and the world was not closed, as of
+/// - [`Unframed::Unrun`] in the cases of [`fill_in_blocks`]: no command was applied.
+/// - [`Unframed::Unended`] if all systems ran, and the world was not closed, in the cases of
 ///   [`WorldInBlocks::close`].
 /// - [`Unframed::Sync`] if all systems ran and memory ran out in the sync point. [`World::apply`]
 ///   or [`World::apply_from`] goes on, as after a frame that isn't in blocks.
-pub fn run_frame_in_blocks<R, J: BlockNumbering + Send + Sync, S>(
+pub fn run_frame_in_blocks<R, J: BlockNumbering + Send + Sync, S, E>(
     rt: &R,
     alloc: Global,
     opened: WorldInBlocks<J>,
     reservers: Vec<BlockReserver<J>>,
     systems: &[S],
     workers: usize,
-) -> Result<(World, FrameReport), Unframed<J>>
+) -> Result<(World, FrameReport), Unframed<J, E>>
 where
     R: Threads + Sync,
-    S: System<Blocks<J>> + Sync,
+    S: System<Blocks<J>, E> + Sync,
+    E: Drop + Send,
     ensures ok { IfOk result (λ ended. EndsInBlocks S.may_issue systems.now opened
         (blocks_of reservers.items) ended.1.queues.items ended.0 ended.1.sync.born.items
         ended.1.sync.faults.items) }
@@ -103,16 +106,16 @@ where
     ensures memory_some { IsErrWith result (IsUnrun failed.Memory) → 0 < length systems.now }
     ensures unrun { IfErr result (IfUnrun (λ world _ _. world ≡ opened)) }
     ensures handed_back { IfErr result (IfUnrun (λ _ left error.
-        error ≢ failed.Lost → left ≡ reservers.items)) }
+        IfNotLost (left ≡ reservers.items) error)) }
 
     // What is left if the systems were broken off.
-    ensures lost { IfErr result (IfUnrun (λ _ _ error. error ≡ failed.Lost
-        → HaveStopped S.may_issue S.may_leave systems.now workers (view_in_blocks opened)
-        opened.blocks.phase.start (blocks_of reservers.items))) }
-    ensures lost_some { IfErr result (IfUnrun (λ _ _ error. error ≡ failed.Lost
-        → 0 < length systems.now)) }
-    ensures lost_reservers { IfErr result (IfUnrun (λ _ left error. error ≡ failed.Lost
-        → left ≡ [])) }
+    ensures lost { IfErr result (IfUnrun (λ _ _ error. IfLost (HaveStopped S.may_issue S.may_leave
+        systems.now workers (view_in_blocks opened) opened.blocks.phase.start
+        (blocks_of reservers.items)) error)) }
+    ensures lost_some { IfErr result (IfUnrun (λ _ _ error.
+        IfLost (λ _. 0 < length systems.now) error)) }
+    ensures lost_reservers { IfErr result (IfUnrun (λ _ left error.
+        IfLost (λ _. left ≡ []) error)) }
 
     // All systems ran, and the world was not closed.
     ensures unended { IfErr result (IfUnended (λ world _ _ _. world ≡ opened)) }

@@ -1,8 +1,9 @@
 //! What systems in blocks need before they run: a reserver each, a crew, and room for what they
 //! hand back.
-ghost use Rattle.std.specs.Prelude.{◌≡◌, ◌≢◌, ◌<◌, ◌≤◌, ◌^◌, ◌↔◌, ◌⊎◌, [], length, All, IfOk, OnOk};
-ghost use Rattle.std.specs.Prelude.{IsErrOf};
+ghost use Rattle.std.specs.Prelude.{◌≡◌, ◌≢◌, ◌<◌, ◌≤◌, ◌^◌, ◌↔◌, ◌⊎◌, [], length, All, IfOk};
+ghost use Rattle.std.specs.Prelude.{IfErr, OnOk, IsErrOf};
 ghost use Rattle.std.specs.Prelude.{IsTrue, vec_capacity};
+ghost use Rattle.ent_runner.specs.Blocks.Refusing.{IfLost};
 ghost use Rattle.ent_runner.specs.Stage.{AreReady};
 ghost use Rattle.ent_runner.specs.declared.blocks.run_error.RunError.TheVariants as failed;
 
@@ -21,8 +22,8 @@ const SYSTEMS: usize = 65_536;
 
 /// A crew whose jobs hand back an `O` each, and a reserver, and a list for all of either.
 #[derive(Drop)]
-pub(super) struct Room<J: BlockNumbering, O> {
-    pub(super) crew: Crew<(O, BlockReserver<J>)>,
+pub(super) struct Room<J: BlockNumbering, O, E> {
+    pub(super) crew: Crew<(O, BlockReserver<J>), E>,
     pub(super) outputs: Vec<O>,
     pub(super) reservers: Vec<BlockReserver<J>>,
 }
@@ -33,12 +34,12 @@ pub(super) struct Room<J: BlockNumbering, O> {
 ///
 /// Any [`RunError`] but [`RunError::Memory`] and [`RunError::Lost`]. Of those, the first that
 /// holds.
-pub(super) fn check<J: BlockNumbering>(
+pub(super) fn check<J: BlockNumbering, E>(
     blocks: &Blocks<J>,
     reservers: &[BlockReserver<J>],
     systems: usize,
     workers: usize,
-) -> Result<(), RunError>
+) -> Result<(), RunError<E>>
     ensures some { OnOk result (0 < workers) }
     ensures few { OnOk result (workers ≤ 64) }
     ensures within { OnOk result (systems ≤ 2 ^ 16) }
@@ -54,7 +55,7 @@ pub(super) fn check<J: BlockNumbering>(
         × (length reservers.now ≡ systems)
         × ¬ (All (λ r. r.number ≡ blocks.now.number) reservers.now)) }
     ensures not_memory { ¬ (IsErrOf result failed.Memory) }
-    ensures not_lost { ¬ (IsErrOf result failed.Lost) }
+    ensures not_lost { IfErr result (IfLost (λ _. ⊥)) }
 {
     if workers == 0 || workers > WORKERS {
         return Err(RunError::Workers);
@@ -75,12 +76,12 @@ pub(super) fn check<J: BlockNumbering>(
 ///
 /// # Errors
 ///
-/// `Memory`, if there is no memory for it.
-pub(super) fn prepare<J: BlockNumbering, O: Drop>(
+/// `Memory`, if there isn't enough memory for it.
+pub(super) fn prepare<J: BlockNumbering, O: Drop, E: Drop>(
     alloc: Global,
     systems: usize,
     workers: usize,
-) -> Result<Room<J, O>, Memory>
+) -> Result<Room<J, O, E>, Memory>
     requires some { 0 < workers }
     requires few { workers ≤ 64 }
     requires within { systems ≤ 2 ^ 16 }

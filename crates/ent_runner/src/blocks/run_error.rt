@@ -1,6 +1,8 @@
-use thiserror::Error;
+use ent_handle::Memory;
+use std::error::Error;
+use std::fmt;
 
-/// Why systems filled no logs.
+/// Why a run of systems returned no logs.
 ///
 /// ```
 /// # #[cfg(feature = "std")] {
@@ -17,26 +19,37 @@ use thiserror::Error;
 /// # }
 /// # Ok::<(), Box<dyn std::error::Error>>(())
 /// ```
-#[derive(Clone, Copy, Debug, PartialEq, Eq, Hash, Error)]
+#[derive(Clone, Copy, Debug, PartialEq, Eq, Hash, Drop)]
 #[non_exhaustive]
-pub enum RunError {
+pub enum RunError<E = Memory> {
     /// The number of workers isn't one from 1 to 64.
-    #[error("a frame has 1 to 64 workers")]
     Workers,
     /// There are more than 65,536 systems.
-    #[error("a frame has at most 65,536 systems")]
     Systems,
     /// There isn't one reserver for each system.
-    #[error("each system has one reserver")]
     Reservers,
     /// One of the reservers is of another phase.
-    #[error("a reserver is of another phase")]
     OtherPhase,
     /// Memory ran out before any system ran.
-    #[error("out of memory before any system ran")]
     Memory,
-    /// A system returned `Memory`, or systems are left and no worker has memory for the log of
-    /// another one. The logs and the reservers are dropped.
-    #[error("out of memory while the systems ran")]
-    Lost,
+    /// A system returned an error, and this is the first one in the order of the systems. Without
+    /// one, some systems didn't run, since no worker has memory for another one. The logs or
+    /// queues and the reservers are dropped.
+    Lost(Option<E>),
 }
+
+impl<E: fmt::Display> fmt::Display for RunError<E> {
+    fn fmt<W: fmt::Write>(&self, f: &mut fmt::Formatter<W>) -> fmt::Result {
+        match self {
+            RunError::Workers => f.write_str("a frame has 1 to 64 workers"),
+            RunError::Systems => f.write_str("a frame has at most 65,536 systems"),
+            RunError::Reservers => f.write_str("each system has one reserver"),
+            RunError::OtherPhase => f.write_str("a reserver is of another phase"),
+            RunError::Memory => f.write_str("out of memory before any system ran"),
+            RunError::Lost(None) => f.write_str("out of memory while the systems ran"),
+            RunError::Lost(Some(error)) => write!(f, "a system stopped: {error}"),
+        }
+    }
+}
+
+impl<E: fmt::Debug + fmt::Display + Drop> Error for RunError<E> {}

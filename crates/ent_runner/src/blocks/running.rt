@@ -3,12 +3,14 @@ ghost use Rattle.std.specs.Prelude.{IfErr};
 ghost use Rattle.ent_blocks.specs.Blocks.{blocks_of};
 ghost use Rattle.ent_blocks.specs.Faults.{IsErrWith};
 ghost use Rattle.ent_runner.specs.Blocks.{HaveFilled, IsBrokenOff};
+ghost use Rattle.ent_runner.specs.Blocks.Refusing.{IfLost, IfNotLost};
 ghost use Rattle.ent_runner.specs.declared.blocks.run_error.RunError.TheVariants as failed;
 
 use crate::BlockNumbering;
 use crate::blocks::room::{Room, WORKERS, check, prepare};
 use crate::blocks::run_error::RunError;
 use crate::blocks::splitting::split;
+use crate::crew::first_error;
 use crate::logs::system::LogSystem;
 use crate::stage::BlockStage;
 use crate::systems::Loggers;
@@ -25,8 +27,8 @@ use std::thread::Threads;
 /// the others do, whichever worker runs it, and however many workers there are. So if what a system
 /// does follows from what it sees, all logs are the same each time, handles included.
 ///
-/// A worker takes the next system that nobody has taken yet, until none is left. If a thread can't
-/// be started, another one does its work. One worker starts no thread.
+/// Each worker takes the next system that isn't taken yet, until none is left. If a thread can't be
+/// started, another one does its work. One worker starts no thread.
 ///
 /// ```
 /// # #[cfg(feature = "std")] {
@@ -47,33 +49,59 @@ use std::thread::Threads;
 /// # Ok::<(), Box<dyn std::error::Error + Send + Sync>>(())
 /// ```
 ///
+/// If a system returns an error, the reservers are lost, and `close_lost` ends the phase:
+///
+/// ```
+/// # #[cfg(feature = "std")] {
+/// use forgeni::{run_in_blocks, BlockCommands, Entities, OutOfMemory, RunError, StdThreads};
+///
+/// fn fails(commands: &mut BlockCommands<'_, ()>) -> Result<(), OutOfMemory> {
+///     let _reserved = commands.spawn();
+///     Err(OutOfMemory)
+/// }
+///
+/// let (blocks, reservers) = Entities::new().open_in_blocks(&[2, 2])?;
+/// let run = run_in_blocks(&StdThreads, &blocks, reservers, &[fails; 2], 1);
+/// let (reservers, error) = run.err().ok_or("it ran")?.into_parts();
+/// assert_eq!((reservers.len(), error), (0, RunError::Lost(Some(OutOfMemory))));
+///
+/// // The blocks count as used up, so a flush brings all of their handles to life.
+/// let mut entities = blocks.close_lost(reservers)?;
+/// entities.flush(&mut Vec::new())?;
+/// assert_eq!(entities.len(), 4);
+/// # }
+/// # Ok::<(), Box<dyn std::error::Error + Send + Sync>>(())
+/// ```
+///
 /// # Errors
 ///
-/// [`HandedBack`] has the reservers that are handed back, and the first of these errors that holds.
+/// [`HandedBack`] has the reservers that are handed back, and the first of these errors that
+/// applies.
 ///
 /// - [`RunError::Workers`], [`RunError::Systems`], [`RunError::Reservers`],
-///   [`RunError::OtherPhase`],
-///   [`RunError::Memory`]: no system ran, and the reservers are handed back as they were. No systems
-///   take no memory.
-/// - [`RunError::Lost`]: a system returned an error, or systems are left and no worker has memory
-///   for another one. All logs and reservers are dropped: [`Blocks::close_lost`] ends the phase.
+///   [`RunError::OtherPhase`], [`RunError::Memory`]: no system ran, and the reservers are handed
+///   back as they were. With no systems, it doesn't allocate.
+/// - [`RunError::Lost`]: a system returned an error, and this has the first one in the order of the
+///   systems. Or some systems didn't run, since no worker has memory for another one: then it has
+///   none. All logs and reservers are dropped: [`Blocks::close_lost`] ends the phase.
 ///
 /// # Panics
 ///
-/// A panic of a system is handed on when all workers have ended. Logs and reservers are dropped
-/// then too.
-pub fn run_in_blocks<R, J: BlockNumbering + Send + Sync, C, S>(
+/// If a system panics, the panic is propagated when all workers have ended. Logs and reservers are
+/// dropped then too.
+pub fn run_in_blocks<R, J: BlockNumbering + Send + Sync, C, S, E>(
     rt: &R,
     alloc: Global,
     blocks: &Blocks<J>,
     reservers: Vec<BlockReserver<J>>,
     systems: &[S],
     workers: usize,
-) -> Result<(Vec<Log<C>>, Vec<BlockReserver<J>>), HandedBack<Vec<BlockReserver<J>>, RunError>>
+) -> Result<(Vec<Log<C>>, Vec<BlockReserver<J>>), HandedBack<Vec<BlockReserver<J>>, RunError<E>>>
 where
     R: Threads + Sync,
     C: Drop + Send,
-    S: LogSystem<C, Blocks<J>> + Sync,
+    S: LogSystem<C, Blocks<J>, E> + Sync,
+    E: Drop + Send,
     ensures ok { IfOk result (λ ran. HaveFilled S.may_log systems.now blocks.now.phase.start.pool
         (blocks_of reservers.items) ran.0.items (blocks_of ran.1.items)) }
     ensures of { IfOk result (λ ran. All (λ r. r.number ≡ blocks.now.number) ran.1.items) }
@@ -90,14 +118,14 @@ where
         × ¬ (All (λ r. r.number ≡ blocks.now.number) reservers.items)) }
     ensures memory_some { IsErrWith result (λ h. h.error ≡ failed.Memory)
         → 0 < length systems.now }
-    ensures handed_back { IfErr result (λ h. h.error ≢ failed.Lost
-        → h.value.items ≡ reservers.items) }
+    ensures handed_back { IfErr result (λ h.
+        IfNotLost (h.value.items ≡ reservers.items) h.error) }
 
     // What is left if the systems were broken off.
-    ensures lost { IsErrWith result (λ h. h.error ≡ failed.Lost) → IsBrokenOff S.may_log S.may_leave
-        systems.now workers blocks.now.phase.start.pool (blocks_of reservers.items) }
-    ensures lost_some { IsErrWith result (λ h. h.error ≡ failed.Lost) → 0 < length systems.now }
-    ensures lost_reservers { IfErr result (λ h. h.error ≡ failed.Lost → h.value.items ≡ []) }
+    ensures lost { IfErr result (λ h. IfLost (IsBrokenOff S.may_log S.may_leave systems.now workers
+        blocks.now.phase.start.pool (blocks_of reservers.items)) h.error) }
+    ensures lost_some { IfErr result (λ h. IfLost (λ _. 0 < length systems.now) h.error) }
+    ensures lost_reservers { IfErr result (λ h. IfLost (λ _. h.value.items ≡ []) h.error) }
 {
     if let Err(error) = check(blocks, &reservers, systems.len(), workers) {
         return Err(HandedBack::new(reservers, error));
@@ -121,8 +149,9 @@ where
         systems: &loggers,
     };
     let mut nothing = [(); WORKERS];
-    let Ok(done) = crew.work(rt, &mut nothing[..workers], &stage) else {
-        return Err(HandedBack::new(returned, RunError::Lost));
+    let done = match crew.work(rt, &mut nothing[..workers], &stage) {
+        Ok(done) => done,
+        Err(left) => return Err(HandedBack::new(returned, RunError::Lost(first_error(left)))),
     };
     split(done, &mut logs, &mut returned);
     Ok((logs, returned))

@@ -44,7 +44,7 @@ impl Claims {
     ///
     /// # Errors
     ///
-    /// [`Memory`] if there is no memory for them. Nothing is left of them then.
+    /// [`Memory`] if there isn't enough memory for them. Nothing is left of them then.
     pub fn open(
         alloc: Global,
         numbers: usize,
@@ -69,9 +69,9 @@ impl Claims {
         Ok((Claims { word, numbers }, claimers))
     }
 
-    /// Claims the next number that nobody has claimed yet, by one atomic step. `None` means that
-    /// no number is left, and the claimer has ended: from then on it returns `None` without a step.
-    /// It takes no memory and waits for nobody.
+    /// Claims the next number that isn't claimed yet, by one atomic step. `None` means that no
+    /// number is left, and the claimer has ended: from then on it returns `None` without a step. It
+    /// neither allocates nor waits.
     pub fn next(&self, claimer: &mut Claimer) -> Option<usize>
         requires { IsClaimerOf self.now claimer.old }
         ensures stays { IsClaimerOf self.now claimer.new }
@@ -99,7 +99,7 @@ impl Claims {
         }
     }
 
-    /// Ends the claiming, with all its claimers. It takes no memory.
+    /// Ends the claiming, with all its claimers. It doesn't allocate.
     pub fn close(self, claimers: Vec<Claimer>)
         requires all { length claimers.items ≡ self.workers }
         requires own { All (IsClaimerOf self) claimers.items }

@@ -1,7 +1,7 @@
 //! The outputs that workers hand back are put at the numbers of their jobs.
-ghost use Rattle.std.specs.Prelude.{◌≡◌, ◌<◌, ◌≤◌, [], length, map, All, IsSome, Some, slice_set};
+ghost use Rattle.std.specs.Prelude.{◌≡◌, ◌<◌, ◌≤◌, [], length, All, IsSome, Some, slice_set};
 ghost use Rattle.std.specs.Prelude.{vec_capacity};
-ghost use Rattle.ent_runner.specs.Crew.Collecting.{outputs_put};
+ghost use Rattle.ent_runner.specs.Crew.Collecting.{AreCollected, outputs_put};
 
 use crate::crew::worker::Done;
 
@@ -24,14 +24,18 @@ fn put<O: Drop>(done: Done<O>, by_number: &mut [Option<O>])
 }
 
 /// Moves the outputs into this list, which has room for them, in the order of the jobs.
-pub(super) fn collect<O: Drop>(by_number: Vec<Option<O>>, mut outputs: Vec<O>) -> Vec<O>
+pub(super) fn collect<O: Drop, E: Drop>(
+    by_number: Vec<Option<(O, Option<E>)>>,
+    mut outputs: Vec<O>,
+) -> Vec<O>
     requires all { All IsSome by_number.items }
     requires empty { outputs.items ≡ [] }
     requires room { length by_number.items ≤ vec_capacity outputs }
-    ensures { map Some result.items ≡ by_number.items }
+    ensures { AreCollected by_number.items [] result.items }
 {
-    for output in by_number {
-        outputs.push_reserved(output.unwrap());
+    for made in by_number {
+        let (output, _) = made.unwrap();
+        outputs.push_reserved(output);
     }
     outputs
 }

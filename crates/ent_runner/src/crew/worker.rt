@@ -1,5 +1,5 @@
 //! Workers: each claims jobs, one after the other, does them, and keeps their outputs.
-ghost use Rattle.std.specs.Prelude.{◌≡◌, ◌<◌, ◌≤◌, OnOk, OnErr};
+ghost use Rattle.std.specs.Prelude.{◌≡◌, ◌<◌, ◌≤◌, true, false};
 ghost use Rattle.ent_runner.specs.Crew.Claims.{IsClaimerOf};
 ghost use Rattle.ent_runner.specs.Crew.Worker.{numbers_of, IsNewWorker, IsThrough, HaveEnded};
 ghost use Rattle.ent_runner.specs.Crew.Worker.{HasStoppedAt, HasWorked, AreReady, HaveAllWorked};
@@ -7,8 +7,7 @@ ghost use denote.Param.Send.{IsSync, IsSend};
 
 use crate::crew::claimer::Claimer;
 use crate::crew::claims::Claims;
-use crate::crew::jobs::Jobs;
-use ent_handle::Memory;
+use crate::crew::steps::Steps;
 use std::thread::{Threads, join_mut};
 
 /// What the workers of a crew have in common.
@@ -32,14 +31,15 @@ pub(super) struct Worker<O> {
     /// The outputs of the jobs that it did, in the order of the claims. If a job stopped, its
     /// output is the last one.
     pub(super) done: Vec<Done<O>>,
-    /// Its last job ran out of memory, so it has claimed no more.
+    /// Its last job stopped, so it has claimed no more.
     pub(super) stopped: bool,
 }
 
 impl<O: Drop> Worker<O> {
-    /// Does the jobs that it claims, until none is left. It claims one only if there is room for
-    /// its output, as there is for the first one. If not, other workers do what is left.
-    fn work<L, J: Jobs<O, L>>(&mut self, site: &Site<'_, J>, lent: &mut L) -> Result<(), Memory>
+    /// Does the jobs that it claims, until none is left or one stops. It claims one only if there is
+    /// room for its output, as there is for the first one. If not, other workers do what is left.
+    /// Returns whether its last job stopped.
+    fn work<L, J: Steps<O, L>>(&mut self, site: &Site<'_, J>, lent: &mut L) -> bool
         requires jobs { site.now.claims.now.numbers ≡ J.count site.now.jobs.now }
         requires lent { J.may_have site.now.jobs.now lent.old }
         requires claimer { IsClaimerOf site.now.claims.now self.old.claimer }
@@ -47,26 +47,28 @@ impl<O: Drop> Worker<O> {
         ensures lent { J.may_have site.now.jobs.now lent.new }
         ensures claimer { IsClaimerOf site.now.claims.now self.new.claimer }
         ensures claimed { numbers_of self.new.done.items ≡ self.new.claimer.own.claims }
-        ensures ended { OnOk result (HaveEnded (J.may_do site.now.jobs.now) lent.old
-            self.new.done.items lent.new) }
-        ensures through { OnOk result (IsThrough self.new) }
-        ensures stopped { OnErr result (HasStoppedAt (J.may_do site.now.jobs.now)
-            (J.may_leave site.now.jobs.now) lent.old self.new.done.items lent.new) }
+        ensures ended { result ≡ false → HaveEnded (J.may_do site.now.jobs.now) lent.old
+            self.new.done.items lent.new }
+        ensures through { result ≡ false → IsThrough self.new }
+        ensures stopped { result ≡ true → HasStoppedAt (J.may_do site.now.jobs.now)
+            (J.may_leave site.now.jobs.now) lent.old self.new.done.items lent.new }
         ensures flag { self.new.stopped ≡ self.old.stopped }
     {
         while let Some(number) = site.claims.next(&mut self.claimer) {
-            let (output, ran) = site.jobs.run(number, lent);
+            let (output, stopped) = site.jobs.do_job(number, lent);
             self.done.push_reserved(Done { number, output });
-            ran?;
+            if stopped {
+                return true;
+            }
             if self.done.reserve(1).is_err() {
-                return Ok(());
+                return false;
             }
         }
-        Ok(())
+        false
     }
 
     /// Works, and remembers if its last job stopped.
-    fn run<L, J: Jobs<O, L>>(&mut self, site: &Site<'_, J>, lent: &mut L)
+    fn run<L, J: Steps<O, L>>(&mut self, site: &Site<'_, J>, lent: &mut L)
         requires jobs { site.now.claims.now.numbers ≡ J.count site.now.jobs.now }
         requires lent { J.may_have site.now.jobs.now lent.old }
         requires claimer { IsClaimerOf site.now.claims.now self.old.claimer }
@@ -74,7 +76,7 @@ impl<O: Drop> Worker<O> {
         ensures { HasWorked (J.may_do site.now.jobs.now) (J.may_leave site.now.jobs.now)
             (J.may_have site.now.jobs.now) site.now.claims.now lent.old lent.new self.new }
     {
-        self.stopped = self.work(site, lent).is_err();
+        self.stopped = self.work(site, lent);
     }
 }
 
@@ -107,7 +109,7 @@ where
     R: Threads + Sync,
     O: Drop + Send,
     L: Send,
-    J: Jobs<O, L> + Sync,
+    J: Steps<O, L> + Sync,
     requires jobs { site.now.claims.now.numbers ≡ J.count site.now.jobs.now }
     requires ready { AreReady (J.may_have site.now.jobs.now) site.now.claims.now lent.old workers.old }
     ensures { HaveAllWorked (J.may_do site.now.jobs.now) (J.may_leave site.now.jobs.now)
@@ -144,7 +146,7 @@ where
     R: Threads + Sync,
     O: Drop + Send,
     L: Send,
-    J: Jobs<O, L> + Sync,
+    J: Steps<O, L> + Sync,
     requires jobs { site.now.claims.now.numbers ≡ J.count site.now.jobs.now }
     requires front { AreReady (J.may_have site.now.jobs.now) site.now.claims.now first.old front.old }
     requires back { AreReady (J.may_have site.now.jobs.now) site.now.claims.now second.old back.old }

@@ -1,6 +1,8 @@
+use ent_handle::Memory;
 use ent_queue::CommandQueue;
 use ent_world::{SyncFault, SyncReport};
-use thiserror::Error;
+use std::error::Error;
+use std::fmt;
 
 /// What a frame has done.
 ///
@@ -28,18 +30,16 @@ pub struct FrameReport {
 }
 
 /// Why a frame stopped.
-#[derive(Drop, Debug, Error)]
-pub enum FrameFault {
+#[derive(Drop, Debug)]
+pub enum FrameFault<E = Memory> {
     /// Memory ran out before any system ran. The world is as it was.
-    #[error("out of memory before any system ran")]
     Memory,
-    /// A system returned `Memory`, or systems are left and no worker has memory for the queue of
-    /// another one. No command was applied. The handles that the systems reserved stay reserved,
-    /// and no others: the next flush brings them to life, without components.
-    #[error("out of memory while the systems ran")]
-    Lost,
+    /// A system returned an error, and this is the first one in the order of the systems. Without
+    /// one, some systems didn't run, since no worker has memory for the queue of another one. No
+    /// command was applied. The handles that the systems reserved stay reserved, and no others:
+    /// the next flush brings them to life, without components.
+    Lost(Option<E>),
     /// All systems ran, and the sync point stopped.
-    #[error("the sync point stopped: {fault}")]
     Sync {
         /// What came of the sync point.
         fault: SyncFault,
@@ -47,3 +47,16 @@ pub enum FrameFault {
         queues: Vec<CommandQueue>,
     },
 }
+
+impl<E: fmt::Display> fmt::Display for FrameFault<E> {
+    fn fmt<W: fmt::Write>(&self, f: &mut fmt::Formatter<W>) -> fmt::Result {
+        match self {
+            FrameFault::Memory => f.write_str("out of memory before any system ran"),
+            FrameFault::Lost(None) => f.write_str("out of memory while the systems ran"),
+            FrameFault::Lost(Some(error)) => write!(f, "a system stopped: {error}"),
+            FrameFault::Sync { fault, .. } => write!(f, "the sync point stopped: {fault}"),
+        }
+    }
+}
+
+impl<E: fmt::Debug + fmt::Display + Drop> Error for FrameFault<E> {}

@@ -5,7 +5,7 @@ ghost use Rattle.std.specs.Prelude.{IfOk, IfErr, IsErrAnd, OnErr, None};
 ghost use Rattle.ent_alloc.specs.Sequential.{made_at_flush};
 ghost use Rattle.ent_alloc.specs.Sound.{IsLive};
 ghost use Rattle.ent_log.specs.Logs.{entries_of, spawned_in, first_unreserved};
-ghost use Rattle.ent_runner.specs.Logs.{HaveBegun, HaveLogged, IsBrokenOff};
+ghost use Rattle.ent_runner.specs.Logs.{HaveBegun, HaveLogged, IfLost, IfNotLost, IsBrokenOff};
 ghost use Rattle.ent_runner.specs.declared.logs.log_error.LogError.TheVariants as failed;
 
 use crate::logs::log_error::LogError;
@@ -28,23 +28,25 @@ use std::thread::Threads;
 /// # Errors
 ///
 /// [`HandedBack`] has the logs that the sync point did not take, and the first of these errors that
-/// holds. The list is as it was.
+/// applies. The list is as it was.
 ///
 /// - Those of [`run_logs`]. There are no logs.
-/// - [`LogError::Unborn`]: all systems ran, and there is no memory for what is born. The logs are
-///   those of all systems, for [`SyncPoint::begin`]. What the systems reserved stays reserved.
-pub fn run_to_sync_point<R, C, S>(
+/// - [`LogError::Unborn`]: all systems ran, and there isn't enough memory for what is born. The
+///   logs are those of all systems, for [`SyncPoint::begin`]. What the systems reserved stays
+///   reserved.
+pub fn run_to_sync_point<R, C, S, E>(
     rt: &R,
     alloc: Global,
     entities: &mut Entities,
     systems: &[S],
     workers: usize,
     out: &mut Vec<Handle>,
-) -> Result<SyncPoint<C>, HandedBack<Vec<Log<C>>, LogError>>
+) -> Result<SyncPoint<C>, HandedBack<Vec<Log<C>>, LogError<E>>>
 where
     R: Threads + Sync,
     C: Drop + Send,
-    S: LogSystem<C, Shared> + Sync,
+    S: LogSystem<C, Shared, E> + Sync,
+    E: Drop + Send,
     ensures ok { IfOk result (λ point. HaveBegun S.may_log systems.now workers
         entities.old.allocator out.old.items point entities.new.allocator out.new.items) }
     ensures alive { IfOk result (λ point. All (IsLive entities.new.allocator) (spawned_in point)) }
@@ -58,15 +60,15 @@ where
         × (2 ^ 16 < length systems.now)) }
     ensures memory_some { IsErrAnd result (λ h. h.error ≡ failed.Memory)
         → 0 < length systems.now }
-    ensures nothing { IfErr result (λ h. h.error ≢ failed.Lost → h.error ≢ failed.Unborn
-        → entities.new ≡ entities.old) }
+    ensures nothing { IfErr result (λ h. h.error ≢ failed.Unborn
+        → IfNotLost (entities.new ≡ entities.old) h.error) }
     ensures none { IfErr result (λ h. h.error ≢ failed.Unborn → h.value.items ≡ []) }
     ensures unlisted { OnErr result (out.new.items ≡ out.old.items) }
 
     // What is left of a run that was broken off.
-    ensures lost { IsErrAnd result (λ h. h.error ≡ failed.Lost) → IsBrokenOff S.may_log S.may_leave
-        systems.now workers entities.old.allocator entities.new.allocator }
-    ensures lost_some { IsErrAnd result (λ h. h.error ≡ failed.Lost) → 0 < length systems.now }
+    ensures lost { IfErr result (λ h. IfLost (IsBrokenOff S.may_log S.may_leave systems.now workers
+        entities.old.allocator entities.new.allocator) h.error) }
+    ensures lost_some { IfErr result (λ h. IfLost (λ _. 0 < length systems.now) h.error) }
 
     // What holds if only what was reserved isn't born.
     ensures unborn { IfErr result (λ h. h.error ≡ failed.Unborn → HaveLogged S.may_log systems.now

@@ -4,7 +4,7 @@ ghost use Rattle.ent_storage.specs.Slots.{entries_from, AreCounted};
 use crate::handle_map::slot::Slot;
 use ent_handle::Handle;
 
-/// Moves all values to the end of a list that has room for them, by rising slot. There are so many.
+/// Moves all values to the end of a list that has room for them, in slot order. There are so many.
 pub(super) fn move_values<T: Drop>(slots: Vec<Slot<T>>, len: usize, out: &mut Vec<(Handle, T)>)
     requires counted { AreCounted 0 slots.items len }
     requires room { vec_len out.old + len ≤ vec_capacity out.old }

@@ -9,9 +9,9 @@ use crate::handle_map::{HandleMap, InsertError};
 use ent_handle::{HandedBack, Handle};
 use std::mem;
 
-/// What a map has for one handle: a value, or none.
+/// A view into the entry of one handle in a map, which is occupied or vacant.
 ///
-/// [`HandleMap::entry`](super::HandleMap::entry) makes it, and an example is there.
+/// It is created by [`HandleMap::entry`](super::HandleMap::entry), which has an example.
 ///
 /// ```
 /// use forgeni::handle_map::{Entry, HandleMap};
@@ -32,7 +32,7 @@ pub enum Entry<'a, T> {
     Vacant(VacantEntry<'a, T>),
 }
 
-/// A handle that has a value, with its map.
+/// A view into an occupied entry: a handle that has a value, and its map.
 ///
 /// ```
 /// use forgeni::handle_map::{Entry, HandleMap};
@@ -56,7 +56,7 @@ pub struct OccupiedEntry<'a, T> {
     ghost present: { IsSome (finite.get map.now.values handle) },
 }
 
-/// A handle that has no value, with its map.
+/// A view into a vacant entry: a handle that has no value, and its map.
 ///
 /// ```
 /// use forgeni::handle_map::{Entry, HandleMap};
@@ -79,14 +79,14 @@ impl<'a, T: Drop> Entry<'a, T> {
     ghost use Rattle.ent_storage.specs.Entry.{entry_handle, entry_map, entry_ref, entry_value};
     ghost use Rattle.ent_storage.specs.Entry.{entry_lends, Gives, IsRefusal};
 
-    /// The handle.
+    /// Returns the handle.
     ///
     /// ```
     /// use forgeni::HandleMap;
     ///
     /// let mut names: HandleMap<String> = HandleMap::new();
     /// let entry = names.entry("3v2".parse()?);
-    /// // A name for whoever has none.
+    /// // A name for an entity that has none.
     /// let name = format!("entity {}", entry.handle());
     /// assert_eq!(entry.or_insert(name)?, "entity 3v2");
     /// # Ok::<(), Box<dyn std::error::Error>>(())
@@ -101,7 +101,8 @@ impl<'a, T: Drop> Entry<'a, T> {
         }
     }
 
-    /// The value of the handle. If it has none, it is given this one.
+    /// Returns a mutable reference to the handle's value. If the handle has none, it gets this one
+    /// first.
     ///
     /// ```
     /// use forgeni::HandleMap;
@@ -132,7 +133,8 @@ impl<'a, T: Drop> Entry<'a, T> {
         }
     }
 
-    /// The value of the handle. If it has none, it is given the one that `make` returns.
+    /// Returns a mutable reference to the handle's value. If the handle has none, it first gets the
+    /// one that `make` returns.
     ///
     /// ```
     /// use forgeni::HandleMap;
@@ -152,7 +154,7 @@ impl<'a, T: Drop> Entry<'a, T> {
     ///
     /// # Panics
     ///
-    /// A panic of `make` is handed on. Nothing has changed.
+    /// A panic in `make` is propagated. Nothing has changed.
     pub fn or_insert_with<F: FnOnce() -> T>(
         self,
         make: F,
@@ -189,7 +191,8 @@ impl<'a, T: Drop> Entry<'a, T> {
     ///
     /// # Panics
     ///
-    /// A panic of `change` is handed on. The value stays, as far as `change` had changed it.
+    /// A panic in `change` is propagated. The value stays, with the changes that `change` had made
+    /// to it.
     #[must_use]
     pub fn and_modify<F: FnOnce(&mut T)>(self, change: F) -> Entry<'a, T>
         requires { F.IsAlwaysCallable change }
@@ -213,7 +216,18 @@ impl<'a, T: Drop> OccupiedEntry<'a, T> {
     ghost use Rattle.ent_storage.specs.Entry.{Occupied, entry_handle, entry_map, entry_value};
     ghost use Rattle.ent_storage.specs.Entry.{occupied_lends, lends_in, with_value, IsWritten};
 
-    /// The handle.
+    /// Returns the handle.
+    ///
+    /// ```
+    /// use forgeni::handle_map::{Entry, HandleMap};
+    ///
+    /// let cart = "3v2".parse()?;
+    /// let mut names = HandleMap::from([(cart, "cart")]);
+    /// if let Entry::Occupied(entry) = names.entry(cart) {
+    ///     assert_eq!(entry.handle(), cart);
+    /// }
+    /// # Ok::<(), forgeni::ParseHandleError>(())
+    /// ```
     #[must_use]
     pub fn handle(&self) -> Handle
         ensures { result ≡ entry_handle (Occupied self.now) }
@@ -221,7 +235,18 @@ impl<'a, T: Drop> OccupiedEntry<'a, T> {
         self.handle
     }
 
-    /// The value.
+    /// Returns a reference to the value.
+    ///
+    /// ```
+    /// use forgeni::handle_map::{Entry, HandleMap};
+    ///
+    /// let cart = "3v2".parse()?;
+    /// let mut names = HandleMap::from([(cart, "cart")]);
+    /// if let Entry::Occupied(entry) = names.entry(cart) {
+    ///     assert_eq!(entry.get(), &"cart");
+    /// }
+    /// # Ok::<(), forgeni::ParseHandleError>(())
+    /// ```
     #[must_use]
     pub fn get(&self) -> &T
         ensures { entry_value (Occupied self.now) ≡ Some result.now }
@@ -232,7 +257,19 @@ impl<'a, T: Drop> OccupiedEntry<'a, T> {
         value
     }
 
-    /// The value, to be changed.
+    /// Returns a mutable reference to the value.
+    ///
+    /// ```
+    /// use forgeni::handle_map::{Entry, HandleMap};
+    ///
+    /// let cart = "3v2".parse()?;
+    /// let mut hits = HandleMap::from([(cart, 3)]);
+    /// if let Entry::Occupied(mut entry) = hits.entry(cart) {
+    ///     *entry.get_mut() += 1;
+    /// }
+    /// assert_eq!(hits[cart], 4);
+    /// # Ok::<(), forgeni::ParseHandleError>(())
+    /// ```
     #[must_use]
     pub fn get_mut(&mut self) -> &mut T
         ensures* writes_back { sem 𝓛 (lends_in T.row self.entry result) }
@@ -243,7 +280,8 @@ impl<'a, T: Drop> OccupiedEntry<'a, T> {
         self.map.value_mut(handle)
     }
 
-    /// The value, to be changed for as long as the map is lent.
+    /// Converts the entry into a mutable reference to the value, which lives as long as the borrow
+    /// of the map.
     ///
     /// ```
     /// use forgeni::handle_map::{Entry, HandleMap};
@@ -324,7 +362,17 @@ impl<'a, T: Drop> VacantEntry<'a, T> {
     ghost use Rattle.ent_storage.specs.Entry.{Vacant, entry_handle, entry_lends, entry_map};
     ghost use Rattle.ent_storage.specs.Entry.{IsRefusal};
 
-    /// The handle.
+    /// Returns the handle.
+    ///
+    /// ```
+    /// use forgeni::handle_map::{Entry, HandleMap};
+    ///
+    /// let mut names: HandleMap<&str> = HandleMap::new();
+    /// if let Entry::Vacant(entry) = names.entry("3v2".parse()?) {
+    ///     assert_eq!(entry.handle().index(), 3);
+    /// }
+    /// # Ok::<(), forgeni::ParseHandleError>(())
+    /// ```
     #[must_use]
     pub fn handle(&self) -> Handle
         ensures { result ≡ entry_handle (Vacant self.now) }

@@ -7,9 +7,10 @@ use ent_handle::Handle;
 use std::marker::Model;
 use std::slice;
 
-/// The handles and values of a map, by rising slot.
+/// An iterator over the handles and values of a map, in slot order.
 ///
-/// [`HandleMap::iter`](super::HandleMap::iter) makes it. It borrows the map and copies nothing.
+/// It is created by [`HandleMap::iter`](super::HandleMap::iter). It borrows the map and copies
+/// nothing.
 ///
 /// ```
 /// use forgeni::HandleMap;
@@ -62,7 +63,7 @@ impl<'a, T> Iter<'a, T> {
         }
     }
 
-    /// The same entries once more. It takes no memory.
+    /// The same entries once more. It doesn't allocate.
     pub(super) fn again(&self) -> Self
         ensures { result ≡ self.now }
     {

@@ -6,9 +6,10 @@ use crate::handle_map::iter::Iter;
 use ent_handle::Handle;
 use std::marker::Model;
 
-/// The handles of a map that have a value, by rising slot.
+/// An iterator over the handles of a map that have a value, in slot order.
 ///
-/// [`HandleMap::keys`](super::HandleMap::keys) makes it. It borrows the map and copies nothing.
+/// It is created by [`HandleMap::keys`](super::HandleMap::keys). It borrows the map and copies
+/// nothing.
 ///
 /// ```
 /// use forgeni::{Entities, HandleMap};
@@ -48,7 +49,7 @@ impl<'a, T> Keys<'a, T> {
         Keys { entries }
     }
 
-    /// The same handles once more. It takes no memory.
+    /// The same handles once more. It doesn't allocate.
     fn again(&self) -> Self
         ensures { result ≡ self.now }
     {

@@ -5,7 +5,7 @@ ghost use Rattle.ent_storage.specs.Slots.{entries_from, count_at, AreCounted};
 use crate::handle_map::slot::Slot;
 use ent_handle::Handle;
 
-/// Calls `keep` at each value, by rising slot. Where it returns `false`, the slot is vacant then.
+/// Calls `keep` at each value, in slot order. Where it returns `false`, the slot is vacant then.
 /// `len` is always how many values there are.
 pub(super) fn retain_slots<T: Drop, F: FnMut(Handle, &mut T) -> bool>(
     slots: &mut Vec<Slot<T>>,

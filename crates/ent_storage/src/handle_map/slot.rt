@@ -1,4 +1,4 @@
-ghost use Rattle.std.specs.Prelude.{◌≡◌, ◌+◌, ◌-◌, ◌^◌, ◌<◌, ◌≤◌, Some, OnOk, OnErr};
+ghost use Rattle.std.specs.Prelude.{◌≡◌, ◌↔◌, ◌+◌, ◌-◌, ◌^◌, ◌<◌, ◌≤◌, IsTrue, Some, OnOk, OnErr};
 ghost use Rattle.std.specs.Prelude.{IsSome, length, option_copied, vec_capacity};
 ghost use Rattle.std.specs.Borrow.{Lends, sem};
 ghost use Rattle.ent_storage.specs.Slots.{generation_of, handle_in, any_value, value_under};
@@ -10,7 +10,7 @@ use crate::handle_map::generation::Generation;
 use ent_handle::Handle;
 use std::alloc::AllocError;
 
-/// What stands in a slot.
+/// What is in a slot.
 #[derive(Clone, Copy, Drop)]
 pub(crate) enum Slot<T> {
     /// No value.
@@ -51,13 +51,13 @@ impl<T> Slot<T> {
         }
     }
 
-    /// How many values it lacks: 1 if there is none.
-    pub(super) fn lacking(&self) -> usize
-        ensures { result + count_at self.now ≡ 1 }
+    /// Whether it has no value.
+    pub(super) fn is_vacant(&self) -> bool
+        ensures { IsTrue result ↔ (count_at self.now ≡ 0) }
     {
         match self {
-            Slot::Vacant => 1,
-            Slot::Occupied { .. } => 0,
+            Slot::Vacant => true,
+            Slot::Occupied { .. } => false,
         }
     }
 
@@ -113,27 +113,13 @@ impl<T> Slot<T> {
     }
 }
 
-/// Makes the slot of an index, and all before it. Those that are new are vacant.
-pub(super) fn make_slot<T>(slots: &mut Vec<Slot<T>>, index: usize) -> Result<(), AllocError>
-    requires { index < 2 ^ 32 - 1 }
-    ensures ok { OnOk result (slots.new.items ≡ padded slots.old.items (index + 1)) }
-    ensures err { OnErr result (slots.new.items ≡ slots.old.items) }
-    ensures capacity { vec_capacity slots.old ≤ vec_capacity slots.new }
-    ensures kept { OnErr result (vec_capacity slots.new ≡ vec_capacity slots.old) }
-    ensures memory { OnErr result (vec_capacity slots.old ≤ index) }
-{
-    if index < slots.len() {
-        return Ok(());
-    }
-    add_slots(slots, index)
-}
-
-/// Makes the slot of an index that lies after all slots, and all before it.
-#[inline(never)]
-fn add_slots<T>(slots: &mut Vec<Slot<T>>, index: usize) -> Result<(), AllocError>
+/// Makes all slots before an index that lies after all slots, and room for that of the index.
+/// Those that are new are vacant.
+pub(super) fn add_slots<T>(slots: &mut Vec<Slot<T>>, index: usize) -> Result<(), AllocError>
     requires beyond { length slots.old.items ≤ index }
     requires few { index < 2 ^ 32 - 1 }
-    ensures ok { OnOk result (slots.new.items ≡ padded slots.old.items (index + 1)) }
+    ensures ok { OnOk result (slots.new.items ≡ padded slots.old.items index) }
+    ensures room { OnOk result (index < vec_capacity slots.new) }
     ensures err { OnErr result (slots.new.items ≡ slots.old.items) }
     ensures capacity { vec_capacity slots.old ≤ vec_capacity slots.new }
     ensures kept { OnErr result (vec_capacity slots.new ≡ vec_capacity slots.old) }
@@ -141,13 +127,13 @@ fn add_slots<T>(slots: &mut Vec<Slot<T>>, index: usize) -> Result<(), AllocError
 {
     let made = slots.len();
     slots.reserve(index + 1 - made)?;
-    for _ in made..index + 1 {
+    for _ in made..index {
         slots.push_reserved(Slot::Vacant);
     }
     Ok(())
 }
 
-/// Puts clones of the other slots behind all slots. It takes no memory for none.
+/// Puts clones of the other slots behind all slots. With none, it doesn't allocate.
 pub(super) fn append_clones<T: Clone>(
     slots: &mut Vec<Slot<T>>,
     others: &[Slot<T>],

@@ -5,9 +5,10 @@ ghost use Rattle.std.specs.Iterator.SizeHint.{IsWithinCount};
 use crate::handle_map::iter::Iter;
 use std::marker::Model;
 
-/// The values of a map, by rising slot.
+/// An iterator over the values of a map, in slot order.
 ///
-/// [`HandleMap::values`](super::HandleMap::values) makes it. It borrows the map and copies nothing.
+/// It is created by [`HandleMap::values`](super::HandleMap::values). It borrows the map and copies
+/// nothing.
 ///
 /// ```
 /// use forgeni::HandleMap;
@@ -43,7 +44,7 @@ impl<'a, T> Values<'a, T> {
         Values { entries }
     }
 
-    /// The same values once more. It takes no memory.
+    /// The same values once more. It doesn't allocate.
     fn again(&self) -> Self
         ensures { result ≡ self.now }
     {

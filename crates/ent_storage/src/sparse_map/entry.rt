@@ -10,9 +10,9 @@ use crate::sparse_map::SparseMap;
 use ent_handle::{HandedBack, Handle};
 use std::mem;
 
-/// What a sparse map has for one handle: a value, or none.
+/// A view into the entry of one handle in a sparse map, which is occupied or vacant.
 ///
-/// [`SparseMap::entry`](super::SparseMap::entry) makes it.
+/// It is created by [`SparseMap::entry`](super::SparseMap::entry).
 ///
 /// ```
 /// use forgeni::sparse_map::{Entry, SparseMap};
@@ -33,7 +33,7 @@ pub enum Entry<'a, T> {
     Vacant(VacantEntry<'a, T>),
 }
 
-/// A handle that has a value, with its map.
+/// A view into an occupied entry: a handle that has a value, and its map.
 ///
 /// ```
 /// use forgeni::sparse_map::{Entry, SparseMap};
@@ -57,7 +57,7 @@ pub struct OccupiedEntry<'a, T> {
     ghost present: { IsSome (finite.get map.now.values handle) },
 }
 
-/// A handle that has no value, with its map.
+/// A view into a vacant entry: a handle that has no value, and its map.
 ///
 /// ```
 /// use forgeni::sparse_map::{Entry, SparseMap};
@@ -81,14 +81,14 @@ impl<'a, T: Drop> Entry<'a, T> {
     ghost use Rattle.ent_storage.specs.SparseEntry.{entry_value};
     ghost use Rattle.ent_storage.specs.SparseEntry.{entry_lends, Gives, IsRefusal};
 
-    /// The handle.
+    /// Returns the handle.
     ///
     /// ```
     /// use forgeni::SparseMap;
     ///
     /// let mut names: SparseMap<String> = SparseMap::new();
     /// let entry = names.entry("3v2".parse()?);
-    /// // A name for whoever has none.
+    /// // A name for an entity that has none.
     /// let name = format!("entity {}", entry.handle());
     /// assert_eq!(entry.or_insert(name)?, "entity 3v2");
     /// # Ok::<(), Box<dyn std::error::Error>>(())
@@ -103,7 +103,8 @@ impl<'a, T: Drop> Entry<'a, T> {
         }
     }
 
-    /// The value of the handle. If it has none, it is given this one.
+    /// Returns a mutable reference to the handle's value. If the handle has none, it gets this one
+    /// first.
     ///
     /// ```
     /// use forgeni::SparseMap;
@@ -134,7 +135,8 @@ impl<'a, T: Drop> Entry<'a, T> {
         }
     }
 
-    /// The value of the handle. If it has none, it is given the one that `make` returns.
+    /// Returns a mutable reference to the handle's value. If the handle has none, it first gets the
+    /// one that `make` returns.
     ///
     /// ```
     /// use forgeni::SparseMap;
@@ -154,7 +156,7 @@ impl<'a, T: Drop> Entry<'a, T> {
     ///
     /// # Panics
     ///
-    /// A panic of `make` is handed on. Nothing has changed.
+    /// A panic in `make` is propagated. Nothing has changed.
     pub fn or_insert_with<F: FnOnce() -> T>(
         self,
         make: F,
@@ -191,7 +193,8 @@ impl<'a, T: Drop> Entry<'a, T> {
     ///
     /// # Panics
     ///
-    /// A panic of `change` is handed on. The value stays, as far as `change` had changed it.
+    /// A panic in `change` is propagated. The value stays, with the changes that `change` had made
+    /// to it.
     #[must_use]
     pub fn and_modify<F: FnOnce(&mut T)>(self, change: F) -> Entry<'a, T>
         requires { F.IsAlwaysCallable change }
@@ -216,7 +219,18 @@ impl<'a, T: Drop> OccupiedEntry<'a, T> {
     ghost use Rattle.ent_storage.specs.SparseEntry.{occupied_lends, lends_in, with_value};
     ghost use Rattle.ent_storage.specs.SparseEntry.{IsWritten};
 
-    /// The handle.
+    /// Returns the handle.
+    ///
+    /// ```
+    /// use forgeni::sparse_map::{Entry, SparseMap};
+    ///
+    /// let cart = "3v2".parse()?;
+    /// let mut names = SparseMap::from([(cart, "cart")]);
+    /// if let Entry::Occupied(entry) = names.entry(cart) {
+    ///     assert_eq!(entry.handle(), cart);
+    /// }
+    /// # Ok::<(), forgeni::ParseHandleError>(())
+    /// ```
     #[must_use]
     pub fn handle(&self) -> Handle
         ensures { result ≡ entry_handle (Occupied self.now) }
@@ -224,7 +238,18 @@ impl<'a, T: Drop> OccupiedEntry<'a, T> {
         self.handle
     }
 
-    /// The value.
+    /// Returns a reference to the value.
+    ///
+    /// ```
+    /// use forgeni::sparse_map::{Entry, SparseMap};
+    ///
+    /// let cart = "3v2".parse()?;
+    /// let mut names = SparseMap::from([(cart, "cart")]);
+    /// if let Entry::Occupied(entry) = names.entry(cart) {
+    ///     assert_eq!(entry.get(), &"cart");
+    /// }
+    /// # Ok::<(), forgeni::ParseHandleError>(())
+    /// ```
     #[must_use]
     pub fn get(&self) -> &T
         ensures { entry_value (Occupied self.now) ≡ Some result.now }
@@ -235,7 +260,19 @@ impl<'a, T: Drop> OccupiedEntry<'a, T> {
         value
     }
 
-    /// The value, to be changed.
+    /// Returns a mutable reference to the value.
+    ///
+    /// ```
+    /// use forgeni::sparse_map::{Entry, SparseMap};
+    ///
+    /// let cart = "3v2".parse()?;
+    /// let mut hits = SparseMap::from([(cart, 3)]);
+    /// if let Entry::Occupied(mut entry) = hits.entry(cart) {
+    ///     *entry.get_mut() += 1;
+    /// }
+    /// assert_eq!(hits[cart], 4);
+    /// # Ok::<(), forgeni::ParseHandleError>(())
+    /// ```
     #[must_use]
     pub fn get_mut(&mut self) -> &mut T
         ensures* writes_back { sem 𝓛 (lends_in T.row self.entry result) }
@@ -246,7 +283,8 @@ impl<'a, T: Drop> OccupiedEntry<'a, T> {
         self.map.value_mut(handle)
     }
 
-    /// The value, to be changed for as long as the map is lent.
+    /// Converts the entry into a mutable reference to the value, which lives as long as the borrow
+    /// of the map.
     ///
     /// ```
     /// use forgeni::sparse_map::{Entry, SparseMap};
@@ -327,7 +365,17 @@ impl<'a, T: Drop> VacantEntry<'a, T> {
     ghost use Rattle.ent_storage.specs.SparseEntry.{Vacant, entry_handle, entry_lends, entry_map};
     ghost use Rattle.ent_storage.specs.SparseEntry.{IsRefusal};
 
-    /// The handle.
+    /// Returns the handle.
+    ///
+    /// ```
+    /// use forgeni::sparse_map::{Entry, SparseMap};
+    ///
+    /// let mut names: SparseMap<&str> = SparseMap::new();
+    /// if let Entry::Vacant(entry) = names.entry("3v2".parse()?) {
+    ///     assert_eq!(entry.handle().index(), 3);
+    /// }
+    /// # Ok::<(), forgeni::ParseHandleError>(())
+    /// ```
     #[must_use]
     pub fn handle(&self) -> Handle
         ensures { result ≡ entry_handle (Vacant self.now) }

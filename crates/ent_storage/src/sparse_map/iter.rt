@@ -5,9 +5,10 @@ ghost use Rattle.std.specs.Iterator.SizeHint.{IsWithinCount};
 use ent_handle::Handle;
 use std::marker::Model;
 
-/// The handles and values of a sparse map, in no particular order.
+/// An iterator over the handles and values of a sparse map, in no particular order.
 ///
-/// [`SparseMap::iter`](super::SparseMap::iter) makes it. It borrows the map and copies nothing.
+/// It is created by [`SparseMap::iter`](super::SparseMap::iter). It borrows the map and copies
+/// nothing.
 ///
 /// ```
 /// use forgeni::{Handle, SparseMap};
@@ -43,7 +44,7 @@ impl<'a, T> Iter<'a, T> {
         Iter { entries }
     }
 
-    /// The same entries once more. It takes no memory.
+    /// The same entries once more. It doesn't allocate.
     fn again(&self) -> Self
         ensures { result ≡ self.now }
     {

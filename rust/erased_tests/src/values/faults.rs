@@ -83,12 +83,16 @@ fn texts_of_the_faults_of_a_sync_point() {
 #[test]
 fn texts_of_the_faults_of_a_frame() {
     assert_eq!(
-        FrameFault::Memory.to_string(),
+        FrameFault::<OutOfMemory>::Memory.to_string(),
         "out of memory before any system ran"
     );
     assert_eq!(
-        FrameFault::Lost.to_string(),
+        FrameFault::<OutOfMemory>::Lost(None).to_string(),
         "out of memory while the systems ran"
+    );
+    assert_eq!(
+        FrameFault::Lost(Some("no road")).to_string(),
+        "a system stopped: no road"
     );
     let flush = "the sync point stopped: out of memory for the flush";
     assert_eq!(stopped(SyncFault::FlushMemory).to_string(), flush);

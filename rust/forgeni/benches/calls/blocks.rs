@@ -2,7 +2,7 @@
 //! end of a phase with its flush.
 
 use crate::{median, COUNT};
-use forgeni::{BlockReserver, Blocks, Entities, Handle, Reserver, Shared};
+use forgeni::{BlockReserver, Blocks, Entities, Handle, Phase, Reserver};
 use std::hint::black_box;
 use std::sync::atomic::{AtomicU64, Ordering};
 use std::sync::Barrier;
@@ -153,7 +153,7 @@ fn end_of_blocks(is_old: bool, spare: u32) -> f64 {
 
 fn end_of_shared(is_old: bool) -> f64 {
     let entities = prepared(is_old, 64 * HANDLES);
-    let (shared, mut reservers): (Shared, _) = entities.share(64).expect("shared");
+    let (shared, mut reservers): (Phase, _) = entities.share(64).expect("shared");
     for reserver in &mut reservers {
         reserver.reserve_many(HANDLES).expect("room");
     }

@@ -47,10 +47,15 @@ pub trait Side: Default {
     fn despawn(&mut self, key: Self::Key) -> bool;
 }
 
-/// One whose values can be walked over.
+/// One whose values can be walked over, and inserted by themselves.
 pub trait Walked: Side {
     /// The sum of all values.
     fn sum(&self) -> i64;
+
+    /// A new entity, without a value.
+    fn key(&mut self) -> Self::Key;
+
+    fn insert(&mut self, key: Self::Key, value: i64);
 }
 
 #[derive(Default)]
@@ -84,6 +89,16 @@ impl Walked for Ours {
     #[inline(always)]
     fn sum(&self) -> i64 {
         self.values.values().sum()
+    }
+
+    #[inline(always)]
+    fn key(&mut self) -> Handle {
+        self.entities.alloc().expect("room")
+    }
+
+    #[inline(always)]
+    fn insert(&mut self, one: Handle, value: i64) {
+        self.values.insert(one, value).expect("memory");
     }
 }
 
@@ -119,11 +134,22 @@ impl Walked for Plain {
     fn sum(&self) -> i64 {
         self.values.iter().map(|(_, value)| value).sum()
     }
+
+    #[inline(always)]
+    fn key(&mut self) -> plain::Key {
+        self.keys.insert()
+    }
+
+    #[inline(always)]
+    fn insert(&mut self, key: plain::Key, value: i64) {
+        self.values.insert(key, value);
+    }
 }
 
 /// The works of a side.
 pub struct Components {
     pub lives: [Places; 2],
+    pub inserts: [Places; 2],
     pub reads: [Places; 2],
     pub walk: Places,
     bytes: fn() -> isize,
@@ -133,6 +159,7 @@ impl Components {
     pub const fn of<S: Walked>() -> Self {
         Self {
             lives: lives::<S>(),
+            inserts: [places!(insert_new, S), places!(insert_again, S)],
             reads: [places!(read, S, 1), places!(read, S, SCATTERED)],
             walk: places!(walk, S),
             bytes: bytes::<S>,
@@ -190,6 +217,34 @@ fn life<S: Side, const STEP: u32, const PLACE: usize>() -> Run {
     })
 }
 
+/// All get a value in a map that has no slots yet.
+fn insert_new<S: Walked, const PLACE: usize>() -> Run {
+    shift::<PLACE>();
+    let mut living = S::default();
+    let keys: Vec<S::Key> = (0..size()).map(|_| living.key()).collect();
+    timed(|| {
+        (0..times()).fold(0, |sum, _| {
+            let mut side = S::default();
+            sum + insert_all(&mut side, &keys)
+        })
+    })
+}
+
+/// All get a value in place of the one that they have.
+fn insert_again<S: Walked, const PLACE: usize>() -> Run {
+    shift::<PLACE>();
+    let (mut side, keys) = full::<S>();
+    timed(|| (0..times()).map(|_| insert_all(&mut side, &keys)).sum())
+}
+
+#[inline(always)]
+fn insert_all<S: Walked>(side: &mut S, keys: &[S::Key]) -> u64 {
+    for (value, key) in (0..).zip(keys) {
+        black_box(&mut *side).insert(*key, value);
+    }
+    keys.len() as u64
+}
+
 fn read<S: Side, const STEP: u32, const PLACE: usize>() -> Run {
     shift::<PLACE>();
     let (side, keys) = full::<S>();
@@ -227,6 +282,11 @@ pub fn tables() {
         let name = format!("Spawn, {READS} times `get`, despawn, {order}");
         let peer = peer.as_ref().map(|peer| peer.lives[at]);
         lines(&name, ours.lives[at], plain.lives[at], peer);
+    }
+    let slots = ["`insert`, new slots", "`insert`, slots with values"];
+    for (at, name) in slots.into_iter().enumerate() {
+        let peer = peer.as_ref().map(|peer| peer.inserts[at]);
+        lines(name, ours.inserts[at], plain.inserts[at], peer);
     }
     for (at, order) in orders.into_iter().enumerate() {
         let peer = peer.as_ref().map(|peer| peer.reads[at]);

@@ -92,6 +92,16 @@ impl<M: Form> Walked for With<M> {
     fn sum(&self) -> i64 {
         self.values.sum()
     }
+
+    #[inline(always)]
+    fn key(&mut self) -> Key {
+        self.keys.insert()
+    }
+
+    #[inline(always)]
+    fn insert(&mut self, key: Key, value: i64) {
+        self.values.insert(key, value);
+    }
 }
 
 pub fn table() {

@@ -90,6 +90,16 @@ mod slots {
         fn sum(&self) -> i64 {
             self.values.iter().map(|(_, value)| value).sum()
         }
+
+        #[inline(always)]
+        fn key(&mut self) -> DefaultKey {
+            self.keys.insert(())
+        }
+
+        #[inline(always)]
+        fn insert(&mut self, key: DefaultKey, value: i64) {
+            self.values.insert(key, value);
+        }
     }
 
     fn full() -> (SlotMap<DefaultKey, ()>, Vec<DefaultKey>) {

@@ -2,7 +2,7 @@
 
 use crate::plain::allocator::{self as plain, Shared as PlainShared};
 use crate::{line, peers, places, shift, timed, Run, BULK, COUNT};
-use forgeni::{Entities, Handle, Reserver, Shared, State};
+use forgeni::{Entities, Handle, Phase, Reserver, State};
 use std::hint::black_box;
 
 pub fn lines() {
@@ -244,7 +244,7 @@ fn plain_contains<const PLACE: usize>() -> Run {
     })
 }
 
-fn share(entities: Entities) -> (Shared, Vec<Reserver>) {
+fn share(entities: Entities) -> (Phase, Vec<Reserver>) {
     entities.share(1).expect("shared")
 }
 

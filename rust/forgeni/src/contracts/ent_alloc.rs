@@ -45,12 +45,13 @@
 pub mod limits {}
 
 #[doc(alias("Allocator", "after_alloc", "after_allocs", "after_flush", "after_free", "after_take", "asked_at", "available", "born", "cursor", "following", "fresh", "has_slot", "in_front", "is_fresh", "is_old", "is_retired", "listed", "listed_alone", "made_at_flush", "next", "opening", "pool_at", "reply_from", "reply_to", "retired", "stands_in", "state_of", "top"))]
-/// The sequential allocator: what one caller alone would see. Each call of `Entities` is one of its steps or two, or reads it, but for the rows, which stand beside it (`specs/Entities`). The calls of many threads are compared with it.
+/// The sequential allocator: what a single caller would see. Each call of `Entities` is one or two of its steps, or reads it, except for the rows, which are kept beside it (`specs/Entities`). The calls of many threads are compared with it.
 ///
 /// <pre>
-/// -- Where a handle stands: alive, or in a list of those that may be given. The pool is given from its
-/// -- front; taken is what was given and is not yet alive; aside is what a refused request has passed
-/// -- over. made counts the slots that were made, asked all that was requested since the last flush.
+/// -- Where each handle is: alive, or in a list of those that may be given. The pool is given from its
+/// -- front; `taken` is what was given and is not alive yet; `aside` is what a refused request passed
+/// -- over. `made` counts the slots that were made, and `asked` counts all that was requested since the
+/// -- last flush.
 /// pub record <b id="Allocator">Allocator</b> : Type 0 where
 ///   pub limits : <a href="../limits/index.html#Limits">Limits</a>
 ///   pub live : <a href="../../logic/index.html#FinSet.FinSet">set.FinSet</a> <a href="../../ent_handle/handle/index.html#handle_cmp">handle_cmp</a>
@@ -69,7 +70,7 @@ pub mod limits {}
 /// </pre>
 ///
 /// <pre>
-/// -- the allocator that has given nothing
+/// -- the allocator that has given no handles
 /// abbrev pub <b id="opening">opening</b> : <a href="../limits/index.html#Limits">Limits</a> → <a href="#Allocator">Allocator</a>
 /// <a href="#opening">opening</a> limits = record {
 ///   limits = limits;
@@ -112,7 +113,8 @@ pub mod limits {}
 /// </pre>
 ///
 /// <pre>
-/// -- A request takes the front of the pool if there is enough; else the whole pool is passed over.
+/// -- A request takes the front of the pool if there is enough; otherwise the whole pool is passed
+/// -- over.
 /// abbrev pub <b id="after_take">after_take</b> : <a href="#Allocator">Allocator</a> → <a href="../../logic/index.html#ℕ">ℕ</a> → <a href="#Allocator">Allocator</a>
 /// <a href="#after_take">after_take</a> s n =
 ///     if nat_le n (<a href="../../logic/index.html#length">length</a> s.pool)
@@ -210,8 +212,8 @@ pub mod limits {}
 /// </pre>
 ///
 /// <pre>
-/// -- A living handle goes, and its slot's next one stands at the front of the pool. If there is none,
-/// -- the pool stays as it is, and the slot is retired.
+/// -- A living handle is freed, and its slot's next handle comes to the front of the pool. If there is
+/// -- no next handle, the pool stays as it is, and the slot is retired.
 /// abbrev pub <b id="after_free">after_free</b> : <a href="#Allocator">Allocator</a> → <a href="../../ent_handle/handle/index.html#Handle">Handle</a> → <a href="#Allocator">Allocator</a>
 /// <a href="#after_free">after_free</a> s h = record s {
 ///   live = <a href="../../logic/index.html#FinSet.remove">set.remove</a> s.live h;
@@ -238,7 +240,7 @@ pub mod limits {}
 /// </pre>
 ///
 /// <pre>
-/// -- what became of a handle
+/// -- the state of a handle
 /// abbrev pub <b id="state_of">state_of</b> : <a href="#Allocator">Allocator</a> → <a href="../../ent_handle/handle/index.html#Handle">Handle</a> → State
 /// <a href="#state_of">state_of</a> s h =
 ///     if <a href="../../logic/index.html#FinSet.contains">set.contains</a> s.live h then Alive else (if <a href="#stands_in">stands_in</a> s.taken h then Reserved else Gone)
@@ -264,7 +266,7 @@ pub mod limits {}
 pub mod sequential {}
 
 #[doc(alias("Roster"))]
-/// The slots of an allocator as its calls see them: who lives, what is kept with whom, and who waits to be given.
+/// The slots of an allocator as its calls see them: which handles are alive, which rows they have, and which handles wait to be given.
 ///
 /// <pre>
 /// -- pending lists the handles that old slots give next; the last is given first
@@ -312,11 +314,11 @@ pub mod roster {}
 /// pub record <b id="IsSound">IsSound</b> (s : <a href="../sequential/index.html#Allocator">Allocator</a>) : Type 0 where
 ///   pub limits : <a href="../limits/index.html#AreLimits">AreLimits</a> s.limits
 ///   pub made : s.made ≤ s.limits.slots
-///   -- the old handles stand first, then the first occupants of all slots that were never made
+///   -- the old handles come first, then the first occupants of all slots that were never made
 ///   pub order : <a href="../sequential/index.html#available">available</a> s
 ///       ≡ <a href="../../logic/index.html#filter">filter</a> (<a href="../sequential/index.html#is_old">is_old</a> s.made) (<a href="../sequential/index.html#available">available</a> s) ++ <a href="../sequential/index.html#fresh">fresh</a> s.made (s.limits.slots - s.made)
 ///   pub within : <a href="../../logic/index.html#All">All</a> (<a href="#IsWithin">IsWithin</a> s.limits) (<a href="../sequential/index.html#available">available</a> s)
-///   -- no slot stands twice in what may be given
+///   -- no slot occurs twice among those that may be given
 ///   pub apart : <a href="../../logic/index.html#AllPairs">AllPairs</a> <a href="#AreApart">AreApart</a> (<a href="../sequential/index.html#available">available</a> s)
 ///   -- the pool is what the requests have not reached
 ///   pub pool : s.pool ≡ <a href="../../logic/index.html#drop">drop</a> s.asked (<a href="../sequential/index.html#available">available</a> s)
@@ -329,7 +331,7 @@ pub mod roster {}
 pub mod sound {}
 
 #[doc(alias("Entities", "HasRowsOfLiving"))]
-/// What an `Entities` stands for, and how its slots and its two counts do so.
+/// What an `Entities` represents, and how its slots and its two counts represent it.
 ///
 /// <pre>
 /// -- a state of the sequential allocator, and the rows that a program keeps with living handles
@@ -364,7 +366,7 @@ pub mod entities {}
 ///
 /// <pre>
 /// -- How many slots have to be made: none if nothing is left before the last one that was used, and
-/// -- else those up to that one, since a fresh one that is left waits among them.
+/// -- otherwise those up to that one, since a fresh one that is left waits among them.
 /// abbrev pub <b id="made_for">made_for</b> : <a href="../sequential/index.html#Allocator">Allocator</a> → <a href="../../logic/index.html#List">List</a> Portion → <a href="../../logic/index.html#ℕ">ℕ</a>
 /// <a href="#made_for">made_for</a> s portions =
 ///     if <a href="#count_of">count_of</a> portions == <a href="#reach_of">reach_of</a> portions then 0 else <a href="#reach_of">reach_of</a> portions - <a href="../sequential/index.html#top">top</a> s
@@ -372,7 +374,7 @@ pub mod entities {}
 pub mod portions {}
 
 #[doc(alias("HasImage", "header", "header_bytes", "kept_bytes", "kind_of", "living_slot", "magic", "number_of", "numbers_bytes", "occupied", "retired_slot", "roster", "slot", "slot_bytes", "slots_bytes", "version", "waiting_slot"))]
-/// The image of an allocator: the bytes that are written of it. It tells all of the allocator, and nothing of how it came to be so or where it lies in memory.
+/// The image of an allocator: the bytes that represent it. It says everything about the allocator, and nothing about how it got into that state or where it is in memory.
 ///
 /// <pre>
 /// -- a living occupant, and its row if it has one
@@ -409,13 +411,13 @@ pub mod portions {}
 /// </pre>
 ///
 /// <pre>
-/// -- what became of the slot
+/// -- the state of the slot
 /// unfoldable pub <b id="slot">slot</b> : <a href="../roster/index.html#Roster">Roster</a> → <a href="../../logic/index.html#ℕ">ℕ</a> → SlotRecord
 /// <a href="#slot">slot</a> r index = <a href="#living_slot">living_slot</a> r index (set.items r.live)
 /// </pre>
 ///
 /// <pre>
-/// -- who has the slot, in a word and a number
+/// -- what has the slot, as a word and a number
 /// abbrev pub <b id="kind_of">kind_of</b> : Occupancy → <a href="../../logic/index.html#ℕ">ℕ</a>
 /// <a href="#kind_of">kind_of</a> Retired = 0
 /// <a href="#kind_of">kind_of</a> Alive = 1
@@ -494,7 +496,7 @@ pub mod portions {}
 /// </pre>
 ///
 /// <pre>
-/// -- so many bytes are kept in memory: eight of each slot, and four of each that waits
+/// -- that many bytes are kept in memory: eight for each slot, and four for each slot that waits
 /// abbrev pub <b id="kept_bytes">kept_bytes</b> : <a href="../sequential/index.html#Allocator">Allocator</a> → <a href="../../logic/index.html#ℕ">ℕ</a>
 /// <a href="#kept_bytes">kept_bytes</a> s = 8 * s.made + 4 * <a href="../sequential/index.html#top">top</a> s
 /// </pre>
@@ -574,7 +576,7 @@ pub mod image {}
 /// </pre>
 ///
 /// <pre>
-/// -- so many handles may be reserved of those that there were to give: all that were requested, if
+/// -- that many of the handles that there were to give may be reserved: all that were requested, if
 /// -- there were enough
 /// abbrev pub <b id="in_requests">in_requests</b> : Header → <a href="../../logic/index.html#Bool">Bool</a>
 /// <a href="#in_requests">in_requests</a> h =
@@ -594,7 +596,7 @@ pub mod image {}
 /// </pre>
 ///
 /// <pre>
-/// -- the first fault that the bytes have before the slots, and it takes no memory to find it
+/// -- the first fault that the bytes have before the slots; finding it takes no memory
 /// abbrev pub <b id="header_fault">header_fault</b> : <a href="../../logic/index.html#List">List</a> <a href="../../logic/index.html#ℕ">ℕ</a> → <a href="../../logic/index.html#Option">Option</a> ImageFault
 /// <a href="#header_fault">header_fault</a> bytes =
 ///     <a href="#first_failing">first_failing</a> (<a href="#front_tests">front_tests</a> bytes ++ <a href="#header_tests">header_tests</a> (<a href="#header_in">header_in</a> bytes) (<a href="../../logic/index.html#length">length</a> bytes))
@@ -632,7 +634,7 @@ pub mod image {}
 /// </pre>
 ///
 /// <pre>
-/// -- one of the first slots, so many, waits there
+/// -- one of that many slots, the first ones, waits there
 /// abbrev pub <b id="is_taken">is_taken</b> : <a href="../../logic/index.html#List">List</a> <a href="../../logic/index.html#ℕ">ℕ</a> → <a href="../../logic/index.html#ℕ">ℕ</a> → <a href="../../logic/index.html#ℕ">ℕ</a> → <a href="../../logic/index.html#Bool">Bool</a>
 /// <a href="#is_taken">is_taken</a> slots count position = list_any (<a href="#waits_at">waits_at</a> slots position) (range_with_len 0 count)
 /// </pre>
@@ -683,10 +685,10 @@ pub mod image {}
 pub mod first_fault {}
 
 #[doc(alias("as_reserve_error"))]
-/// What a fault prints, and which one stands for another.
+/// What a fault prints, and which fault becomes which other one.
 ///
 /// <pre>
-/// -- a refusal among the faults of what keeps in a list what it reserves
+/// -- the refusal as a fault of a call that lists what it reserves
 /// abbrev pub <b id="as_reserve_error">as_reserve_error</b> : Refused → ReserveError
 /// <a href="#as_reserve_error">as_reserve_error</a> (refused.Space wanted left) = reserve.Space wanted left
 /// <a href="#as_reserve_error">as_reserve_error</a> (refused.Quota left) = reserve.Quota left
@@ -697,8 +699,8 @@ pub mod fault {}
 /// What keeps a handle that was given from being given again.
 ///
 /// <pre>
-/// -- Whatever its slot may still give comes after it, and whoever holds its slot doesn't come before
-/// -- it.
+/// -- Every handle that its slot can still give comes after it, and the occupant of its slot doesn't
+/// -- come before it.
 /// pub record <b id="IsSpent">IsSpent</b> (s : <a href="../sequential/index.html#Allocator">Allocator</a>) (h : <a href="../../ent_handle/handle/index.html#Handle">Handle</a>) : Type 0 where
 ///   pub left : <a href="../../logic/index.html#All">All</a> (λ g. g.index ≡ h.index → h.generation &lt; g.generation) (s.aside ++ s.pool)
 ///   pub taken : <a href="../../logic/index.html#All">All</a> (λ g. g.index ≡ h.index → h.generation ≤ g.generation) s.taken
@@ -717,7 +719,7 @@ pub mod spent {}
 /// Histories: the reservations of many callers in one order, and what the sequential allocator says to them.
 ///
 /// <pre>
-/// -- one reservation: who asked, for how many handles, and what was returned
+/// -- one reservation: its caller, for how many handles it was, and what was returned
 /// pub record <b id="Call">Call</b> : Type 0 where
 ///   pub caller : <a href="../../logic/index.html#ℕ">ℕ</a>
 ///   pub requested : <a href="../../logic/index.html#ℕ">ℕ</a>
@@ -761,8 +763,8 @@ pub mod history {}
 ///
 /// <pre>
 /// -- A call that changes the allocator: one that gave this handle at once, one that freed this handle,
-/// -- a request for so many, served or refused, and a flush. Many handles that are given at once are as
-/// -- many single ones.
+/// -- a request for that many, served or refused, and a flush. Handles that are given together count as
+/// -- so many single calls.
 /// pub data <b id="Step">Step</b> : Type 0 where
 ///   <b id="Alloc">Alloc</b> : <a href="../../ent_handle/handle/index.html#Handle">Handle</a> → <a href="#Step">Step</a>
 ///   <b id="Free">Free</b> : <a href="../../ent_handle/handle/index.html#Handle">Handle</a> → <a href="#Step">Step</a>
@@ -834,7 +836,8 @@ pub mod runs {}
 /// </pre>
 ///
 /// <pre>
-/// -- What a request for so many handles may have as its reply, and what it makes of the reserver.
+/// -- The possible replies to a request for that many handles, and what the request makes of the
+/// -- reserver.
 /// abbrev pub <b id="Replying">Replying</b> : Type 0 → Type 1
 /// <a href="#Replying">Replying</a> R = R → R → <a href="../../logic/index.html#ℕ">ℕ</a> → <a href="../../logic/index.html#Result">Result</a> (<a href="../../logic/index.html#List">List</a> <a href="../../ent_handle/handle/index.html#Handle">Handle</a>) Refused → Type 0
 /// </pre>
@@ -858,7 +861,7 @@ pub mod serving {}
 /// </pre>
 ///
 /// <pre>
-/// -- what an image of these entities is read as if so many slots are allowed
+/// -- what reading an image of these entities returns if that many slots are allowed
 /// abbrev pub <b id="within">within</b> : <a href="../../logic/index.html#ℕ">ℕ</a> → <a href="../entities/index.html#Entities">Entities</a> → <a href="../../logic/index.html#Result">Result</a> <a href="../entities/index.html#Entities">Entities</a> ImageFault
 /// <a href="#within">within</a> most e =
 ///     if nat_le (<a href="#slots_after_flush">slots_after_flush</a> e.allocator) most

@@ -4,7 +4,7 @@
 //! [`blocks`], [`faults`], [`drawing`], [`ending`].
 
 #[doc(alias("Block", "Blocks", "Phase", "Reserver", "accounted", "after_blocks", "after_refusal", "after_use", "are_among", "blocks_of", "dealt", "handles_of", "is_same", "portion_of", "portions_of", "rest_of", "unused", "used_of", "wanted_by"))]
-/// Handles in blocks: the front of the pool is dealt to callers, and each is given the handles of its own block, in the pool\'s order, whatever the others do.
+/// Handles in blocks: the front of the pool is dealt to callers, and each gets the handles of its own block, in the pool\'s order, whatever the others do.
 ///
 /// <pre>
 /// -- A block of the pool: how many handles come before it, how many it has, and how many of them were
@@ -50,10 +50,10 @@
 /// </pre>
 ///
 /// <pre>
-/// -- Closing: what was used of the blocks is taken, in the order of the callers, and the pool is what
-/// -- is left of them, and then what was not dealt: it keeps its own order. Slots are made if something
-/// -- is left before the last handle that was used: those up to that one. So a fresh one of them that
-/// -- nobody used waits, with generation 1.
+/// -- Closing: what was used of the blocks is taken, in the order of the callers. The pool is what is
+/// -- left of the blocks, followed by what was not dealt, in its own order. If something is left before
+/// -- the last handle that was used, the slots up to that handle are made. So a fresh slot among them
+/// -- that wasn't used waits, with generation 1.
 /// abbrev pub <b id="after_blocks">after_blocks</b> : <a href="../../ent_alloc/sequential/index.html#Allocator">Allocator</a> → <a href="../../logic/index.html#List">List</a> <a href="#Block">Block</a> → <a href="../../ent_alloc/sequential/index.html#Allocator">Allocator</a>
 /// <a href="#after_blocks">after_blocks</a> s blocks = record s {
 ///   taken = flat_map (<a href="#used_of">used_of</a> s.pool) blocks;
@@ -70,14 +70,14 @@
 /// </pre>
 ///
 /// <pre>
-/// -- after so many more were used
+/// -- after that many more were used
 /// abbrev pub <b id="after_use">after_use</b> : <a href="#Block">Block</a> → <a href="../../logic/index.html#ℕ">ℕ</a> → <a href="#Block">Block</a>
 /// <a href="#after_use">after_use</a> b n = record b { used = b.used + n }
 /// </pre>
 ///
 /// <pre>
-/// -- the allocator as it was opened, the rows that are kept with its living handles, and the blocks as
-/// -- they were dealt
+/// -- the allocator as it was when the phase was opened, the rows that are kept with its living
+/// -- handles, and the blocks as they were dealt
 /// pub record <b id="Blocks">Blocks</b> : Type 0 where
 ///   pub start : <a href="../../ent_alloc/sequential/index.html#Allocator">Allocator</a>
 ///   pub rows : <a href="../../logic/index.html#FinMap.FinMap">maps.FinMap</a> <a href="../../ent_handle/handle/index.html#handle_cmp">handle_cmp</a> <a href="../../logic/index.html#ℕ">ℕ</a>
@@ -101,7 +101,7 @@
 /// </pre>
 ///
 /// <pre>
-/// -- after a request for so many that the block didn't have
+/// -- after a request for that many, which the block didn't have
 /// abbrev pub <b id="after_refusal">after_refusal</b> : <a href="#Reserver">Reserver</a> → <a href="../../logic/index.html#ℕ">ℕ</a> → <a href="#Reserver">Reserver</a>
 /// <a href="#after_refusal">after_refusal</a> r n = record r { refused = <a href="../../logic/index.html#max">max</a> r.refused n }
 /// </pre>
@@ -148,7 +148,7 @@
 pub mod blocks {}
 
 #[doc(alias("IsErrWith", "IsMissing", "after_error"))]
-/// What is said of a refusal.
+/// What holds of a refusal.
 ///
 /// <pre>
 /// -- it was refused, and this is true of the refusal
@@ -158,7 +158,7 @@ pub mod blocks {}
 /// </pre>
 ///
 /// <pre>
-/// -- so many reservers are missing
+/// -- that many reservers are missing
 /// abbrev pub <b id="IsMissing">IsMissing</b> : <a href="../../logic/index.html#ℕ">ℕ</a> → EndError → Type 0
 /// <a href="#IsMissing">IsMissing</a> n failed.OtherPhase = ⊥
 /// <a href="#IsMissing">IsMissing</a> n failed.Order = ⊥
@@ -168,7 +168,7 @@ pub mod blocks {}
 ///
 /// <pre>
 /// -- what a request that was refused leaves of its reserver: only if its block has too few, it
-/// -- remembers how many were wanted
+/// -- remembers how many were requested
 /// abbrev pub <b id="after_error">after_error</b> : <a href="../blocks/index.html#Reserver">Reserver</a> → BlockError → <a href="../blocks/index.html#Reserver">Reserver</a>
 /// <a href="#after_error">after_error</a> r (block.Space wanted left) = <a href="../blocks/index.html#after_refusal">after_refusal</a> r wanted
 /// <a href="#after_error">after_error</a> r block.OtherPhase = r

@@ -4,12 +4,12 @@
 //! [`command`], [`reserving`], [`drawing`], [`issuing`], [`logging`], [`commands`].
 
 #[doc(alias("Command", "Despawn", "Insert", "Refused", "Remove", "Spawn", "SpawnMany"))]
-/// Commands: what a system asks of the world. A queue of them stands for their list.
+/// Commands: what a system asks of the world. A queue of them represents their list.
 ///
 /// <pre>
 /// -- Spawn and SpawnMany give what was reserved its components, Insert sets components of an entity,
-/// -- Remove takes one away, Despawn takes the entity. Refused stands for a request that was
-/// -- refused: for how many handles, and why.
+/// -- Remove takes one away, Despawn takes the entity. Refused is a request that was refused: for how
+/// -- many handles, and why.
 /// pub data <b id="Command">Command</b> : Type 0 where
 ///   <b id="Spawn">Spawn</b> : <a href="../../ent_handle/handle/index.html#Handle">Handle</a> → <a href="../../ent_storage/bundle/index.html#Bundle">Bundle</a> → <a href="#Command">Command</a>
 ///   <b id="SpawnMany">SpawnMany</b> : <a href="../../logic/index.html#List">List</a> <a href="../../ent_handle/handle/index.html#Handle">Handle</a> → <a href="../../ent_storage/bundle/index.html#Bundle">Bundle</a> → <a href="#Command">Command</a>
@@ -24,7 +24,7 @@ pub mod command {}
 /// What the commands of a queue have asked of the reserver that was lent.
 ///
 /// <pre>
-/// -- the requests for which a command stands
+/// -- the requests that a command represents
 /// abbrev pub <b id="requests_of">requests_of</b> : <a href="../command/index.html#Command">Command</a> → <a href="../../logic/index.html#List">List</a> <a href="../../ent_alloc/serving/index.html#Request">Request</a>
 /// <a href="#requests_of">requests_of</a> (<a href="../command/index.html#Spawn">Spawn</a> h items) = (1, <a href="../../logic/index.html#Ok">Ok</a> (h ∷ [])) ∷ []
 /// <a href="#requests_of">requests_of</a> (<a href="../command/index.html#SpawnMany">SpawnMany</a> hs items) = (<a href="../../logic/index.html#length">length</a> hs, <a href="../../logic/index.html#Ok">Ok</a> hs) ∷ []
@@ -57,7 +57,7 @@ pub mod command {}
 ///
 /// <pre>
 /// -- It fits the quota that was left; a refusal for lack of quota says what was left, and more was
-/// -- wanted.
+/// -- requested.
 /// abbrev pub <b id="FitsQuota">FitsQuota</b> : <a href="../../logic/index.html#ℕ">ℕ</a> → <a href="../command/index.html#Command">Command</a> → Type 0
 /// <a href="#FitsQuota">FitsQuota</a> left (<a href="../command/index.html#Refused">Refused</a> wanted (Quota rest)) = (rest ≡ left) × (left &lt; wanted)
 /// <a href="#FitsQuota">FitsQuota</a> left (<a href="../command/index.html#Refused">Refused</a> wanted (Space same rest)) = wanted ≤ left
@@ -90,7 +90,7 @@ pub mod command {}
 /// </pre>
 ///
 /// <pre>
-/// -- the result of a reservation as the queue hands it on
+/// -- the result of a reservation as the queue returns it
 /// abbrev pub <b id="queued">queued</b> : {X : Type 0} → <a href="../../logic/index.html#Result">Result</a> X Refusal → <a href="../../logic/index.html#Result">Result</a> X QueueFault
 /// <a href="#queued">queued</a> (<a href="../../logic/index.html#Ok">Ok</a> x) = <a href="../../logic/index.html#Ok">Ok</a> x
 /// <a href="#queued">queued</a> (<a href="../../logic/index.html#Err">Err</a> why) = <a href="../../logic/index.html#Err">Err</a> (<a href="../../ent_alloc/fault/index.html#as_reserve_error">as_reserve_error</a> why)
@@ -128,7 +128,7 @@ pub mod reserving {}
 ///
 /// <pre>
 /// -- Its handles are the next ones of the block. A refusal says how many were left of it, and that is
-/// -- less than was wanted.
+/// -- fewer than were requested.
 /// abbrev pub <b id="IsDrawnBy">IsDrawnBy</b> : <a href="../../ent_alloc/sequential/index.html#Allocator">Allocator</a> → <a href="../../ent_blocks/blocks/index.html#Block">Block</a> → <a href="../command/index.html#Command">Command</a> → Type 0
 /// <a href="#IsDrawnBy">IsDrawnBy</a> s b (<a href="../command/index.html#Spawn">Spawn</a> h items) = h ∷ [] ≡ <a href="../../logic/index.html#take">take</a> 1 (<a href="../../ent_blocks/blocks/index.html#rest_of">rest_of</a> s.pool b)
 /// <a href="#IsDrawnBy">IsDrawnBy</a> s b (<a href="../command/index.html#SpawnMany">SpawnMany</a> hs items) = hs ≡ <a href="../../ent_alloc/sequential/index.html#listed">listed</a> s.made (<a href="../../logic/index.html#take">take</a> (<a href="../../logic/index.html#length">length</a> hs) (<a href="../../ent_blocks/blocks/index.html#rest_of">rest_of</a> s.pool b))
@@ -155,10 +155,10 @@ pub mod reserving {}
 pub mod drawing {}
 
 #[doc(alias("Issues"))]
-/// What was added to a queue, and the requests for which it stands.
+/// What was added to a queue, and the requests that it represents.
 ///
 /// <pre>
-/// -- Commands were added to the queue, which stand for these requests and no others.
+/// -- Commands were added to the queue, which represent exactly these requests.
 /// pub record <b id="Issues">Issues</b> (before : <a href="../../logic/index.html#List">List</a> <a href="../command/index.html#Command">Command</a>) (requests : <a href="../../logic/index.html#List">List</a> <a href="../../ent_alloc/serving/index.html#Request">Request</a>) (after : <a href="../../logic/index.html#List">List</a> <a href="../command/index.html#Command">Command</a>) :
 ///     Type 0 where
 ///   pub added : <a href="../../logic/index.html#List">List</a> <a href="../command/index.html#Command">Command</a>
@@ -168,11 +168,11 @@ pub mod drawing {}
 pub mod issuing {}
 
 #[doc(alias("Logs", "request_of"))]
-/// What was added to a log, and the requests for which it stands.
+/// What was added to a log, and the requests that it represents.
 ///
 /// <pre>
 /// module _ {C : Type 0} where
-///   -- the request for which an entry stands: each spawn wants one handle
+///   -- the request that an entry represents: each spawn requests one handle
 ///   abbrev pub <b id="request_of">request_of</b> : Entry C → <a href="../../logic/index.html#List">List</a> <a href="../../ent_alloc/serving/index.html#Request">Request</a>
 ///   <a href="#request_of">request_of</a> (Spawn h) = (1, <a href="../../logic/index.html#Ok">Ok</a> (h ∷ [])) ∷ []
 ///   <a href="#request_of">request_of</a> (Refused why) = (1, <a href="../../logic/index.html#Err">Err</a> why) ∷ []
@@ -180,7 +180,7 @@ pub mod issuing {}
 /// </pre>
 ///
 /// <pre>
-///   -- Entries were added to the log, which stand for these requests and no others.
+///   -- Entries were added to the log, which represent exactly these requests.
 ///   pub record <b id="Logs">Logs</b> (before : <a href="../../logic/index.html#List">List</a> (Entry C)) (requests : <a href="../../logic/index.html#List">List</a> <a href="../../ent_alloc/serving/index.html#Request">Request</a>) (after : <a href="../../logic/index.html#List">List</a> (Entry C))
 ///       : Type 0 where
 ///     pub added : <a href="../../logic/index.html#List">List</a> (Entry C)

@@ -49,7 +49,7 @@
 /// </pre>
 ///
 /// <pre>
-/// -- `freed` alone says nothing of what comes next
+/// -- `freed` alone says nothing about the next handle
 /// abbrev pub <b id="FitsFreed">FitsFreed</b> : FreeReply → FreeReply → Type 0
 /// <a href="#FitsFreed">FitsFreed</a> free.Freed (free.Next h) = Unit {0}
 /// <a href="#FitsFreed">FitsFreed</a> free.Freed free.Retired = Unit {0}
@@ -76,7 +76,7 @@
 /// </pre>
 ///
 /// <pre>
-/// -- What a line says was answered is what the allocator answers. A line may say nothing of it.
+/// -- The answer that a line has is the allocator's. A line may have no answer.
 /// abbrev pub <b id="Fits">Fits</b> : <a href="../../ent_alloc/sequential/index.html#Allocator">Allocator</a> → Call → Type 0
 /// <a href="#Fits">Fits</a> s (line.Alloc told) = <a href="../../logic/index.html#IfSome">IfSome</a> told (λ reply. reply ≡ <a href="#alloc_reply">alloc_reply</a> s)
 /// <a href="#Fits">Fits</a> s (line.Free h told) = <a href="../../logic/index.html#IfSome">IfSome</a> told (λ reply. <a href="#FitsFreed">FitsFreed</a> reply (<a href="#free_reply">free_reply</a> s h))
@@ -125,8 +125,8 @@
 /// </pre>
 ///
 /// <pre>
-/// -- The first may have come before the second, which stands before it: both are reservations, of
-/// -- different callers.
+/// -- The first may have come before the second, although it is listed after it: both are reservations,
+/// -- of different callers.
 /// abbrev pub <b id="MayPass">MayPass</b> : Call → Call → Type 0
 /// <a href="#MayPass">MayPass</a> (line.Reserve r) (line.Reserve before) = before.caller ≢ r.caller
 /// <a href="#MayPass">MayPass</a> (line.Reserve r) other = ⊥
@@ -155,7 +155,7 @@
 pub mod trace {}
 
 #[doc(alias("AgreesWith", "Checked", "Differs", "Follows", "HasNoOrder", "IfReserve", "IsSettled", "IsStuck", "IsTooMany", "IsTooManyIn", "NoneFollows", "OnDiffers", "OnTooMany", "Reaches", "Shows", "number_of", "requested_in", "reserve_lines"))]
-/// What a checker stands for, and what it says of a trace that doesn\'t agree.
+/// What a checker represents, and what it reports about a trace that doesn\'t agree.
 ///
 /// <pre>
 /// -- the allocator after all lines but the last reservations, which are not placed yet
@@ -184,8 +184,8 @@ pub mod trace {}
 /// </pre>
 ///
 /// <pre>
-/// -- In some order all reservations of the run were answered so, and this is the state after them, as
-/// -- after any such order.
+/// -- In some order all reservations of the run were answered like this, and this is the state after
+/// -- them, as after any such order.
 /// pub record <b id="IsSettled">IsSettled</b> (c : <a href="#Checked">Checked</a>) (after : <a href="../../ent_alloc/sequential/index.html#Allocator">Allocator</a>) : Type 0 where
 ///   pub order : <a href="../../logic/index.html#List">List</a> Call
 ///   pub is_order : <a href="../trace/index.html#IsOrderOf">IsOrderOf</a> (<a href="#reserve_lines">reserve_lines</a> c.run) order
@@ -206,7 +206,7 @@ pub mod trace {}
 /// </pre>
 ///
 /// <pre>
-/// -- what a stop for a difference has to say
+/// -- what a stop for a difference reports
 /// abbrev pub <b id="OnDiffers">OnDiffers</b> : CheckError → (Difference → Type 0) → Type 0
 /// <a href="#OnDiffers">OnDiffers</a> (stop.Differs d) P = P d
 /// <a href="#OnDiffers">OnDiffers</a> other P = Unit {0}
@@ -232,7 +232,7 @@ pub mod trace {}
 /// </pre>
 ///
 /// <pre>
-/// -- in no order the reservations of the run were answered so
+/// -- there is no order in which the reservations of the run were answered like this
 /// abbrev pub <b id="HasNoOrder">HasNoOrder</b> : <a href="#Checked">Checked</a> → Type 0
 /// <a href="#HasNoOrder">HasNoOrder</a> c = (order : <a href="../../logic/index.html#List">List</a> Call) → <a href="../trace/index.html#IsOrderOf">IsOrderOf</a> (<a href="#reserve_lines">reserve_lines</a> c.run) order
 ///     → <a href="../trace/index.html#AreAnswered">AreAnswered</a> c.allocator order → ⊥
@@ -274,7 +274,7 @@ pub mod trace {}
 /// </pre>
 ///
 /// <pre>
-/// -- what a stop for too many requests has to say
+/// -- what a stop for too many requests reports
 /// abbrev pub <b id="OnTooMany">OnTooMany</b> : CheckError → Type 0 → Type 0
 /// <a href="#OnTooMany">OnTooMany</a> stop.TooMany P = P
 /// <a href="#OnTooMany">OnTooMany</a> other P = Unit {0}

@@ -3,52 +3,72 @@
 //! The definitions of crate `ent_runner`, in the order in which one reads them:
 //! [`runs`], [`frame`], [`logs`], [`blocks_filling`], [`blocks`], [`blocks_queues`], [`blocks_frame`], [`blocks_unframed`], [`blocks_refusing`].
 
-#[doc(alias("AreRun", "StopShort"))]
+#[doc(alias("AreRun", "HasReturned", "StopShort", "first_some"))]
 /// Which systems workers have run, and how far the systems came if they were broken off.
 ///
 /// <pre>
-/// -- For each worker the systems that it ran, by rising number: together they are the first ones, each
-/// -- once.
+/// -- For each worker the systems that it ran, in ascending order of number: together they are the
+/// -- first ones, each once.
 /// pub record <b id="AreRun">AreRun</b> (workers count : <a href="../../logic/index.html#ℕ">ℕ</a>) (ran : <a href="../../logic/index.html#List">List</a> (<a href="../../logic/index.html#List">List</a> <a href="../../logic/index.html#ℕ">ℕ</a>)) : Type 0 where
 ///   pub each_worker : <a href="../../logic/index.html#length">length</a> ran ≡ workers
 ///   pub once : IsPermutation (flat_map (λ mine. mine) ran) (range_with_len 0 count)
 ///   pub rising : <a href="../../logic/index.html#All">All</a> (<a href="../../logic/index.html#AllPairs">AllPairs</a> (λ m n. m &lt; n)) ran
+/// </pre>
 ///
-/// module _ {O : Type 0} (may leave : <a href="../../logic/index.html#ℕ">ℕ</a> → O → Type 0) (outputs : <a href="../../logic/index.html#List">List</a> O) (empty : O) where
+/// <pre>
+/// -- the first of these that there is
+/// abbrev pub <b id="first_some">first_some</b> : {X : Type 0} → <a href="../../logic/index.html#List">List</a> (<a href="../../logic/index.html#Option">Option</a> X) → <a href="../../logic/index.html#Option">Option</a> X
+/// <a href="#first_some">first_some</a> [] = <a href="../../logic/index.html#None">None</a>
+/// <a href="#first_some">first_some</a> (<a href="../../logic/index.html#None">None</a> ∷ more) = <a href="#first_some">first_some</a> more
+/// <a href="#first_some">first_some</a> (<a href="../../logic/index.html#Some">Some</a> x ∷ more) = <a href="../../logic/index.html#Some">Some</a> x
+///
+/// module _ {O E : Type 0} (may : <a href="../../logic/index.html#ℕ">ℕ</a> → O → Type 0) (leave : <a href="../../logic/index.html#ℕ">ℕ</a> → O → E → Type 0) (outputs : <a href="../../logic/index.html#List">List</a> O)
+///     (empty : O)
+///     (errors : <a href="../../logic/index.html#List">List</a> (<a href="../../logic/index.html#Option">Option</a> E)) where
 ///   -- what the system of this number had added when it ended or stopped
 ///   abbrev of_system : <a href="../../logic/index.html#ℕ">ℕ</a> → O
 ///   of_system system = slice_index_or outputs system empty
 ///
-///   -- The system that one of these workers ran last ran out of memory, and left its output so.
-///   abbrev HasStopped : <a href="../../logic/index.html#List">List</a> (<a href="../../logic/index.html#List">List</a> <a href="../../logic/index.html#ℕ">ℕ</a>) → Type 0
-///   HasStopped ran =
-///       (worker : <a href="../../logic/index.html#ℕ">ℕ</a>) × (mine : <a href="../../logic/index.html#List">List</a> <a href="../../logic/index.html#ℕ">ℕ</a>) × (last : <a href="../../logic/index.html#ℕ">ℕ</a>) × (<a href="../../logic/index.html#slice_get">slice_get</a> ran worker ≡ <a href="../../logic/index.html#Some">Some</a> mine)
-///       × (<a href="../../logic/index.html#slice_get">slice_get</a> mine (<a href="../../logic/index.html#length">length</a> mine - 1) ≡ <a href="../../logic/index.html#Some">Some</a> last) × leave last (of_system last)
+///   -- the error that it returned, if it did
+///   abbrev error_of : <a href="../../logic/index.html#ℕ">ℕ</a> → <a href="../../logic/index.html#Option">Option</a> E
+///   error_of system = slice_index_or errors system <a href="../../logic/index.html#None">None</a>
 /// </pre>
 ///
 /// <pre>
-/// module _ {O : Type 0} (may leave : <a href="../../logic/index.html#ℕ">ℕ</a> → O → Type 0) (outputs : <a href="../../logic/index.html#List">List</a> O) (empty : O) where
+/// module _ {O E : Type 0} (may : <a href="../../logic/index.html#ℕ">ℕ</a> → O → Type 0) (leave : <a href="../../logic/index.html#ℕ">ℕ</a> → O → E → Type 0) (outputs : <a href="../../logic/index.html#List">List</a> O)
+///     (empty : O)
+///     (errors : <a href="../../logic/index.html#List">List</a> (<a href="../../logic/index.html#Option">Option</a> E)) where
 /// </pre>
 ///
 /// <pre>
-///   -- The workers have run the first ones of so many systems, at least one if there are any, and
-///   -- stopped. Each system ended as it may, or ran out of memory and left its output so.
-///   pub record <b id="StopShort">StopShort</b> (systems count : <a href="../../logic/index.html#ℕ">ℕ</a>) (ran : <a href="../../logic/index.html#List">List</a> (<a href="../../logic/index.html#List">List</a> <a href="../../logic/index.html#ℕ">ℕ</a>)) : Type 0 where
+///   -- It ended as it may, or returned this error and left its output so.
+///   abbrev pub <b id="HasReturned">HasReturned</b> : <a href="../../logic/index.html#ℕ">ℕ</a> → <a href="../../logic/index.html#Option">Option</a> E → Type 0
+///   <a href="#HasReturned">HasReturned</a> n <a href="../../logic/index.html#None">None</a> = may n (of_system n)
+///   <a href="#HasReturned">HasReturned</a> n (<a href="../../logic/index.html#Some">Some</a> error) = leave n (of_system n) error
+/// </pre>
+///
+/// <pre>
+///   -- The workers have run the first ones of that many systems, at least one if there are any, and
+///   -- stopped. With this error, if there is one.
+///   pub record <b id="StopShort">StopShort</b> (systems count : <a href="../../logic/index.html#ℕ">ℕ</a>) (ran : <a href="../../logic/index.html#List">List</a> (<a href="../../logic/index.html#List">List</a> <a href="../../logic/index.html#ℕ">ℕ</a>)) (error : <a href="../../logic/index.html#Option">Option</a> E) : Type 0 where
 ///     pub within : count ≤ systems
 ///     pub some : 0 &lt; systems → 0 &lt; count
 ///     pub each_output : <a href="../../logic/index.html#length">length</a> outputs ≡ count
-///     pub each_system : (n : <a href="../../logic/index.html#ℕ">ℕ</a>) → n &lt; count → may n (of_system n) ⊎ leave n (of_system n)
-///     -- A worker ran a system after another one only if that one had ended.
+///     pub each_error : <a href="../../logic/index.html#length">length</a> errors ≡ count
+///     pub each_system : (n : <a href="../../logic/index.html#ℕ">ℕ</a>) → n &lt; count → <a href="#HasReturned">HasReturned</a> n (error_of n)
+///     -- A worker ran a system after another one only if that one had returned no error.
 ///     pub ended : (worker : <a href="../../logic/index.html#ℕ">ℕ</a>) (mine : <a href="../../logic/index.html#List">List</a> <a href="../../logic/index.html#ℕ">ℕ</a>) → <a href="../../logic/index.html#slice_get">slice_get</a> ran worker ≡ <a href="../../logic/index.html#Some">Some</a> mine
-///         → <a href="../../logic/index.html#AllPairs">AllPairs</a> (λ earlier later. may earlier (of_system earlier)) mine
-///     -- Why: a system ran out of memory, or some are left that no worker has room for. If some are
-///     -- left, each worker has run at least one, for whose output it had room from the beginning.
-///     pub why : HasStopped ran ⊎ (count &lt; systems)
+///         → <a href="../../logic/index.html#AllPairs">AllPairs</a> (λ earlier later. error_of earlier ≡ <a href="../../logic/index.html#None">None</a>) mine
+///     -- The error is the first one in the order of the systems. Without one, some are left that no
+///     -- worker has room for. If some are left, each worker has run at least one, for whose output it
+///     -- had room from the beginning.
+///     pub first : error ≡ <a href="#first_some">first_some</a> errors
+///     pub left : error ≡ <a href="../../logic/index.html#None">None</a> → count &lt; systems
 ///     pub busy : count &lt; systems → <a href="../../logic/index.html#All">All</a> (λ mine. 0 &lt; <a href="../../logic/index.html#length">length</a> mine) ran
 /// </pre>
 pub mod runs {}
 
-#[doc(alias("IsHalf", "SystemMayIssue", "queue_at"))]
+#[doc(alias("IsHalf", "SystemMayIssue", "SystemMayLeave", "queue_at"))]
 /// A frame: systems run on workers over one shared world, each with a queue of its own, and the sync point applies the queues in the order of the systems.
 ///
 /// <pre>
@@ -66,7 +86,16 @@ pub mod runs {}
 /// </pre>
 ///
 /// <pre>
-/// -- The sync of the queues stands up to that handle of that command of that system, and no further.
+/// -- it may leave the commands, and return this error
+/// abbrev pub <b id="SystemMayLeave">SystemMayLeave</b> : {S E : Type 0} → (S → <a href="../../ent_world/open_world/index.html#View">View</a> → <a href="../../logic/index.html#List">List</a> <a href="../../ent_queue/command/index.html#Command">Command</a> → E → Type 0) → <a href="../../logic/index.html#List">List</a> S → <a href="../../ent_world/open_world/index.html#View">View</a>
+///     → <a href="../../logic/index.html#ℕ">ℕ</a> → <a href="../../logic/index.html#List">List</a> <a href="../../ent_queue/command/index.html#Command">Command</a> → E → Type 0
+/// <a href="#SystemMayLeave">SystemMayLeave</a> leave systems view n queue error =
+///     <a href="#SystemMayIssue">SystemMayIssue</a> (λ system view queue. leave system view queue error) systems view n queue
+/// </pre>
+///
+/// <pre>
+/// -- The sync of the queues has been done up to that handle of that command of that system, and no
+/// -- further.
 /// pub record <b id="IsHalf">IsHalf</b> (queues : <a href="../../logic/index.html#List">List</a> (<a href="../../logic/index.html#List">List</a> <a href="../../ent_queue/command/index.html#Command">Command</a>)) (before : <a href="../../ent_world/world/index.html#World">World</a>) (system command done : <a href="../../logic/index.html#ℕ">ℕ</a>)
 ///     (so_far : SyncReport) (after : <a href="../../ent_world/world/index.html#World">World</a>) : Type 0 where
 ///   pub stop : <a href="../../ent_world/sync/index.html#IsStop">IsStop</a> system command done queues
@@ -75,7 +104,7 @@ pub mod runs {}
 /// </pre>
 pub mod frame {}
 
-#[doc(alias("SystemMayLog", "log_at"))]
+#[doc(alias("SystemMayLeave", "SystemMayLog", "log_at"))]
 /// Systems that fill logs: they run on workers, each with a log of its own, over one shared allocator.
 ///
 /// <pre>
@@ -91,6 +120,14 @@ pub mod frame {}
 ///       → <a href="../../logic/index.html#List">List</a> (Entry C) → Type 0
 ///   <a href="#SystemMayLog">SystemMayLog</a> {S} may systems n log =
 ///       (system : S) → <a href="../../logic/index.html#slice_get">slice_get</a> systems n ≡ <a href="../../logic/index.html#Some">Some</a> system → may system log
+/// </pre>
+///
+/// <pre>
+///   -- it may leave this in its log, and return this error
+///   abbrev pub <b id="SystemMayLeave">SystemMayLeave</b> : {S E : Type 0} → (S → <a href="../../logic/index.html#List">List</a> (Entry C) → E → Type 0) → <a href="../../logic/index.html#List">List</a> S → <a href="../../logic/index.html#ℕ">ℕ</a>
+///       → <a href="../../logic/index.html#List">List</a> (Entry C) → E → Type 0
+///   <a href="#SystemMayLeave">SystemMayLeave</a> leave systems n log error =
+///       <a href="#SystemMayLog">SystemMayLog</a> (λ system log. leave system log error) systems n log
 /// </pre>
 pub mod logs {}
 
@@ -154,17 +191,22 @@ pub mod blocks_filling {}
 /// </pre>
 ///
 /// <pre>
-///   -- That many workers have run some of the systems, and stopped.
-///   pub record <b id="IsBrokenOff">IsBrokenOff</b> {S : Type 0} (may leave : S → <a href="../../logic/index.html#List">List</a> (Entry C) → Type 0) (systems : <a href="../../logic/index.html#List">List</a> S)
-///       (workers : <a href="../../logic/index.html#ℕ">ℕ</a>) (pool : <a href="../../logic/index.html#List">List</a> <a href="../../ent_handle/handle/index.html#Handle">Handle</a>) (before : <a href="../../logic/index.html#List">List</a> <a href="../../ent_blocks/blocks/index.html#Block">Block</a>) : Type 0 where
+///   -- That many workers have run some of the systems, and stopped, with this error if one of them
+///   -- returned one.
+///   pub record <b id="IsBrokenOff">IsBrokenOff</b> {S E : Type 0} (may : S → <a href="../../logic/index.html#List">List</a> (Entry C) → Type 0)
+///       (leave : S → <a href="../../logic/index.html#List">List</a> (Entry C) → E → Type 0) (systems : <a href="../../logic/index.html#List">List</a> S) (workers : <a href="../../logic/index.html#ℕ">ℕ</a>)
+///       (pool : <a href="../../logic/index.html#List">List</a> <a href="../../ent_handle/handle/index.html#Handle">Handle</a>)
+///       (before : <a href="../../logic/index.html#List">List</a> <a href="../../ent_blocks/blocks/index.html#Block">Block</a>) (error : <a href="../../logic/index.html#Option">Option</a> E) : Type 0 where
 ///     -- for each worker the systems that it ran
 ///     pub ran : <a href="../../logic/index.html#List">List</a> (<a href="../../logic/index.html#List">List</a> <a href="../../logic/index.html#ℕ">ℕ</a>)
 ///     pub count : <a href="../../logic/index.html#ℕ">ℕ</a>
 ///     pub run : <a href="../runs/index.html#AreRun">AreRun</a> workers count ran
 ///     -- what each of them had entered when it ended or stopped
 ///     pub logs : <a href="../../logic/index.html#List">List</a> (<a href="../../logic/index.html#List">List</a> (Entry C))
-///     pub short : <a href="../runs/index.html#StopShort">StopShort</a> (<a href="../logs/index.html#SystemMayLog">SystemMayLog</a> may systems) (<a href="../logs/index.html#SystemMayLog">SystemMayLog</a> leave systems) logs []
-///         (<a href="../../logic/index.html#length">length</a> systems) count ran
+///     -- the error that each of them returned, if it did
+///     pub errors : <a href="../../logic/index.html#List">List</a> (<a href="../../logic/index.html#Option">Option</a> E)
+///     pub short : <a href="../runs/index.html#StopShort">StopShort</a> (<a href="../logs/index.html#SystemMayLog">SystemMayLog</a> may systems) (<a href="../logs/index.html#SystemMayLeave">SystemMayLeave</a> leave systems) logs [] errors
+///         (<a href="../../logic/index.html#length">length</a> systems) count ran error
 ///     pub draws : (n : <a href="../../logic/index.html#ℕ">ℕ</a>) (block : <a href="../../ent_blocks/blocks/index.html#Block">Block</a>) → n &lt; count → <a href="../../logic/index.html#slice_get">slice_get</a> before n ≡ <a href="../../logic/index.html#Some">Some</a> block
 ///         → <a href="../blocks_filling/index.html#Draws">Draws</a> pool block (<a href="../logs/index.html#log_at">log_at</a> logs n) (<a href="../../ent_blocks/blocks/index.html#after_use">after_use</a> block (<a href="../../logic/index.html#length">length</a> (<a href="../../ent_log/logs/index.html#spawned_in">spawned_in</a> (<a href="../logs/index.html#log_at">log_at</a> logs n))))
 /// </pre>
@@ -197,25 +239,28 @@ pub mod blocks {}
 /// </pre>
 ///
 /// <pre>
-/// -- That many workers have run some of the systems, and stopped.
-/// pub record <b id="HaveStopped">HaveStopped</b> {S : Type 0} (may leave : S → <a href="../../ent_world/open_world/index.html#View">View</a> → <a href="../../logic/index.html#List">List</a> <a href="../../ent_queue/command/index.html#Command">Command</a> → Type 0)
-///     (systems : <a href="../../logic/index.html#List">List</a> S) (workers : <a href="../../logic/index.html#ℕ">ℕ</a>) (view : <a href="../../ent_world/open_world/index.html#View">View</a>) (s : <a href="../../ent_alloc/sequential/index.html#Allocator">Allocator</a>) (before : <a href="../../logic/index.html#List">List</a> <a href="../../ent_blocks/blocks/index.html#Block">Block</a>)
-///     : Type 0 where
+/// -- That many workers have run some of the systems, and stopped, with this error if one of them
+/// -- returned one.
+/// pub record <b id="HaveStopped">HaveStopped</b> {S E : Type 0} (may : S → <a href="../../ent_world/open_world/index.html#View">View</a> → <a href="../../logic/index.html#List">List</a> <a href="../../ent_queue/command/index.html#Command">Command</a> → Type 0)
+///     (leave : S → <a href="../../ent_world/open_world/index.html#View">View</a> → <a href="../../logic/index.html#List">List</a> <a href="../../ent_queue/command/index.html#Command">Command</a> → E → Type 0) (systems : <a href="../../logic/index.html#List">List</a> S) (workers : <a href="../../logic/index.html#ℕ">ℕ</a>) (view : <a href="../../ent_world/open_world/index.html#View">View</a>)
+///     (s : <a href="../../ent_alloc/sequential/index.html#Allocator">Allocator</a>) (before : <a href="../../logic/index.html#List">List</a> <a href="../../ent_blocks/blocks/index.html#Block">Block</a>) (error : <a href="../../logic/index.html#Option">Option</a> E) : Type 0 where
 ///   -- for each worker the systems that it ran
 ///   pub ran : <a href="../../logic/index.html#List">List</a> (<a href="../../logic/index.html#List">List</a> <a href="../../logic/index.html#ℕ">ℕ</a>)
 ///   pub count : <a href="../../logic/index.html#ℕ">ℕ</a>
 ///   pub run : <a href="../runs/index.html#AreRun">AreRun</a> workers count ran
 ///   -- what each of them had issued when it ended or stopped
 ///   pub queues : <a href="../../logic/index.html#List">List</a> (<a href="../../logic/index.html#List">List</a> <a href="../../ent_queue/command/index.html#Command">Command</a>)
-///   pub short : <a href="../runs/index.html#StopShort">StopShort</a> (<a href="../frame/index.html#SystemMayIssue">SystemMayIssue</a> may systems view) (<a href="../frame/index.html#SystemMayIssue">SystemMayIssue</a> leave systems view) queues
-///       [] (<a href="../../logic/index.html#length">length</a> systems) count ran
+///   -- the error that each of them returned, if it did
+///   pub errors : <a href="../../logic/index.html#List">List</a> (<a href="../../logic/index.html#Option">Option</a> E)
+///   pub short : <a href="../runs/index.html#StopShort">StopShort</a> (<a href="../frame/index.html#SystemMayIssue">SystemMayIssue</a> may systems view) (<a href="../frame/index.html#SystemMayLeave">SystemMayLeave</a> leave systems view) queues
+///       [] errors (<a href="../../logic/index.html#length">length</a> systems) count ran error
 ///   pub draws : (n : <a href="../../logic/index.html#ℕ">ℕ</a>) (block : <a href="../../ent_blocks/blocks/index.html#Block">Block</a>) → n &lt; count → <a href="../../logic/index.html#slice_get">slice_get</a> before n ≡ <a href="../../logic/index.html#Some">Some</a> block
 ///       → <a href="../../ent_queue/drawing/index.html#AreDrawnBy">AreDrawnBy</a> s block (<a href="../frame/index.html#queue_at">queue_at</a> queues n)
 /// </pre>
 pub mod blocks_queues {}
 
 #[doc(alias("EndsInBlocks", "StopsInBlocks", "reserved_in_blocks", "view_in_blocks"))]
-/// A frame in blocks: systems fill queues, each from a block of its own, and the sync point applies the queues in the order of the systems. What it ends with depends on the world, the sizes of the blocks and the systems alone: there is no history, and no word of workers.
+/// A frame in blocks: systems fill queues, each from a block of its own, and the sync point applies the queues in the order of the systems. What it ends with depends on the world, the sizes of the blocks and the systems alone: there is no history, and workers don\'t appear.
 ///
 /// <pre>
 /// -- what systems see of the world
@@ -260,7 +305,7 @@ pub mod blocks_queues {}
 pub mod blocks_frame {}
 
 #[doc(alias("IsWhyUnended"))]
-/// What is said of a frame in blocks that didn\'t end.
+/// What holds of a frame in blocks that wasn\'t completed.
 ///
 /// <pre>
 /// -- Why a world was not closed whose blocks are the first, with reservers of its phase whose blocks
@@ -275,14 +320,14 @@ pub mod blocks_frame {}
 /// </pre>
 pub mod blocks_unframed {}
 
-#[doc(alias("IsRefused"))]
+#[doc(alias("IfLost", "IfNotLost", "IsRefused"))]
 /// When systems in blocks are refused before any of them runs, as one fact: each field is a clause of `run_frame_in_blocks`, `fill_in_blocks` and `run_in_blocks`.
 ///
 /// <pre>
 /// -- That many systems run on that many workers, with these reservers in the phase of this number. The
 /// -- run is refused for an error if this holds of it.
-/// pub record <b id="IsRefused">IsRefused</b> (workers systems number : <a href="../../logic/index.html#ℕ">ℕ</a>) (reservers : <a href="../../logic/index.html#List">List</a> <a href="../../ent_blocks/blocks/index.html#Reserver">Reserver</a>)
-///     (refuses : RunError → Type 0) : Type 0 where
+/// pub record <b id="IsRefused">IsRefused</b> {E : Type 0} (workers systems number : <a href="../../logic/index.html#ℕ">ℕ</a>) (reservers : <a href="../../logic/index.html#List">List</a> <a href="../../ent_blocks/blocks/index.html#Reserver">Reserver</a>)
+///     (refuses : RunError E → Type 0) : Type 0 where
 ///   pub workers_are : refuses failed.Workers ↔ ((workers ≡ 0) ⊎ (64 &lt; workers))
 ///   pub systems_are : refuses failed.Systems
 ///       ↔ ((0 &lt; workers) × (workers ≤ 64) × (2 ^ 16 &lt; systems))
@@ -291,5 +336,27 @@ pub mod blocks_unframed {}
 ///   pub other_phase : refuses failed.OtherPhase
 ///       ↔ ((0 &lt; workers) × (workers ≤ 64) × (systems ≤ 2 ^ 16) × (<a href="../../logic/index.html#length">length</a> reservers ≡ systems)
 ///       × ¬ (<a href="../../logic/index.html#All">All</a> (λ (r : <a href="../../ent_blocks/blocks/index.html#Reserver">Reserver</a>). r.number ≡ number) reservers))
+/// </pre>
+///
+/// <pre>
+/// -- what holds if the systems were broken off, with this error if there is one
+/// abbrev pub <b id="IfLost">IfLost</b> : {E : Type 0} → (<a href="../../logic/index.html#Option">Option</a> E → Type 0) → RunError E → Type 0
+/// <a href="#IfLost">IfLost</a> P failed.Workers = Unit {0}
+/// <a href="#IfLost">IfLost</a> P failed.Systems = Unit {0}
+/// <a href="#IfLost">IfLost</a> P failed.Reservers = Unit {0}
+/// <a href="#IfLost">IfLost</a> P failed.OtherPhase = Unit {0}
+/// <a href="#IfLost">IfLost</a> P failed.Memory = Unit {0}
+/// <a href="#IfLost">IfLost</a> P (failed.Lost error) = P error
+/// </pre>
+///
+/// <pre>
+/// -- what holds of another error
+/// abbrev pub <b id="IfNotLost">IfNotLost</b> : {E : Type 0} → Type 0 → RunError E → Type 0
+/// <a href="#IfNotLost">IfNotLost</a> P failed.Workers = P
+/// <a href="#IfNotLost">IfNotLost</a> P failed.Systems = P
+/// <a href="#IfNotLost">IfNotLost</a> P failed.Reservers = P
+/// <a href="#IfNotLost">IfNotLost</a> P failed.OtherPhase = P
+/// <a href="#IfNotLost">IfNotLost</a> P failed.Memory = P
+/// <a href="#IfNotLost">IfNotLost</a> P (failed.Lost error) = Unit {0}
 /// </pre>
 pub mod blocks_refusing {}

@@ -108,7 +108,7 @@ pub mod moves {}
 ///   pub word : r.word ≡ shared.word
 ///   pub start : r.own.start ≡ shared.start
 ///   pub number : r.own.number &lt; shared.count
-///   -- the quota adds up: what is left and what it has requested
+///   -- the quota adds up from what is left and what it has requested
 ///   pub <a href="../../ent_alloc/limits/index.html#quota">quota</a> : r.own.left + <a href="../record/index.html#requested_by">requested_by</a> r.own ≡ <a href="../../ent_alloc/limits/index.html#quota">quota</a>
 /// </pre>
 ///
@@ -135,7 +135,7 @@ pub mod phase {}
 /// The one history of all reservers\' reservations, and what it respects.
 ///
 /// <pre>
-/// -- inserts a reservation into others that are sorted by falling cursor
+/// -- inserts a reservation into others that are sorted by descending cursor
 /// abbrev pub <b id="insert_reservation">insert_reservation</b> : Reservation → <a href="../../logic/index.html#List">List</a> Reservation → <a href="../../logic/index.html#List">List</a> Reservation
 /// <a href="#insert_reservation">insert_reservation</a> c [] = c ∷ []
 /// <a href="#insert_reservation">insert_reservation</a> c (d ∷ ds) =
@@ -180,7 +180,8 @@ pub mod phase {}
 /// </pre>
 ///
 /// <pre>
-/// -- each own reservation of these entries comes after all that an earlier entry names
+/// -- each of the reserver's own reservations among these entries comes after all that an earlier entry
+/// -- names
 /// abbrev pub <b id="FollowsEntries">FollowsEntries</b> : <a href="../../logic/index.html#List">List</a> Reservation → <a href="../../logic/index.html#List">List</a> RecordEntry → Type 0
 /// <a href="#FollowsEntries">FollowsEntries</a> reservations [] = Unit {0}
 /// <a href="#FollowsEntries">FollowsEntries</a> reservations (entry ∷ entries) =
@@ -259,8 +260,8 @@ pub mod replies {}
 ///
 /// <pre>
 /// -- The phase ended with all its reservers. Their reservations, each once, form one history that is
-/// -- legal and respects each reserver. No handle was given twice, and none was alive. A
-/// -- flush brings to life just what was given.
+/// -- legal and respects each reserver. No handle was given twice, and none was alive. A flush brings
+/// -- to life exactly what was given.
 /// pub record <b id="EndsWithAll">EndsWithAll</b> (opened : <a href="../phase/index.html#Shared">Shared</a>) (returned : <a href="../../logic/index.html#List">List</a> <a href="../phase/index.html#Reserver">Reserver</a>) (after : <a href="../../ent_alloc/sequential/index.html#Allocator">Allocator</a>)
 ///     : Type 0 where
 ///   pub legal : <a href="../../ent_alloc/history/index.html#IsLegal">IsLegal</a> opened.start (<a href="../order/index.html#history_of">history_of</a> (<a href="../phase/index.html#records_of">records_of</a> returned))
@@ -279,7 +280,7 @@ pub mod replies {}
 /// <pre>
 /// -- The phase ended with those of its reservers that are returned. A front of the pool is reserved.
 /// -- It counts what these have requested, and of the others no more than their quota. It has all
-/// -- handles that these got: they differ, and none was alive. A flush brings to life just what is
+/// -- handles that these got: they differ, and none was alive. A flush brings to life exactly what is
 /// -- reserved. If all are returned, it counts exactly what they have requested, and the cursor is
 /// -- where their history leaves it.
 /// pub record <b id="EndsWithSome">EndsWithSome</b> (opened : <a href="../phase/index.html#Shared">Shared</a>) (returned : <a href="../../logic/index.html#List">List</a> <a href="../phase/index.html#Reserver">Reserver</a>) (after : <a href="../../ent_alloc/sequential/index.html#Allocator">Allocator</a>)

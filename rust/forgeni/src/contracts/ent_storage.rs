@@ -7,7 +7,7 @@
 /// A bundle: the components that an entity is given, and their values.
 ///
 /// <pre>
-/// -- components and their values, by strictly rising number
+/// -- components and their values, in strictly ascending order of number
 /// abbrev pub <b id="Bundle">Bundle</b> : Type 0
 /// <a href="#Bundle">Bundle</a> = <a href="../../logic/index.html#List">List</a> (ComponentId × <a href="../../logic/index.html#ℤ">ℤ</a>)
 /// </pre>
@@ -196,7 +196,7 @@ pub mod places {}
 /// </pre>
 ///
 /// <pre>
-/// -- the limit of a map that has none: as many as there are slots
+/// -- the limit of a map that has none: the greatest number of slots
 /// abbrev pub <b id="no_limit">no_limit</b> : <a href="../../logic/index.html#ℕ">ℕ</a>
 /// <a href="#no_limit">no_limit</a> = 2 ^ 32 - 1
 /// </pre>
@@ -421,7 +421,7 @@ pub mod retained {}
 /// </pre>
 ///
 /// <pre>
-/// -- the values of the first components, by rising number
+/// -- the values of the first components, in ascending order of number
 /// abbrev pub <b id="values_bytes">values_bytes</b> : (ComponentId → <a href="../../logic/index.html#Option">Option</a> <a href="../../logic/index.html#ℤ">ℤ</a>) → <a href="../../logic/index.html#ℕ">ℕ</a> → <a href="../../logic/index.html#List">List</a> <a href="../../logic/index.html#ℕ">ℕ</a>
 /// <a href="#values_bytes">values_bytes</a> value width =
 ///     flat_map (λ number. <a href="#value_bytes">value_bytes</a> (value (<a href="#component">component</a> number))) (range_with_len 0 width)
@@ -470,7 +470,7 @@ pub mod retained {}
 /// </pre>
 ///
 /// <pre>
-/// -- The entity is there, and its numbers fit. So it is with each entity of a storage.
+/// -- The entity is there, and its numbers fit, as those of each entity of a storage do.
 /// pub record <b id="IsStored">IsStored</b> (m : <a href="../entity_map/index.html#EntityMap">EntityMap</a>) (h : <a href="../../ent_handle/handle/index.html#Handle">Handle</a>) : Type 0 where
 ///   pub birth : IsSomeAnd (<a href="../entity_map/index.html#birth_of">birth_of</a> m h) <a href="#IsBirth">IsBirth</a>
 ///   pub numbered : (id : ComponentId) (v : <a href="../../logic/index.html#ℤ">ℤ</a>) → <a href="../entity_map/index.html#value_of">value_of</a> m h id ≡ <a href="../../logic/index.html#Some">Some</a> v → id.0 &lt; 256
@@ -486,7 +486,7 @@ pub mod retained {}
 pub mod image {}
 
 #[doc(alias("AreCloned", "AreEntries", "HasNone", "IsClonedOption", "IsFullFor", "SparseMap", "values_of", "with_written_in"))]
-/// What contracts see of a sparse map, and the two vectors that stand for it.
+/// What contracts see of a sparse map, and the two vectors that represent it.
 ///
 /// <pre>
 /// -- the values, for how many values there is room, for how many slots, and how many may have values

@@ -1,7 +1,7 @@
 // Made of crates/ent_total/specs by .ci/contracts.py. It isn't edited by hand.
 
 //! The definitions of crate `ent_total`, in the order in which one reads them:
-//! [`batch`], [`applying`], [`births`], [`closing`], [`faults`], [`framing`], [`issuing`], [`sharing`], [`image`], [`unframed`].
+//! [`batch`], [`applying`], [`births`], [`closing`], [`framing`], [`issuing`], [`phases`], [`reserving`], [`image`], [`unframed`].
 
 #[doc(alias("IsFinished", "IsLeftUntil", "IsSynced", "IsSyncedUntil", "Queues", "Stopped"))]
 /// Queues that are applied together, and where their sync point stopped.
@@ -32,7 +32,8 @@
 /// </pre>
 ///
 /// <pre>
-/// -- It stopped there for lack of memory: all births stand, and of the commands just those before.
+/// -- It stopped there for lack of memory: all births have taken effect, and exactly the commands
+/// -- before that point.
 /// pub record <b id="IsSyncedUntil">IsSyncedUntil</b> (s : Stop) (queues : <a href="../../logic/index.html#List">List</a> (<a href="../../logic/index.html#List">List</a> <a href="../../ent_queue/command/index.html#Command">Command</a>)) (before after : <a href="../../ent_world/world/index.html#World">World</a>)
 ///     (r : SyncReport) : Type 0 where
 ///   pub stop : <a href="../../ent_world/sync/index.html#IsStop">IsStop</a> s.system s.command s.done queues
@@ -45,8 +46,8 @@
 /// </pre>
 ///
 /// <pre>
-/// -- What was left of the queues after a stop was done. If the sync point of a world had stopped so,
-/// -- the whole of it is done now, and the faults before and after the stop are its faults.
+/// -- What was left of the queues after a stop was done. If the sync point of a world had stopped like
+/// -- this, the whole of it is done now, and the faults before and after the stop are its faults.
 /// pub record <b id="IsFinished">IsFinished</b> (s : Stop) (queues : <a href="../../logic/index.html#List">List</a> (<a href="../../logic/index.html#List">List</a> <a href="../../ent_queue/command/index.html#Command">Command</a>)) (before after : <a href="../../ent_world/world/index.html#World">World</a>)
 ///     (r : SyncReport) : Type 0 where
 ///   pub world : after
@@ -64,8 +65,8 @@
 /// </pre>
 ///
 /// <pre>
-/// -- It stopped again, there or later. If the sync point of a world had stopped so, it has now stopped
-/// -- at the later place, with the faults before and after.
+/// -- It stopped again, there or later. If the sync point of a world had stopped like this, it has now
+/// -- stopped at the later place, with the faults before and after.
 /// pub record <b id="IsLeftUntil">IsLeftUntil</b> (s later : Stop) (queues : <a href="../../logic/index.html#List">List</a> (<a href="../../logic/index.html#List">List</a> <a href="../../ent_queue/command/index.html#Command">Command</a>)) (before after : <a href="../../ent_world/world/index.html#World">World</a>)
 ///     (r : SyncReport) : Type 0 where
 ///   pub stop : <a href="../../ent_world/sync/index.html#IsStop">IsStop</a> later.system later.command later.done queues
@@ -88,7 +89,7 @@
 pub mod batch {}
 
 #[doc(alias("IfStopped", "IfStoppedAgain", "IsCounted", "IsMemory", "IsOfOtherWorld", "IsOtherWorld", "IsUnbegun", "IsUnflushed", "IsUnmoved", "parts_of", "queues_in", "stopped_in"))]
-/// What is said of a sync point that didn\'t do all.
+/// What holds of a sync point that wasn\'t completed.
 ///
 /// <pre>
 /// -- the queues that come back
@@ -99,7 +100,7 @@ pub mod batch {}
 /// </pre>
 ///
 /// <pre>
-/// -- what comes back: the queues if nothing was done, and else where it stopped
+/// -- what comes back: the queues if nothing was done, and otherwise where it stopped
 /// abbrev pub <b id="parts_of">parts_of</b> : SyncError → <a href="../../logic/index.html#Result">Result</a> <a href="../batch/index.html#Queues">Queues</a> <a href="../batch/index.html#Stopped">Stopped</a>
 /// <a href="#parts_of">parts_of</a> (applied.OtherWorld queues) = <a href="../../logic/index.html#Ok">Ok</a> queues
 /// <a href="#parts_of">parts_of</a> (applied.Memory queues) = <a href="../../logic/index.html#Ok">Ok</a> queues
@@ -139,7 +140,7 @@ pub mod batch {}
 ///
 /// <pre>
 /// -- How many entities were spawned since the last flush, before and after: none if it flushed, and
-/// -- else as many as before.
+/// -- otherwise as many as before.
 /// abbrev pub <b id="IsCounted">IsCounted</b> : <a href="../../logic/index.html#Result">Result</a> SyncReport SyncError → <a href="../../logic/index.html#ℕ">ℕ</a> → <a href="../../logic/index.html#ℕ">ℕ</a> → Type 0
 /// <a href="#IsCounted">IsCounted</a> (<a href="../../logic/index.html#Ok">Ok</a> report) before after = after ≡ 0
 /// <a href="#IsCounted">IsCounted</a> (<a href="../../logic/index.html#Err">Err</a> (applied.OtherWorld queues)) before after = after ≡ before
@@ -206,6 +207,7 @@ pub mod births {}
 /// abbrev pub <b id="IsMissing">IsMissing</b> : CloseError → Type 0
 /// <a href="#IsMissing">IsMissing</a> (Missing count) = Unit {0}
 /// <a href="#IsMissing">IsMissing</a> OtherPhase = ⊥
+/// <a href="#IsMissing">IsMissing</a> Order = ⊥
 /// <a href="#IsMissing">IsMissing</a> InUse = ⊥
 /// </pre>
 ///
@@ -214,43 +216,16 @@ pub mod births {}
 /// abbrev pub <b id="count_missing">count_missing</b> : CloseError → <a href="../../logic/index.html#ℕ">ℕ</a>
 /// <a href="#count_missing">count_missing</a> (Missing count) = count
 /// <a href="#count_missing">count_missing</a> OtherPhase = 0
+/// <a href="#count_missing">count_missing</a> Order = 0
 /// <a href="#count_missing">count_missing</a> InUse = 0
 /// </pre>
 pub mod closing {}
 
-#[doc(alias("IfQuota", "IfSpace", "IsSpace"))]
-/// What is said of a refusal.
-///
-/// <pre>
-/// -- the pool had too few
-/// abbrev pub <b id="IsSpace">IsSpace</b> : ReserveError → Type 0
-/// <a href="#IsSpace">IsSpace</a> (failed.Space wanted left) = Unit {0}
-/// <a href="#IsSpace">IsSpace</a> (failed.Quota left) = ⊥
-/// <a href="#IsSpace">IsSpace</a> failed.Memory = ⊥
-/// </pre>
-///
-/// <pre>
-/// -- this is true of the refusal, if the pool had too few
-/// abbrev pub <b id="IfSpace">IfSpace</b> : ReserveError → (Refused → Type 0) → Type 0
-/// <a href="#IfSpace">IfSpace</a> (failed.Space wanted left) P = P (refused.Space wanted left)
-/// <a href="#IfSpace">IfSpace</a> (failed.Quota left) P = Unit {0}
-/// <a href="#IfSpace">IfSpace</a> failed.Memory P = Unit {0}
-/// </pre>
-///
-/// <pre>
-/// -- this is true of the quota that was left, if it was too little
-/// abbrev pub <b id="IfQuota">IfQuota</b> : ReserveError → (<a href="../../logic/index.html#ℕ">ℕ</a> → Type 0) → Type 0
-/// <a href="#IfQuota">IfQuota</a> (failed.Space wanted left) P = Unit {0}
-/// <a href="#IfQuota">IfQuota</a> (failed.Quota left) P = P left
-/// <a href="#IfQuota">IfQuota</a> failed.Memory P = Unit {0}
-/// </pre>
-pub mod faults {}
-
 #[doc(alias("spawned_after"))]
-/// What is said of a frame that didn\'t do all.
+/// What holds of a frame that wasn\'t completed.
 ///
 /// <pre>
-/// -- How many are counted after a sync point that stopped so: none if it had flushed.
+/// -- How many are counted after a sync point that stopped like this: none if it had flushed.
 /// abbrev pub <b id="spawned_after">spawned_after</b> : SyncFault → <a href="../../logic/index.html#ℕ">ℕ</a> → <a href="../../logic/index.html#ℕ">ℕ</a>
 /// <a href="#spawned_after">spawned_after</a> fault.FlushMemory spawned = spawned
 /// <a href="#spawned_after">spawned_after</a> (fault.Memory system command done so_far) spawned = 0
@@ -261,9 +236,9 @@ pub mod framing {}
 /// What contracts see of a world in a phase, and of a system that issues commands in it.
 ///
 /// <pre>
-/// -- the number by which phases are told apart, the number of the world and how many entities were
-/// -- spawned in it since the last flush, the world that is open, the reservers that no system has, and
-/// -- the queues that came back
+/// -- the number that distinguishes phases, the number of the world and how many entities were spawned
+/// -- in it since the last flush, the world that is open, the reservers that no system has, and the
+/// -- queues that came back
 /// pub record <b id="OpenWorld">OpenWorld</b> : Type 0 where
 ///   pub number : <a href="../../logic/index.html#ℕ">ℕ</a>
 ///   pub of_world : <a href="../../logic/index.html#ℕ">ℕ</a>
@@ -369,88 +344,82 @@ pub mod framing {}
 /// </pre>
 pub mod issuing {}
 
-#[doc(alias("AreOf", "GivesReply", "IsUnserved", "MakesReservation", "MayBeServed", "MayReturn", "Reserver", "Shared", "all_returned", "reservers_of"))]
-/// What contracts see of a phase and of its reservers.
+#[doc(alias("AreOf", "MayReturn", "Phase", "Reserver", "all_returned", "reservers_of"))]
+/// What contracts see of a phase and of its reservers, for any source.
 ///
 /// <pre>
-/// -- the number by which phases are told apart, the allocator that is shared, and the reservers that
-/// -- are returned
-/// pub record <b id="Shared">Shared</b> : Type 0 where
+/// -- the number that distinguishes phases, the source, and the reservers that are returned
+/// pub record <b id="Phase">Phase</b> (S R : Type 0) : Type 0 where
 ///   pub number : <a href="../../logic/index.html#ℕ">ℕ</a>
-///   pub shared : <a href="../../ent_shared/phase/index.html#Shared">inner.Shared</a>
-///   pub returned : <a href="../../logic/index.html#List">List</a> <a href="../../ent_shared/phase/index.html#Reserver">inner.Reserver</a>
+///   pub source : S
+///   pub returned : <a href="../../logic/index.html#List">List</a> R
 /// </pre>
 ///
 /// <pre>
-/// -- the number of its phase, the allocator that it reserves from, and its reserver
-/// pub record <b id="Reserver">Reserver</b> : Type 0 where
+/// -- the number of its phase, the source that it reserves from, and what it reserves with
+/// pub record <b id="Reserver">Reserver</b> (S R : Type 0) : Type 0 where
 ///   pub number : <a href="../../logic/index.html#ℕ">ℕ</a>
-///   pub shared : <a href="../../ent_shared/phase/index.html#Shared">inner.Shared</a>
-///   pub reserver : <a href="../../ent_shared/phase/index.html#Reserver">inner.Reserver</a>
+///   pub source : S
+///   pub reserver : R
 /// </pre>
 ///
 /// <pre>
-/// -- what these reservers reserve with
-/// abbrev pub <b id="reservers_of">reservers_of</b> : <a href="../../logic/index.html#List">List</a> <a href="#Reserver">Reserver</a> → <a href="../../logic/index.html#List">List</a> <a href="../../ent_shared/phase/index.html#Reserver">inner.Reserver</a>
-/// <a href="#reservers_of">reservers_of</a> reservers = <a href="../../logic/index.html#map">map</a> (λ (r : <a href="#Reserver">Reserver</a>). r.reserver) reservers
+/// module _ {S R : Type 0} where
+///   -- what these reservers reserve with
+///   abbrev pub <b id="reservers_of">reservers_of</b> : <a href="../../logic/index.html#List">List</a> (<a href="#Reserver">Reserver</a> S R) → <a href="../../logic/index.html#List">List</a> R
+///   <a href="#reservers_of">reservers_of</a> reservers = <a href="../../logic/index.html#map">map</a> (λ (r : <a href="#Reserver">Reserver</a> S R). r.reserver) reservers
 /// </pre>
 ///
 /// <pre>
-/// -- all of them are of the phase of this number
-/// abbrev pub <b id="AreOf">AreOf</b> : <a href="../../logic/index.html#ℕ">ℕ</a> → <a href="../../logic/index.html#List">List</a> <a href="#Reserver">Reserver</a> → Type 0
-/// <a href="#AreOf">AreOf</a> number reservers = <a href="../../logic/index.html#All">All</a> (λ (r : <a href="#Reserver">Reserver</a>). r.number ≡ number) reservers
+///   -- all of them are of the phase of this number
+///   abbrev pub <b id="AreOf">AreOf</b> : <a href="../../logic/index.html#ℕ">ℕ</a> → <a href="../../logic/index.html#List">List</a> (<a href="#Reserver">Reserver</a> S R) → Type 0
+///   <a href="#AreOf">AreOf</a> number reservers = <a href="../../logic/index.html#All">All</a> (λ (r : <a href="#Reserver">Reserver</a> S R). r.number ≡ number) reservers
 /// </pre>
 ///
 /// <pre>
-/// -- the reservers returned, and these behind them
-/// abbrev pub <b id="all_returned">all_returned</b> : <a href="#Shared">Shared</a> → <a href="../../logic/index.html#List">List</a> <a href="#Reserver">Reserver</a> → <a href="../../logic/index.html#List">List</a> <a href="../../ent_shared/phase/index.html#Reserver">inner.Reserver</a>
-/// <a href="#all_returned">all_returned</a> s reservers = s.returned ++ <a href="#reservers_of">reservers_of</a> reservers
+///   -- the reservers returned, and these behind them
+///   abbrev pub <b id="all_returned">all_returned</b> : <a href="#Phase">Phase</a> S R → <a href="../../logic/index.html#List">List</a> (<a href="#Reserver">Reserver</a> S R) → <a href="../../logic/index.html#List">List</a> R
+///   <a href="#all_returned">all_returned</a> p reservers = p.returned ++ <a href="#reservers_of">reservers_of</a> reservers
 /// </pre>
 ///
 /// <pre>
-/// -- They are all of this phase, and with those returned no more than it has.
-/// abbrev pub <b id="MayReturn">MayReturn</b> : <a href="#Shared">Shared</a> → <a href="../../logic/index.html#List">List</a> <a href="#Reserver">Reserver</a> → Type 0
-/// <a href="#MayReturn">MayReturn</a> s reservers =
-///     <a href="#AreOf">AreOf</a> s.number reservers × (<a href="../../logic/index.html#length">length</a> (<a href="#all_returned">all_returned</a> s reservers) ≤ s.shared.count)
+///   -- They are all of this phase, and with those returned no more than it has.
+///   abbrev pub <b id="MayReturn">MayReturn</b> : <a href="../../logic/index.html#ℕ">ℕ</a> → <a href="#Phase">Phase</a> S R → <a href="../../logic/index.html#List">List</a> (<a href="#Reserver">Reserver</a> S R) → Type 0
+///   <a href="#MayReturn">MayReturn</a> count p reservers =
+///       <a href="#AreOf">AreOf</a> p.number reservers × (<a href="../../logic/index.html#length">length</a> (<a href="#all_returned">all_returned</a> p reservers) ≤ count)
+/// </pre>
+pub mod phases {}
+
+#[doc(alias("IfRefusal", "Lists", "Replies"))]
+/// What a request returns, for any source.
+///
+/// <pre>
+/// -- this is true of the refusal, if it is one of the source
+/// abbrev pub <b id="IfRefusal">IfRefusal</b> : ReserveError → (Refused → Type 0) → Type 0
+/// <a href="#IfRefusal">IfRefusal</a> (failed.Space wanted left) P = P (refused.Space wanted left)
+/// <a href="#IfRefusal">IfRefusal</a> (failed.Quota left) P = P (refused.Quota left)
+/// <a href="#IfRefusal">IfRefusal</a> failed.Memory P = ⊥
 /// </pre>
 ///
 /// <pre>
-/// -- The quota has so many handles, and the pool had so many when the phase was opened.
-/// abbrev pub <b id="MayBeServed">MayBeServed</b> : <a href="#Reserver">Reserver</a> → <a href="../../logic/index.html#ℕ">ℕ</a> → Type 0
-/// <a href="#MayBeServed">MayBeServed</a> r n = (n ≤ r.reserver.own.left) × (n ≤ <a href="../../logic/index.html#length">length</a> r.shared.start.pool)
+/// module _ {S R : Type 0} (may_reply : S → R → R → <a href="../../logic/index.html#ℕ">ℕ</a> → <a href="../../logic/index.html#Result">Result</a> (<a href="../../logic/index.html#List">List</a> <a href="../../ent_handle/handle/index.html#Handle">Handle</a>) Refused → Type 0) where
+///   -- This is how the source replied to a request for n handles. Nothing has changed except what the
+///   -- reserver reserves with.
+///   pub record <b id="Replies">Replies</b> (before after : <a href="../phases/index.html#Reserver">Reserver</a> S R) (n : <a href="../../logic/index.html#ℕ">ℕ</a>) (reply : <a href="../../logic/index.html#Result">Result</a> (<a href="../../logic/index.html#List">List</a> <a href="../../ent_handle/handle/index.html#Handle">Handle</a>) Refused)
+///       : Type 0 where
+///     pub same : after ≡ record before { reserver = after.reserver }
+///     pub replied : may_reply before.source before.reserver after.reserver n reply
 /// </pre>
 ///
 /// <pre>
-/// -- The reserver has made one more reservation, of n handles, and nothing else has changed.
-/// pub record <b id="MakesReservation">MakesReservation</b> (before after : <a href="#Reserver">Reserver</a>) (n : <a href="../../logic/index.html#ℕ">ℕ</a>)
-///     (returned : <a href="../../logic/index.html#Result">Result</a> (<a href="../../logic/index.html#List">List</a> <a href="../../ent_handle/handle/index.html#Handle">Handle</a>) Refused) : Type 0 where
-///   pub same : after ≡ record before { reserver = after.reserver }
-///   pub reserves : <a href="../../ent_shared/replies/index.html#Reserves">Reserves</a> before.shared before.reserver after.reserver n returned
+///   -- That many handles were reserved, and the list has them after those that it had before.
+///   pub record <b id="Lists">Lists</b> (before after : <a href="../phases/index.html#Reserver">Reserver</a> S R) (n : <a href="../../logic/index.html#ℕ">ℕ</a>) (old new : <a href="../../logic/index.html#List">List</a> <a href="../../ent_handle/handle/index.html#Handle">Handle</a>) : Type 0 where
+///     pub given : <a href="../../logic/index.html#List">List</a> <a href="../../ent_handle/handle/index.html#Handle">Handle</a>
+///     pub behind : new ≡ old ++ given
+///     pub many : <a href="../../logic/index.html#length">length</a> given ≡ n
+///     pub replies : <a href="#Replies">Replies</a> before after n (<a href="../../logic/index.html#Ok">Ok</a> given)
 /// </pre>
-///
-/// <pre>
-/// -- So many handles were reserved. The list has them after those that it had before, and the
-/// -- reserver's record after those that the reserver was given before.
-/// pub record <b id="GivesReply">GivesReply</b> (before after : <a href="#Reserver">Reserver</a>) (n : <a href="../../logic/index.html#ℕ">ℕ</a>) (old new : <a href="../../logic/index.html#List">List</a> <a href="../../ent_handle/handle/index.html#Handle">Handle</a>) : Type 0 where
-///   pub given : <a href="../../logic/index.html#List">List</a> <a href="../../ent_handle/handle/index.html#Handle">Handle</a>
-///   pub behind : new ≡ old ++ given
-///   pub reserves : <a href="#MakesReservation">MakesReservation</a> before after n (<a href="../../logic/index.html#Ok">Ok</a> given)
-///   pub many : <a href="../../logic/index.html#length">length</a> given ≡ n
-///   pub recorded : <a href="../../ent_shared/order/index.html#handles_given">handles_given</a> after.reserver.own ≡ <a href="../../ent_shared/order/index.html#handles_given">handles_given</a> before.reserver.own ++ given
-/// </pre>
-///
-/// <pre>
-/// -- A request for n handles was refused, for the first of these that holds: the quota has too few,
-/// -- there is no memory, the pool has too few. Only in the last case a reservation was made. Nothing
-/// -- is recorded as given.
-/// pub record <b id="IsUnserved">IsUnserved</b> (before after : <a href="#Reserver">Reserver</a>) (n : <a href="../../logic/index.html#ℕ">ℕ</a>) (error : ReserveError) : Type 0 where
-///   pub quota_left : <a href="../faults/index.html#IfQuota">IfQuota</a> error (λ left. left ≡ before.reserver.own.left)
-///   pub memory : error ≡ failed.Memory → <a href="#MayBeServed">MayBeServed</a> before n
-///   pub space : <a href="../faults/index.html#IfSpace">IfSpace</a> error (λ why. <a href="#MakesReservation">MakesReservation</a> before after n (<a href="../../logic/index.html#Err">Err</a> why))
-///   pub unchanged : ¬ (<a href="../faults/index.html#IsSpace">IsSpace</a> error) → after ≡ before
-///   pub recorded : <a href="../../ent_shared/order/index.html#handles_given">handles_given</a> after.reserver.own ≡ <a href="../../ent_shared/order/index.html#handles_given">handles_given</a> before.reserver.own
-/// </pre>
-pub mod sharing {}
+pub mod reserving {}
 
 #[doc(alias())]
 /// The image of a world of the package: that of its world, and how many entities `spawn` made since the last flush.
@@ -463,11 +432,11 @@ pub mod sharing {}
 pub mod image {}
 
 #[doc(alias("AreUnfilled", "IsHeld", "IsLeft", "IsStopped", "IsUnended", "IsUnrunFor"))]
-/// What is said of a frame in blocks that didn\'t end.
+/// What holds of a frame in blocks that wasn\'t completed.
 ///
 /// <pre>
 /// -- no queues were filled, for this reason
-/// abbrev pub <b id="IsUnrunFor">IsUnrunFor</b> : {J : Type 0} → Unframed J → RunError → Type 0
+/// abbrev pub <b id="IsUnrunFor">IsUnrunFor</b> : {J E : Type 0} → Unframed J E → RunError E → Type 0
 /// <a href="#IsUnrunFor">IsUnrunFor</a> (unframed.Unrun world reservers error) why = error ≡ why
 /// <a href="#IsUnrunFor">IsUnrunFor</a> (unframed.Unended left queues) why = ⊥
 /// <a href="#IsUnrunFor">IsUnrunFor</a> (unframed.Unapplied world queues) why = ⊥
@@ -475,18 +444,18 @@ pub mod image {}
 /// </pre>
 ///
 /// <pre>
-/// module _ {S : Type 0} (may leave : S → <a href="../../ent_world/open_world/index.html#View">View</a> → <a href="../../logic/index.html#List">List</a> <a href="../../ent_queue/command/index.html#Command">Command</a> → Type 0) (systems : <a href="../../logic/index.html#List">List</a> S)
-///     (workers : <a href="../../logic/index.html#ℕ">ℕ</a>) where
+/// module _ {S E : Type 0} (may : S → <a href="../../ent_world/open_world/index.html#View">View</a> → <a href="../../logic/index.html#List">List</a> <a href="../../ent_queue/command/index.html#Command">Command</a> → Type 0)
+///     (leave : S → <a href="../../ent_world/open_world/index.html#View">View</a> → <a href="../../logic/index.html#List">List</a> <a href="../../ent_queue/command/index.html#Command">Command</a> → E → Type 0) (systems : <a href="../../logic/index.html#List">List</a> S) (workers : <a href="../../logic/index.html#ℕ">ℕ</a>) where
 ///   -- What holds if these systems, with reservers of these, filled no queues. Only if they were
 ///   -- broken off are the reservers lost.
 ///   pub record <b id="AreUnfilled">AreUnfilled</b> {J : Type 0} (opened : WorldInBlocks J) (reservers left : <a href="../../logic/index.html#List">List</a> <a href="../../ent_blocks/blocks/index.html#Reserver">Reserver</a>)
-///       (error : RunError) : Type 0 where
-///     pub handed_back : error ≢ failed.Lost → left ≡ reservers
+///       (error : RunError E) : Type 0 where
+///     pub handed_back : <a href="../../ent_runner/blocks_refusing/index.html#IfNotLost">IfNotLost</a> (left ≡ reservers) error
 ///     pub memory_some : error ≡ failed.Memory → 0 &lt; <a href="../../logic/index.html#length">length</a> systems
-///     pub lost : error ≡ failed.Lost → <a href="../../ent_runner/blocks_queues/index.html#HaveStopped">HaveStopped</a> may leave systems workers
-///         (<a href="../../ent_runner/blocks_frame/index.html#view_in_blocks">view_in_blocks</a> opened.world) opened.world.blocks.phase.start (<a href="../../ent_blocks/blocks/index.html#blocks_of">blocks_of</a> reservers)
-///     pub lost_some : error ≡ failed.Lost → 0 &lt; <a href="../../logic/index.html#length">length</a> systems
-///     pub lost_reservers : error ≡ failed.Lost → left ≡ []
+///     pub lost : <a href="../../ent_runner/blocks_refusing/index.html#IfLost">IfLost</a> (<a href="../../ent_runner/blocks_queues/index.html#HaveStopped">HaveStopped</a> may leave systems workers (<a href="../../ent_runner/blocks_frame/index.html#view_in_blocks">view_in_blocks</a> opened.world)
+///         opened.world.blocks.phase.start (<a href="../../ent_blocks/blocks/index.html#blocks_of">blocks_of</a> reservers)) error
+///     pub lost_some : <a href="../../ent_runner/blocks_refusing/index.html#IfLost">IfLost</a> (λ _. 0 &lt; <a href="../../logic/index.html#length">length</a> systems) error
+///     pub lost_reservers : <a href="../../ent_runner/blocks_refusing/index.html#IfLost">IfLost</a> (λ _. left ≡ []) error
 /// </pre>
 ///
 /// <pre>
@@ -531,7 +500,7 @@ pub mod image {}
 ///
 /// <pre>
 ///   -- A frame of these systems left this.
-///   abbrev pub <b id="IsLeft">IsLeft</b> : {J : Type 0} → WorldInBlocks J → <a href="../../logic/index.html#List">List</a> <a href="../../ent_blocks/blocks/index.html#Reserver">Reserver</a> → Unframed J → Type 0
+///   abbrev pub <b id="IsLeft">IsLeft</b> : {J : Type 0} → WorldInBlocks J → <a href="../../logic/index.html#List">List</a> <a href="../../ent_blocks/blocks/index.html#Reserver">Reserver</a> → Unframed J E → Type 0
 ///   <a href="#IsLeft">IsLeft</a> opened reservers (unframed.Unrun world left error) =
 ///       (world ≡ opened) × <a href="#AreUnfilled">AreUnfilled</a> opened reservers left.items error
 ///   <a href="#IsLeft">IsLeft</a> opened reservers (unframed.Unended left queues) =

@@ -4,7 +4,7 @@
 //! [`world`], [`image`], [`open_world`], [`effects`], [`sync`], [`rest`], [`memory`], [`in_blocks`].
 
 #[doc(alias("AreLiving", "IsWorld", "World", "lives_in"))]
-/// A world: who is alive and what each of them is made of.
+/// A world: which entities are alive, and what each of them is made of.
 ///
 /// <pre>
 /// -- the allocator of its handles, how often it was flushed, and its living entities
@@ -36,7 +36,7 @@
 pub mod world {}
 
 #[doc(alias("HasImage", "allocator_of", "framed", "header_bytes", "living", "magic", "most", "version"))]
-/// The image of a world: the bytes that are written of it. It tells all of the world, and nothing of how it came to be so or where its entities lie in memory.
+/// The image of a world: the bytes that represent it. It says everything about the world, and nothing about how it got into that state or where its entities are in memory.
 ///
 /// <pre>
 /// -- its allocator, without rows
@@ -45,7 +45,7 @@ pub mod world {}
 /// </pre>
 ///
 /// <pre>
-/// -- its living entities, by rising slot
+/// -- its living entities, in slot order
 /// abbrev pub <b id="living">living</b> : <a href="../world/index.html#World">World</a> → <a href="../../logic/index.html#List">List</a> <a href="../../ent_handle/handle/index.html#Handle">Handle</a>
 /// <a href="#living">living</a> w = <a href="../../logic/index.html#FinMap.keys">map.keys</a> w.entities
 /// </pre>
@@ -70,7 +70,7 @@ pub mod world {}
 /// </pre>
 ///
 /// <pre>
-/// -- a part of so many bytes, and what follows it
+/// -- a part of that many bytes, and what follows it
 /// abbrev pub <b id="framed">framed</b> : <a href="../../logic/index.html#ℕ">ℕ</a> → <a href="../../logic/index.html#List">List</a> <a href="../../logic/index.html#ℕ">ℕ</a> → <a href="../../logic/index.html#List">List</a> <a href="../../logic/index.html#ℕ">ℕ</a> → <a href="../../logic/index.html#List">List</a> <a href="../../logic/index.html#ℕ">ℕ</a>
 /// <a href="#framed">framed</a> phase part rest = <a href="#header_bytes">header_bytes</a> phase (<a href="../../logic/index.html#length">length</a> part) ++ (part ++ rest)
 /// </pre>
@@ -81,7 +81,7 @@ pub mod world {}
 /// </pre>
 ///
 /// <pre>
-/// -- so many bytes hold its image, whatever components its entities have
+/// -- that many bytes hold its image, whatever components its entities have
 /// abbrev pub <b id="most">most</b> : <a href="../world/index.html#World">World</a> → <a href="../../logic/index.html#ℕ">ℕ</a>
 /// <a href="#most">most</a> w = 72 + 12 * w.allocator.made + 2320 * <a href="../../logic/index.html#FinSet.len">set.len</a> w.allocator.live
 /// </pre>
@@ -155,7 +155,7 @@ pub mod open_world {}
 /// </pre>
 ///
 /// <pre>
-/// -- a world to which commands were applied, and their faults in order
+/// -- a world after commands, and their faults in order
 /// pub record <b id="Applied">Applied</b> : Type 0 where
 ///   pub world : <a href="../world/index.html#World">World</a>
 ///   pub faults : <a href="../../logic/index.html#List">List</a> Fault
@@ -174,7 +174,7 @@ pub mod open_world {}
 /// </pre>
 ///
 /// <pre>
-/// -- A command changes an entity that is there; else it changes nothing, and is a fault.
+/// -- A command changes an entity that is there; otherwise it changes nothing, and is a fault.
 /// abbrev pub <b id="on_entity">on_entity</b> : <a href="../../logic/index.html#ℕ">ℕ</a> → <a href="../../logic/index.html#ℕ">ℕ</a> → (<a href="../../ent_handle/handle/index.html#Handle">Handle</a> → <a href="../world/index.html#World">World</a> → <a href="../world/index.html#World">World</a>) → <a href="../../ent_handle/handle/index.html#Handle">Handle</a> → <a href="#Applied">Applied</a> → <a href="#Applied">Applied</a>
 /// <a href="#on_entity">on_entity</a> system command change h a =
 ///     if <a href="../world/index.html#lives_in">lives_in</a> a.world h
@@ -257,7 +257,7 @@ pub mod effects {}
 /// </pre>
 ///
 /// <pre>
-/// -- how many stand before a handle among others, if it is among them
+/// -- how many come before a handle in a list, if it is in the list
 /// abbrev pub <b id="ordinal_among">ordinal_among</b> : <a href="../../logic/index.html#List">List</a> <a href="../../ent_handle/handle/index.html#Handle">Handle</a> → <a href="../../ent_handle/handle/index.html#Handle">Handle</a> → <a href="../../logic/index.html#Option">Option</a> <a href="../../logic/index.html#ℕ">ℕ</a>
 /// <a href="#ordinal_among">ordinal_among</a> handles h = position_from (eq_by_cmp <a href="../../ent_handle/handle/index.html#handle_cmp">handle_cmp</a> h) 0 handles
 /// </pre>
@@ -310,7 +310,7 @@ pub mod effects {}
 /// </pre>
 ///
 /// <pre>
-/// -- the next phase, and the last one for ever
+/// -- the next phase; the last one is its own next
 /// abbrev pub <b id="next_phase">next_phase</b> : <a href="../../logic/index.html#ℕ">ℕ</a> → <a href="../../logic/index.html#ℕ">ℕ</a>
 /// <a href="#next_phase">next_phase</a> phase = <a href="../../logic/index.html#min">min</a> (phase + 1) (2 ^ 64 - 1)
 /// </pre>
@@ -362,7 +362,8 @@ pub mod effects {}
 /// </pre>
 ///
 /// <pre>
-/// -- the sync that stopped there: all births stand, and of the commands just those before
+/// -- the sync that stopped there: all births have taken effect, and exactly the commands before that
+/// -- point
 /// abbrev pub <b id="sync_until">sync_until</b> : <a href="../../logic/index.html#ℕ">ℕ</a> → <a href="../../logic/index.html#ℕ">ℕ</a> → <a href="../../logic/index.html#ℕ">ℕ</a> → <a href="../../logic/index.html#List">List</a> (<a href="../../logic/index.html#List">List</a> <a href="../../ent_queue/command/index.html#Command">Command</a>) → <a href="../world/index.html#World">World</a> → <a href="../effects/index.html#Applied">Applied</a>
 /// <a href="#sync_until">sync_until</a> system command done queues w =
 ///     <a href="../effects/index.html#after_queues">after_queues</a> 0 (<a href="#cut">cut</a> system command done queues) (<a href="../effects/index.html#applied">applied</a> (<a href="#after_births">after_births</a> queues w) [])
@@ -481,9 +482,9 @@ pub mod rest {}
 /// <pre>
 /// -- The command may take memory in this world, at that of its handles: it gives an entity several
 /// -- components, or one that the entity lacks, frees a handle whose slot is given again, or lists a
-/// -- fault. No other takes any: no spawn of nobody, no empty bundle for who lives, no other value of
-/// -- one component, no component that is taken away from who lives, no despawn by which a slot is
-/// -- retired.
+/// -- fault. No other command takes any: not a spawn of none, an empty bundle for a living entity,
+/// -- another value of one component, the removal of a component from a living entity, or a despawn
+/// -- that retires a slot.
 /// abbrev pub <b id="command_takes_memory">command_takes_memory</b> : <a href="../world/index.html#World">World</a> → <a href="../../logic/index.html#ℕ">ℕ</a> → <a href="../../ent_queue/command/index.html#Command">Command</a> → <a href="../../logic/index.html#Bool">Bool</a>
 /// <a href="#command_takes_memory">command_takes_memory</a> w done (<a href="../../ent_queue/command/index.html#Spawn">Spawn</a> h items) = <a href="#insert_takes_memory">insert_takes_memory</a> w items h
 /// <a href="#command_takes_memory">command_takes_memory</a> w done (<a href="../../ent_queue/command/index.html#SpawnMany">SpawnMany</a> hs items) = <a href="#one_takes_memory">one_takes_memory</a> w items (<a href="../../logic/index.html#slice_get">slice_get</a> hs done)
@@ -512,7 +513,7 @@ pub mod memory {}
 /// What contracts see of a world whose allocator is dealt in blocks.
 ///
 /// <pre>
-/// -- the same under the number by which phases in blocks are told apart
+/// -- the same under the number that distinguishes phases in blocks
 /// pub record <b id="WorldInBlocks">WorldInBlocks</b> : Type 0 where
 ///   pub blocks : <a href="../../ent_blocks/blocks/index.html#Phase">Phase</a>
 ///   pub phase : <a href="../../logic/index.html#ℕ">ℕ</a>
@@ -527,7 +528,7 @@ pub mod memory {}
 /// </pre>
 ///
 /// <pre>
-/// -- the world with so much used of its blocks
+/// -- the world with that much of its blocks used
 /// abbrev pub <b id="world_after">world_after</b> : <a href="../world/index.html#World">World</a> → <a href="../../logic/index.html#List">List</a> <a href="../../ent_blocks/blocks/index.html#Block">Block</a> → <a href="../world/index.html#World">World</a>
 /// <a href="#world_after">world_after</a> w blocks = record w { allocator = <a href="../../ent_blocks/blocks/index.html#after_blocks">after_blocks</a> w.allocator blocks }
 /// </pre>

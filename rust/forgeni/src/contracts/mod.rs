@@ -2,8 +2,8 @@
 
 //! What the contracts in these docs mean: the definitions that they cite, as they were proved.
 //!
-//! There are 505, and each one cites only what comes before it. Who wants to read a contract follows its links; who wants to
-//! read all begins here:
+//! There are 507, and each one cites only what comes before it. To understand a contract, follow its links. To read them all,
+//! begin here:
 //!
 //! - [`logic`]: Rattle's own words and signs.
 //! - [`ent_handle`]: [`handle`](ent_handle::handle), [`birth`](ent_handle::birth), [`bytes`](ent_handle::bytes), [`component`](ent_handle::component), [`text`](ent_handle::text), [`handed_back`](ent_handle::handed_back)
@@ -16,7 +16,7 @@
 //! - [`ent_queue`]: [`command`](ent_queue::command), [`reserving`](ent_queue::reserving), [`drawing`](ent_queue::drawing), [`issuing`](ent_queue::issuing), [`logging`](ent_queue::logging), [`commands`](ent_queue::commands)
 //! - [`ent_world`]: [`world`](ent_world::world), [`image`](ent_world::image), [`open_world`](ent_world::open_world), [`effects`](ent_world::effects), [`sync`](ent_world::sync), [`rest`](ent_world::rest), [`memory`](ent_world::memory), [`in_blocks`](ent_world::in_blocks)
 //! - [`ent_runner`]: [`runs`](ent_runner::runs), [`frame`](ent_runner::frame), [`logs`](ent_runner::logs), [`blocks_filling`](ent_runner::blocks_filling), [`blocks`](ent_runner::blocks), [`blocks_queues`](ent_runner::blocks_queues), [`blocks_frame`](ent_runner::blocks_frame), [`blocks_unframed`](ent_runner::blocks_unframed), [`blocks_refusing`](ent_runner::blocks_refusing)
-//! - [`ent_total`]: [`batch`](ent_total::batch), [`applying`](ent_total::applying), [`births`](ent_total::births), [`closing`](ent_total::closing), [`faults`](ent_total::faults), [`framing`](ent_total::framing), [`issuing`](ent_total::issuing), [`sharing`](ent_total::sharing), [`image`](ent_total::image), [`unframed`](ent_total::unframed)
+//! - [`ent_total`]: [`batch`](ent_total::batch), [`applying`](ent_total::applying), [`births`](ent_total::births), [`closing`](ent_total::closing), [`framing`](ent_total::framing), [`issuing`](ent_total::issuing), [`phases`](ent_total::phases), [`reserving`](ent_total::reserving), [`image`](ent_total::image), [`unframed`](ent_total::unframed)
 //!
 //! A definition is a statement or a function of values as contracts see them: a `Vec` is a list, an `Entities` a record. It
 //! is never run.
@@ -39,9 +39,9 @@
 /// | <b id="ensures"><code>ensures</code></b> | what holds when the call returns. Its name, if it has one, is that of the clause. |
 /// | <b id="requires"><code>requires</code></b> | what has to hold when the call is made. |
 /// | <b id="result"><code>result</code></b> | what the call returns. |
-/// | <b id="old"><code>old</code></b> | of what a call changes: as it was before. `self.old` is the value before the call. |
-/// | <b id="new"><code>new</code></b> | of what a call changes: as it is after. `self.new` is the value after the call. |
-/// | <b id="now"><code>now</code></b> | of what is only borrowed: its value. `self.now` is the value that the call looks at. |
+/// | <b id="old"><code>old</code></b> | the value before a call, of something that the call changes: `self.old`. |
+/// | <b id="new"><code>new</code></b> | the value after a call, of something that the call changes: `self.new`. |
+/// | <b id="now"><code>now</code></b> | the value of something that is only borrowed: `self.now` is the value that the call looks at. |
 /// | <b id="λ"><code>λ</code></b> | a function: `λ x. t` maps `x` to `t`. |
 /// | <b id="record"><code>record</code></b> | a value with named fields: `record { index = 0; generation = 1 }`. |
 /// | <b id="Type"><code>Type</code></b> | the type of types. A statement is a type as well, and is true if that has a value. |
@@ -58,14 +58,14 @@
 /// | <b id="take"><code>take</code></b> | the first so many items of a list, or all if there are fewer. |
 /// | <b id="drop"><code>drop</code></b> | the list without its first so many items. |
 /// | <b id="reverse"><code>reverse</code></b> | the list from its end to its beginning. |
-/// | <b id="map"><code>map</code></b> | the list of what a function gives for each item. |
+/// | <b id="map"><code>map</code></b> | the list of what a function returns for each item. |
 /// | <b id="filter"><code>filter</code></b> | the items of a list that pass a test. |
 /// | <b id="slice_get"><code>slice_get</code></b> | the item at a position of a list, if there is one. |
-/// | <b id="All"><code>All</code></b> | a statement holds of each item of a list. |
-/// | <b id="AllPairs"><code>AllPairs</code></b> | a relation holds of each item and each later one. |
-/// | <b id="AllZip"><code>AllZip</code></b> | a relation holds of the items of two lists at the same position. The lists are as long as each other. |
+/// | <b id="All"><code>All</code></b> | a statement holds for each item of a list. |
+/// | <b id="AllPairs"><code>AllPairs</code></b> | a relation holds between each item and each later one. |
+/// | <b id="AllZip"><code>AllZip</code></b> | a relation holds between the items of two lists at the same position. The lists have the same length. |
 /// | <b id="Contains"><code>Contains</code></b> | the list has this item. |
-/// | <b id="SomeIndex"><code>SomeIndex</code></b> | a statement holds of a position of the list. |
+/// | <b id="SomeIndex"><code>SomeIndex</code></b> | a statement holds for some position of the list. |
 /// | <b id="min"><code>min</code></b> | the lesser of two numbers. |
 /// | <b id="max"><code>max</code></b> | the greater of two numbers. |
 /// | <b id="Option"><code>Option</code></b> | Rust's `Option`. |
@@ -77,7 +77,7 @@
 /// | <b id="OnSome"><code>OnSome</code></b> | a statement that holds if there is a value. |
 /// | <b id="is_some"><code>is_some</code></b> | Rust's `is_some`. |
 /// | <b id="unwrap_or"><code>unwrap_or</code></b> | the value, or another one if there is none. |
-/// | <b id="UnwrapsOrElse"><code>UnwrapsOrElse</code></b> | the value, or one of which a statement holds if there is none. |
+/// | <b id="UnwrapsOrElse"><code>UnwrapsOrElse</code></b> | the value, or one for which a statement holds if there is none. |
 /// | <b id="option_map"><code>option_map</code></b> | Rust's `Option::map`. |
 /// | <b id="option_copied"><code>option_copied</code></b> | Rust's `Option::copied`: the value behind the reference. |
 /// | <b id="option_copied_mut"><code>option_copied_mut</code></b> | the value behind the mutable reference. |
@@ -90,9 +90,9 @@
 /// | <b id="OnOk"><code>OnOk</code></b> | a statement that holds if there is no error. |
 /// | <b id="OnErr"><code>OnErr</code></b> | a statement that holds if there is an error. |
 /// | <b id="IsErrOf"><code>IsErrOf</code></b> | there is an error, and it is this one. |
-/// | <b id="IsErrAnd"><code>IsErrAnd</code></b> | there is an error, and a statement holds of it. |
+/// | <b id="IsErrAnd"><code>IsErrAnd</code></b> | there is an error, and a statement holds for it. |
 /// | <b id="vec_len"><code>vec_len</code></b> | how many items the vector has. |
-/// | <b id="vec_capacity"><code>vec_capacity</code></b> | for how many items the vector has room. |
+/// | <b id="vec_capacity"><code>vec_capacity</code></b> | the number of items that the vector has room for. |
 /// | <b id="sem"><code>sem</code></b> | what is behind a reference. |
 /// | <b id="ModifiesValue"><code>ModifiesValue</code></b> | a call of the closure changes the first of two values into the second. |
 /// | <b id="nat_cmp"><code>nat_cmp</code></b> | Rust's `cmp` of two unsigned numbers. |
@@ -109,7 +109,7 @@
 /// | <b id="FinMap.keys"><code>FinMap.keys</code></b> | the keys of the map, in their order. |
 /// | <b id="FinMap.values"><code>FinMap.values</code></b> | the values of the map, in the order of their keys. |
 /// | <b id="FinMap.entries"><code>FinMap.entries</code></b> | the keys of the map with their values, in the order of the keys. |
-/// | <b id="FinMap.is_sorted"><code>FinMap.is_sorted</code></b> | whether the keys of a list of entries strictly rise. |
+/// | <b id="FinMap.is_sorted"><code>FinMap.is_sorted</code></b> | whether the keys of a list of entries are in strictly ascending order. |
 /// | <b id="FinMap.put"><code>FinMap.put</code></b> | the list of entries with one more, at its place. |
 /// | <b id="FinMap.find"><code>FinMap.find</code></b> | the value of the first entry with a key. |
 /// | <b id="FinSet.FinSet"><code>FinSet.FinSet</code></b> | the finite sets of values in this order. |

@@ -46,7 +46,7 @@ fn ask_for_nodes<K, V>(count: usize) -> Result<(), AllocError> {
 }
 
 impl<K: Ord, V> BTreeMap<K, V> {
-    /// The contract: no pairs. It takes no memory.
+    /// The contract: no pairs. It doesn't allocate.
     pub fn new() -> Self {
         BTreeMap(::alloc::collections::BTreeMap::new())
     }

@@ -17,7 +17,7 @@ pub enum SmallVec<T, const N: usize> {
 }
 
 impl<T: Copy + Default, const N: usize> SmallVec<T, N> {
-    /// The contract: no items. It takes no memory.
+    /// The contract: no items. It doesn't allocate.
     #[inline]
     pub fn new() -> Self {
         SmallVec::Inline {

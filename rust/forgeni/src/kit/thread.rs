@@ -2,11 +2,11 @@
 //!
 //! The contracts are those of the kit's `core/src/thread.rt` and `thread/lent.rt`.
 
-/// Who runs the two parts of a frame's work side by side: threads of std ([`StdThreads`]), rayon,
-/// or a task pool of the caller's.
+/// Runs the two parts of a frame's work side by side: threads of std ([`StdThreads`]), rayon, or a
+/// task pool of the caller's.
 ///
-/// Of the two nothing is trusted but that they may be called from another thread: a part that
-/// `join` doesn't call is called after it, and a part that it calls again does nothing then.
+/// A `join` may call each part from another thread, and nothing else is trusted: a part that it
+/// doesn't call is called afterwards, and a part that it calls again does nothing.
 ///
 /// ```
 /// use forgeni::{run_logs_on, Entities, Join, LogCommands};
@@ -52,8 +52,8 @@ impl<J: Join + ?Sized> Join for &J {
     }
 }
 
-/// A new thread of std for one of two parts, which ends with the frame. Without the feature `std`
-/// one part runs after the other.
+/// Runs one of two parts in a new thread of std, which ends with the frame. Without the feature
+/// `std` one part runs after the other.
 ///
 /// ```
 /// use forgeni::{run_logs_on, Entities, LogCommands, StdThreads};

@@ -37,9 +37,9 @@ pub trait FallibleVec<T>: Sized {
     /// what there was.
     fn reserve_exact_fallibly(&mut self, additional: usize) -> Result<(), AllocError>;
 
-    /// The contract: the room is no more than before, and none if there are no items. If there is
-    /// no memory to move the items to, the room stays. `shrink_to_fit` of Rust's ends the program
-    /// instead.
+    /// The contract: the room is no more than before, and none if there are no items. If there
+    /// isn't enough memory to move the items to, the room stays. `shrink_to_fit` of Rust's ends the
+    /// program instead.
     fn shrink_to_fit_fallibly(&mut self);
 
     /// The contract: the value stands at the end, or comes back.

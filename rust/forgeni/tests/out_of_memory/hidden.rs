@@ -335,7 +335,7 @@ mod systems {
         let ran = ran.load(Ordering::Relaxed);
         match done {
             Err(FrameError::Memory) => assert_eq!(ran, 0),
-            Err(FrameError::Lost) => assert!((1..1_100).contains(&ran)),
+            Err(FrameError::Lost(None)) => assert!((1..1_100).contains(&ran)),
             Ok(()) => assert_eq!(ran, 1_100),
             Err(other) => panic!("{other}"),
         }
@@ -367,7 +367,7 @@ mod systems {
         let ran = ran.load(Ordering::Relaxed);
         match done {
             Err(LogError::Memory) => assert_eq!(ran, 0),
-            Err(LogError::Lost) => assert!((1..1_100).contains(&ran)),
+            Err(LogError::Lost(None)) => assert!((1..1_100).contains(&ran)),
             Ok(()) => assert_eq!(ran, 1_100),
             Err(other) => panic!("{other}"),
         }

@@ -16,7 +16,7 @@ pub enum Role {
     Aim(Aim),
 }
 
-impl System<Shared> for Role {
+impl System<Shared, Memory> for Role {
     ghost may_issue = { role_may };
 
     fn run(

@@ -20,7 +20,7 @@ pub struct Launch {
     pub count: u32,
 }
 
-impl System<Shared> for Launch {
+impl System<Shared, Memory> for Launch {
     ghost may_issue = { λ launch _ queue. IsLaunch launch.count queue };
 
     fn run(
@@ -44,7 +44,7 @@ pub struct Age {
     pub limit: i64,
 }
 
-impl System<Shared> for Age {
+impl System<Shared, Memory> for Age {
     ghost may_issue = { λ _ view queue. All (IsOnProjectile view) queue };
 
     #[tactic(auto, using(ent_queue::proofs::Extending::extends_then))]
@@ -92,7 +92,7 @@ pub struct Aim {
     pub rank: usize,
 }
 
-impl System<Shared> for Aim {
+impl System<Shared, Memory> for Aim {
     ghost may_issue = { λ _ _ queue. length queue ≤ 1 };
 
     fn run(

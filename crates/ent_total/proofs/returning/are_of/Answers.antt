@@ -1,10 +1,10 @@
 use Rattle.ent_total.proofs.Common.{rules, arith, refl, ◌≡◌, take_all, All-more}
-use Rattle.ent_total.specs.Sharing.{Reserver}
+use Rattle.ent_total.specs.Phases.{Reserver}
 use Rattle.ent_total.proofs.returning.are_of.Goals as goal
 
 pub loop-reserver-preserved : goal.loop-reserver-preserved
 loop-reserver-preserved g c =
-    All-more (λ (d : Reserver). d.number ≡ c.args.number) c.args.reservers.now
+    All-more (λ (d : Reserver _ _). d.number ≡ c.args.number) c.args.reservers.now
     c.loop-reserver.reserver-index c.reserver-item.result c.loop-reserver-test.true
     c.loop-reserver.invariant (search rules)
 

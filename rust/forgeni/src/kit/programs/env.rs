@@ -15,7 +15,7 @@ pub trait Env {}
 pub type Args = IntoIter<String>;
 
 /// The contract: all words in their order, the program's name first; or `InvalidData` if one is no
-/// UTF-8, or `OutOfMemory` if there is no memory for the list of them.
+/// UTF-8, or `OutOfMemory` if there isn't enough memory for the list of them.
 ///
 /// The words themselves are in memory that Rust's std takes, and it ends the program if that is
 /// refused.

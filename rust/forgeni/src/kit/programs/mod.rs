@@ -20,7 +20,7 @@ pub mod string;
 pub mod time;
 
 /// The kit's `format!`. The contract: the text with each value in its place, or an `Err` if there
-/// is no memory for it.
+/// isn't enough memory for it.
 macro_rules! format_fallibly {
     ($($what:tt)*) => {
         $crate::kit::programs::string::String::formatted(format_args!($($what)*))

@@ -15,7 +15,7 @@ use core::ops::Deref;
 pub struct String(std::string::String);
 
 impl String {
-    /// The contract: no text. It takes no memory.
+    /// The contract: no text. It doesn't allocate.
     pub const fn new() -> Self {
         String(std::string::String::new())
     }
@@ -76,7 +76,7 @@ impl String {
         &self.0
     }
 
-    /// The contract: the bytes of the text. It takes no memory.
+    /// The contract: the bytes of the text. It doesn't allocate.
     #[inline]
     pub fn into_bytes(self) -> Vec<u8> {
         self.0.into_bytes()

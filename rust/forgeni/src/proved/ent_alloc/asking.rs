@@ -17,7 +17,7 @@ pub(super) const MOST: u64 = 1 << 50;
 /// # Requests
 impl Entities {
     /// Requests a handle, which the next [`flush`](Self::flush) brings to life. Until then `alloc`
-    /// and `free` return `NeedsFlush`. It takes constant time, and no memory.
+    /// and `free` return `NeedsFlush`. It takes constant time and doesn't allocate.
     ///
     /// ```
     /// use forgeni::{Entities, State};
@@ -60,8 +60,8 @@ impl Entities {
         }
     }
 
-    /// Requests `n` handles at once, all of them or none, and lists them: those of old slots first,
-    /// the one that waits longest before the others, then those of new slots. The next
+    /// Requests `n` handles at once, all of them or none, and lists them: first those of old slots,
+    /// beginning with the one that has waited longest, then those of new slots. The next
     /// [`flush`](Self::flush) brings them to life.
     ///
     /// ```
@@ -81,12 +81,12 @@ impl Entities {
     /// # Errors
     ///
     /// - [`ReserveError::Quota`] if more than 2^50 handles were requested since the last flush,
-    ///   with these. Nothing has changed.
-    /// - [`ReserveError::Memory`] if there is no memory for the list. Nothing has changed, and no
-    ///   handle was requested.
+    ///   including these. Nothing has changed.
+    /// - [`ReserveError::Memory`] if there isn't enough memory for the list. Nothing has changed,
+    ///   and no handle was requested.
     /// - [`ReserveError::Space`] if fewer than `n` handles are left. The request counts all the
-    ///   same, and every later one is refused until the next flush. A caller that wants to go on
-    ///   with fewer looks at [`left`](Self::left) first.
+    ///   same, and every later one is refused until the next flush. To go on with fewer handles,
+    ///   look at [`left`](Self::left) first.
     ///
     /// <details><summary>Contract</summary>
     ///
@@ -122,9 +122,9 @@ impl Entities {
         Ok(handles)
     }
 
-    /// Requests `n` handles at once, all of them or none, and appends them to a list: those of old
-    /// slots first, the one that waits longest before the others, then those of new slots. The next
-    /// [`flush`](Self::flush) brings them to life.
+    /// Requests `n` handles at once, all of them or none, and appends them to a list: first those
+    /// of old slots, beginning with the one that has waited longest, then those of new slots. The
+    /// next [`flush`](Self::flush) brings them to life.
     ///
     /// ```
     /// use forgeni::Entities;
@@ -132,7 +132,7 @@ impl Entities {
     /// let mut entities = Entities::new();
     /// let mut bullets = Vec::with_capacity(100);
     /// for _ in 0..10 {
-    ///     // There is room in the list, so this takes no memory.
+    ///     // There is room in the list, so this doesn't allocate.
     ///     entities.request_into(&mut bullets, 10)?;
     /// }
     /// assert_eq!((bullets.len(), entities.reserved()), (100, 100));
@@ -141,15 +141,15 @@ impl Entities {
     ///
     /// # Errors
     ///
-    /// In each case the list has the same handles as before.
+    /// In each case the list is unchanged.
     ///
     /// - [`ReserveError::Quota`] if more than 2^50 handles were requested since the last flush,
-    ///   with these. Nothing has changed.
-    /// - [`ReserveError::Memory`] if the list has too little room, and there is no memory for more.
-    ///   Nothing has changed, and no handle was requested.
+    ///   including these. Nothing has changed.
+    /// - [`ReserveError::Memory`] if the list has too little room, and there isn't enough memory
+    ///   for more. Nothing has changed, and no handle was requested.
     /// - [`ReserveError::Space`] if fewer than `n` handles are left. The request counts all the
-    ///   same, and every later one is refused until the next flush. A caller that wants to go on
-    ///   with fewer looks at [`left`](Self::left) first.
+    ///   same, and every later one is refused until the next flush. To go on with fewer handles,
+    ///   look at [`left`](Self::left) first.
     ///
     /// <details><summary>Contract</summary>
     ///

@@ -11,10 +11,27 @@ use crate::allocator::slots::Slots;
 use crate::allocator::state::State;
 use crate::handles::{Handle, OutOfMemory};
 
-/// Gives out the handles of entities and knows which are alive, as Bevy's `Entities` does.
+/// Hands out the handles of entities, and knows which of them are alive, like Bevy's `Entities`.
+///
+/// ```
+/// use forgeni::Entities;
+///
+/// let mut entities = Entities::new();
+/// let cart = entities.alloc()?;
+/// let horse = entities.alloc()?;
+/// entities.free(cart)?;
+/// assert!(entities.is_alive(horse) && !entities.is_alive(cart));
+///
+/// // The slot of the cart is given again, with another generation.
+/// let ship = entities.alloc()?;
+/// assert_eq!(ship.index(), cart.index());
+/// assert!(ship != cart && !entities.is_alive(cart));
+/// # Ok::<(), Box<dyn std::error::Error>>(())
+/// ```
 ///
 /// It is `Send` and `Sync`: it can go to another thread, and many threads can read it at once.
-/// While it is shared, many threads reserve handles from it.
+/// While it is [shared](crate::Entities::share), many threads can reserve handles from it.
+/// [`new`](crate::Entities::new) is a `const fn`, so an allocator can also be in a `static`:
 ///
 /// ```
 /// use forgeni::Entities;
@@ -38,7 +55,8 @@ pub struct Entities {
 
 /// # Making one
 impl Entities {
-    /// An allocator with no entities and these limits. It takes no memory, whatever the limits are.
+    /// Creates an allocator without entities, with these limits. It doesn't allocate, whatever the
+    /// limits are.
     ///
     /// It never gives the greatest handle, 4294967294v2147483647: where both limits are the
     /// greatest, each slot has one generation less.
@@ -72,14 +90,14 @@ impl Entities {
         Entities::with_exact_limits(limits.keeping_placeholder())
     }
 
-    /// An allocator with no entities, which gives all handles within its limits, including the
-    /// greatest one, which [`with_limits`](Self::with_limits) never gives. It takes no memory,
+    /// Creates an allocator without entities, which gives all handles within its limits, including
+    /// the greatest one, which [`with_limits`](Self::with_limits) never gives. It doesn't allocate,
     /// whatever the limits are.
     ///
     /// ```
     /// use forgeni::{Entities, Limits};
     ///
-    /// // As Bevy's allocator, it gives each handle that there is.
+    /// // Like Bevy's allocator, it gives every handle that there is.
     /// const ALL: Entities = Entities::with_exact_limits(Limits::GREATEST);
     ///
     /// let mut one = Entities::with_exact_limits(Limits::new(1, 1).unwrap());
@@ -114,8 +132,8 @@ impl Entities {
 
 /// # Handles
 impl Entities {
-    /// Gives a handle that is alive at once: the next one of the slot that was freed last, or the
-    /// first one of a new slot if none waits. It takes constant time.
+    /// Returns a new handle, which is alive at once: the next one of the slot that was freed last,
+    /// or the first one of a new slot if none waits. It takes constant time.
     ///
     /// ```
     /// use forgeni::Entities;
@@ -133,8 +151,8 @@ impl Entities {
     /// - [`AllocError::NeedsFlush`] if handles were requested since the
     ///   last flush, even if the request was refused.
     /// - [`AllocError::Space`] if every slot has a living entity or is retired.
-    /// - [`AllocError::Memory`] if there is no memory for a new slot. It is
-    ///   never returned if an old slot waits.
+    /// - [`AllocError::Memory`] if there isn't enough memory for a new slot. It
+    ///   is never returned if an old slot waits.
     // Not inlined, its result goes through memory.
     #[inline(always)]
     pub fn alloc(&mut self) -> Result<Handle, AllocError>
@@ -166,8 +184,8 @@ impl Entities {
     /// It takes constant time.
     ///
     /// After the last generation the slot is retired: it is never given again, and [`Freed::next`]
-    /// is `None`. So no handle is ever given twice. Bevy starts again with the first generation
-    /// there, and warns of it.
+    /// is `None`. So no handle is ever given twice. Bevy starts again with the first generation,
+    /// and warns about it.
     ///
     /// ```
     /// use forgeni::Entities;
@@ -189,8 +207,8 @@ impl Entities {
     /// - [`FreeError::NeedsFlush`] if handles were requested since the last
     ///   flush, even if the request was refused.
     /// - [`FreeError::NotAlive`] if the entity isn't alive.
-    /// - [`FreeError::Memory`] if there is no memory for one more slot that
-    ///   waits. It is never returned if the slot is retired.
+    /// - [`FreeError::Memory`] if there isn't enough memory for one more slot
+    ///   that waits. It is never returned if the slot is retired.
     // Not inlined, its result goes through memory.
     #[inline(always)]
     pub fn free(&mut self, handle: Handle) -> Result<Freed, FreeError>
@@ -222,8 +240,8 @@ impl Entities {
     /// reserved, it appends nothing. It takes time for each handle that it appends, however long
     /// the list is.
     ///
-    /// If the list has room for the handles and no slot is new, the call takes no memory. So a list
-    /// that is cleared and used again takes none eventually.
+    /// If the list has room for the handles and no slot is new, the call doesn't allocate. So if a
+    /// list is cleared and reused, the calls eventually stop allocating.
     ///
     /// ```
     /// use forgeni::Entities;
@@ -244,9 +262,9 @@ impl Entities {
     ///
     /// # Errors
     ///
-    /// [`OutOfMemory`] if there is no memory for new slots or for the list. Nothing has
-    /// changed then, neither here nor in `out`: all room is asked for before the first handle is
-    /// listed.
+    /// [`OutOfMemory`] if there isn't enough memory for new slots or for the list. Nothing
+    /// has changed then, neither here nor in `out`: all memory is allocated before the first handle
+    /// is appended.
     ///
     /// <details><summary>Contract</summary>
     ///
@@ -280,7 +298,7 @@ impl Entities {
 
 /// # Looking at entities
 impl Entities {
-    /// Whether the handle is alive. It takes constant time.
+    /// Returns `true` if the handle is alive. It takes constant time.
     ///
     /// ```
     /// use forgeni::Entities;
@@ -306,7 +324,7 @@ impl Entities {
         self.slots.is_alive(handle)
     }
 
-    /// What became of a handle: whether it is alive, reserved, or neither. It takes constant time.
+    /// Returns the state of a handle: alive, reserved, or neither. It takes constant time.
     ///
     /// ```
     /// use forgeni::{Entities, State};
@@ -350,8 +368,8 @@ impl Entities {
         }
     }
 
-    /// Whether the entity is alive or reserved, as `contains` of Bevy and hecs tells. It takes
-    /// constant time.
+    /// Returns `true` if the entity is alive or reserved, like `contains` in Bevy and hecs. It
+    /// takes constant time.
     ///
     /// ```
     /// use forgeni::Entities;
@@ -381,8 +399,8 @@ impl Entities {
         }
     }
 
-    /// The handles of the living entities, by rising slot. It takes no memory, and time for each
-    /// slot.
+    /// Returns an iterator over the handles of the living entities, in slot order. It doesn't
+    /// allocate, and takes time for each slot.
     ///
     /// ```
     /// use forgeni::Entities;
@@ -408,9 +426,9 @@ impl Entities {
         self.slots.occupants()
     }
 
-    /// The row of a living entity: a number that a program keeps with it, such as the place of its
-    /// components. `None` if the handle isn't alive, or if no row was set since it came to life. It
-    /// takes constant time.
+    /// Returns the row of a living entity: a number that a program keeps with it, such as the place
+    /// of its components. `None` if the handle isn't alive, or if no row was set since it came to
+    /// life. It takes constant time.
     ///
     /// ```
     /// use forgeni::Entities;
@@ -440,8 +458,8 @@ impl Entities {
         self.slots.row(handle)
     }
 
-    /// Keeps a row with a living entity until the entity is freed, in place of the row that was set
-    /// before. It takes constant time, and no memory.
+    /// Sets the row of a living entity, in place of the one that it had. The entity keeps it until
+    /// it is freed. It takes constant time and doesn't allocate.
     ///
     /// ```
     /// use forgeni::{Absent, Entities};
@@ -482,9 +500,9 @@ impl Entities {
         }
     }
 
-    /// The place of a handle among those that there were to give at the last flush, counted from 0
-    /// in the order in which they are given. Requests don't change it. `None` if it isn't among
-    /// them. It takes constant time.
+    /// Returns the place of a handle among those that could be given at the last flush, counted
+    /// from 0 in the order in which they are given. Requests don't change it. `None` if it isn't
+    /// among them. It takes constant time.
     ///
     /// ```
     /// use forgeni::Entities;
@@ -525,9 +543,9 @@ impl Entities {
     }
 }
 
-/// # Counts
+/// # Counts and limits
 impl Entities {
-    /// How many entities are alive.
+    /// Returns the number of living entities.
     ///
     /// ```
     /// use forgeni::Entities;
@@ -555,7 +573,7 @@ impl Entities {
         self.slots.live()
     }
 
-    /// Whether no entity is alive.
+    /// Returns `true` if no entity is alive.
     ///
     /// ```
     /// use forgeni::Entities;
@@ -582,14 +600,14 @@ impl Entities {
         self.len() == 0
     }
 
-    /// How many handles the next flush brings to life.
+    /// Returns the number of handles that the next flush brings to life.
     ///
     /// ```
     /// use forgeni::Entities;
     ///
     /// let mut entities = Entities::new();
     /// entities.request_many(40)?;
-    /// // So the flush takes no memory for its list.
+    /// // So the flush doesn't allocate for its list.
     /// let mut born = Vec::with_capacity(entities.reserved() as usize);
     /// entities.flush(&mut born)?;
     /// assert_eq!((born.len(), entities.reserved()), (40, 0));
@@ -609,7 +627,7 @@ impl Entities {
         self.requests.served
     }
 
-    /// Whether any handle was requested since the last flush.
+    /// Returns `true` if any handle was requested since the last flush.
     ///
     /// ```
     /// use forgeni::Entities;
@@ -636,8 +654,8 @@ impl Entities {
         self.asked() > 0
     }
 
-    /// How many slots are retired: the entity of their last generation was freed, and they give no
-    /// more handles. It takes constant time.
+    /// Returns the number of retired slots: the entity of their last generation was freed, and they
+    /// give no more handles. It takes constant time.
     ///
     /// ```
     /// use forgeni::{Entities, Limits};
@@ -667,7 +685,8 @@ impl Entities {
         self.total() - self.slots.live() - self.slots.waiting()
     }
 
-    /// How many slots were made: each has or had an entity. A retired slot still counts.
+    /// Returns the number of slots that were made: each has or had an entity. A retired slot still
+    /// counts.
     ///
     /// ```
     /// use forgeni::Entities;
@@ -694,7 +713,7 @@ impl Entities {
         self.slots.made()
     }
 
-    /// How many slots there are after the next [`flush`](Self::flush): those that were made, and
+    /// Returns the number of slots after the next [`flush`](Self::flush): those that were made, and
     /// one for each reserved handle of a new slot.
     ///
     /// ```
@@ -719,7 +738,7 @@ impl Entities {
         self.total() + self.requests.fresh(self.slots.waiting())
     }
 
-    /// How many slots can still be made.
+    /// Returns the number of slots that can still be made.
     ///
     /// ```
     /// use forgeni::{Entities, Limits};
@@ -743,8 +762,32 @@ impl Entities {
         self.slots.limits().slots() - self.slots.made()
     }
 
-    /// How many old slots waited for their next entity at the last `flush`, `alloc` or `free`.
-    /// Requests don't change it.
+    /// Returns the limits within which it gives handles.
+    ///
+    /// ```
+    /// use forgeni::{Entities, Limits};
+    ///
+    /// let limits = Limits::new(100, 4).unwrap();
+    /// assert_eq!(Entities::with_limits(limits).limits(), limits);
+    /// // `new` never gives the greatest handle.
+    /// assert_eq!(Entities::new().limits(), Limits::GREATEST.keeping_placeholder());
+    /// ```
+    ///
+    /// <details><summary>Contract</summary>
+    ///
+    /// <code style="display: block; tab-size: 4; white-space: pre-wrap">// In the words of [contracts](crate::contracts):
+    /// ensures { result ≡ self.now.allocator.limits }
+    /// </code>
+    ///
+    /// </details>
+    #[must_use]
+    #[inline]
+    pub fn limits(&self) -> Limits {
+        self.slots.limits()
+    }
+
+    /// Returns the number of old slots that waited for their next entity at the last `flush`,
+    /// `alloc` or `free`. Requests don't change it.
     ///
     /// ```
     /// use forgeni::Entities;
@@ -770,8 +813,8 @@ impl Entities {
         self.slots.waiting()
     }
 
-    /// The number that each request lowers by its count. It is `top` if nothing was requested since
-    /// the last flush; below 0 it counts fresh slots.
+    /// Returns the cursor: the number that each request lowers by its count. It is `top` if nothing
+    /// was requested since the last flush; below 0 it counts fresh slots.
     ///
     /// ```
     /// use forgeni::Entities;
@@ -804,7 +847,8 @@ impl Entities {
         self.slots.top() - self.asked() as i64
     }
 
-    /// How many handles were requested since the last flush, served or refused. It is at most 2^50.
+    /// Returns the number of handles that were requested since the last flush, whether served or
+    /// refused. It is at most 2^50.
     ///
     /// ```
     /// use forgeni::{Entities, Limits};
@@ -832,21 +876,6 @@ impl Entities {
 }
 
 impl Entities {
-    /// The limits within which it gives handles.
-    ///
-    /// <details><summary>Contract</summary>
-    ///
-    /// <code style="display: block; tab-size: 4; white-space: pre-wrap">// In the words of [contracts](crate::contracts):
-    /// ensures { result ≡ self.now.allocator.limits }
-    /// </code>
-    ///
-    /// </details>
-    #[must_use]
-    #[inline]
-    pub fn limits(&self) -> Limits {
-        self.slots.limits()
-    }
-
     /// Keeps a row with a living entity until the entity is freed. It takes the place of the row
     /// that was set before.
     #[inline]

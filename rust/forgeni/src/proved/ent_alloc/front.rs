@@ -284,7 +284,7 @@ impl Entities {
     ///
     /// # Errors
     ///
-    /// [`OutOfMemory`] if there is no memory for that. Nothing has changed then.
+    /// [`OutOfMemory`] if there isn't enough memory for that. Nothing has changed then.
     #[inline]
     pub(crate) fn take_portions(&mut self, portions: &[Portion]) -> Result<(), OutOfMemory>
         // requires flushed { self.old.allocator.asked ≡ 0 }

@@ -10,8 +10,8 @@ use crate::handles::Handle;
 
 /// # Several at once
 impl Entities {
-    /// Gives `n` handles that are alive at once, all of them or none: those of `n` calls of
-    /// [`alloc`](Self::alloc), in their order. It is faster than these calls.
+    /// Allocates `n` handles, all of them or none: those of `n` calls of [`alloc`](Self::alloc), in
+    /// their order. They are alive at once. It is faster than these calls.
     ///
     /// ```
     /// use forgeni::Entities;
@@ -29,8 +29,8 @@ impl Entities {
     /// - [`AllocError::NeedsFlush`] if handles were requested since the
     ///   last flush, even if the request was refused.
     /// - [`AllocError::Space`] if fewer than `n` handles can be given.
-    /// - [`AllocError::Memory`] if there is no memory for the list or for new
-    ///   slots.
+    /// - [`AllocError::Memory`] if there isn't enough memory for the list or
+    ///   for new slots.
     ///
     /// <details><summary>Contract</summary>
     ///

@@ -33,7 +33,7 @@ pub(super) struct Header {
     asked: u64,
 }
 
-/// Appends what stands before the slots. There is room for it.
+/// Appends what comes before the slots. There is room for it.
 #[inline]
 fn write_header(header: Header, out: &mut Vec<u8>)
     // requires { vec_len out.old + 40 ≤ vec_capacity out.old }
@@ -75,7 +75,7 @@ fn read_numbers(bytes: &[u8]) -> (Header, &[u8])
     (header, rest)
 }
 
-/// What stands before the slots, and the bytes of the slots.
+/// What comes before the slots, and the bytes of the slots.
 #[inline]
 fn read_header(bytes: &[u8]) -> Result<(Header, &[u8]), ImageFault>
     // ensures found { IfOk result (λ h. bytes.now ≡ header_bytes h.0 ++ h.1.now) }
@@ -148,9 +148,8 @@ impl Entities {
     /// the same allocator again, with its limits, living entities, rows, waiting slots and
     /// requests.
     ///
-    /// The image has nothing else. Two allocators that are the same to every call have the same
-    /// image, whatever happened to them before. It has 40 bytes, and 12 more for each slot that was
-    /// made.
+    /// The image has nothing else. Two allocators that no call can tell apart have the same image,
+    /// whatever happened to them before. It has 40 bytes, and 12 more for each slot that was made.
     ///
     /// ```
     /// use forgeni::Entities;
@@ -167,7 +166,8 @@ impl Entities {
     ///
     /// # Errors
     ///
-    /// [`OutOfMemory`] if there is no memory for the bytes. The list is unchanged then.
+    /// [`OutOfMemory`] if there isn't enough memory for the bytes. The list is unchanged
+    /// then.
     ///
     /// <details><summary>Contract</summary>
     ///
@@ -195,16 +195,16 @@ impl Entities {
         Ok(())
     }
 
-    /// The allocator whose image these bytes are, all of them.
+    /// Reads the allocator whose image is exactly these bytes.
     ///
     /// The bytes may come from anywhere. Each image that [`write_image`](Self::write_image) writes
-    /// is read as the same allocator, which gives no handle that was given before. Bytes that are
-    /// the image of no allocator are refused. The call takes 8 bytes of memory for each slot and 4
-    /// for each that waits, which is no more than the slots have in the image. It takes none before
-    /// it has compared the number of slots with the length.
+    /// is read as the same allocator, which gives no handle that was given before. Bytes that
+    /// aren't the image of an allocator are refused. The call allocates 8 bytes for each slot and 4
+    /// for each slot that waits, which is no more than the slots take in the image. It allocates
+    /// nothing before it has compared the number of slots with the length.
     ///
     /// A forged image can make the next [`flush`](Self::flush) take up to 68 GB, since it may say
-    /// that each of 2^32 - 1 slots is reserved. For bytes from a stranger, use
+    /// that each of 2^32 - 1 slots is reserved. For untrusted bytes, use
     /// [`read_image_within`](Self::read_image_within).
     ///
     /// ```
@@ -225,8 +225,8 @@ impl Entities {
     ///
     /// # Errors
     ///
-    /// Each but [`Memory`](ImageFault::Memory) says that no allocator has this image. The first
-    /// fault that the bytes have, in this order, is returned:
+    /// Each error except [`Memory`](ImageFault::Memory) says that no allocator has this image. The
+    /// first fault in this order is returned:
     ///
     /// - [`ImageFault::Magic`] if the bytes don't begin as an image does.
     /// - [`ImageFault::Length`] if there are fewer than 40 bytes.
@@ -235,12 +235,13 @@ impl Entities {
     /// - [`ImageFault::Counts`] if more slots were made than the limits allow, or more wait than
     ///   were made.
     /// - [`ImageFault::Requests`] if no requests reserve that many handles.
-    /// - [`ImageFault::Length`] if there are fewer or more bytes than an image of so many slots
+    /// - [`ImageFault::Length`] if there are fewer or more bytes than an image of that many slots
     ///   has.
     /// - [`ImageFault::Slot`] with the first slot that is invalid.
     /// - [`ImageFault::Position`] with the first position that no slot waits at.
     ///
-    /// [`ImageFault::Memory`] is returned if there is no memory for the slots, whatever they are.
+    /// [`ImageFault::Memory`] is returned if there isn't enough memory for the slots, whatever they
+    /// are.
     ///
     /// <details><summary>Contract</summary>
     ///
@@ -283,13 +284,13 @@ impl Entities {
         Entities::of_image(bytes)
     }
 
-    /// The allocator whose image these bytes are, if it has at most `most` slots after its next
-    /// [`flush`](Self::flush).
+    /// Reads the allocator whose image is exactly these bytes, if it has at most `most` slots after
+    /// its next [`flush`](Self::flush).
     ///
     /// An image of 40 bytes may say that 4,294,967,295 handles are reserved. `read_image` reads it,
-    /// and the next `flush` takes 8 bytes for each of them, and 8 more in its list. So this is the
-    /// call for bytes from a stranger: it takes no more memory than `read_image`, and the next
-    /// `flush` takes no more than `most` slots and `most` handles do.
+    /// and the next `flush` takes 8 bytes for each of them, and 8 more in its list. So use this
+    /// call for untrusted bytes: it takes no more memory than `read_image`, and the next `flush`
+    /// takes no more than `most` slots and `most` handles do.
     ///
     /// ```
     /// use forgeni::{Entities, ImageFault};

@@ -31,7 +31,7 @@ pub enum ImageFault {
     Limits,
     /// More slots were made than the limits allow, or more wait than were made.
     Counts,
-    /// There are fewer bytes than an image of so many slots has, or more.
+    /// There are fewer or more bytes than an image of that many slots has.
     Length {
         /// How many bytes the image has to have.
         expected: u64,

@@ -4,7 +4,7 @@
 /// with it 1,024 callers together stay within the 2^50 that an allocator can count.
 pub const QUOTA: u64 = 1 << 40;
 
-/// How many slots an allocator may make, and the last generation of a slot.
+/// The number of slots that an allocator may make, and the last generation of a slot.
 ///
 /// Limits are this project's own: Bevy always has the greatest ones, which are the default.
 ///
@@ -22,6 +22,7 @@ pub struct Limits {
     generations: u32,
 }
 
+/// # Making them
 impl Limits {
     /// The greatest limits, which are Bevy's: 4,294,967,295 slots of 2,147,483,647 generations.
     pub const GREATEST: Limits = Limits {
@@ -29,7 +30,7 @@ impl Limits {
         generations: (1 << 31) - 1,
     };
 
-    /// The limits of these numbers: slots from 1 to 4,294,967,295, generations from 1 to
+    /// Returns the limits with these numbers: slots from 1 to 4,294,967,295, generations from 1 to
     /// 2,147,483,647. `None` if one of them is out of range.
     ///
     /// ```
@@ -62,7 +63,7 @@ impl Limits {
         }
     }
 
-    /// The greatest limits, which are Bevy's.
+    /// Returns the greatest limits, which are Bevy's.
     ///
     /// ```
     /// use forgeni::Limits;
@@ -85,10 +86,11 @@ impl Limits {
         Limits::GREATEST
     }
 
-    /// The limits of an allocator that never gives the greatest handle, 4294967294v2147483647: one
-    /// generation less if both limits are the greatest, and otherwise the same limits.
+    /// Returns the limits of an allocator that never gives the greatest handle,
+    /// 4294967294v2147483647: one generation less if both limits are the greatest, and otherwise
+    /// the same limits.
     ///
-    /// The greatest handle is the last one of the last slot that can be.
+    /// The greatest handle is the last one of the last possible slot.
     ///
     /// ```
     /// use forgeni::{trace, Entities, Limits};
@@ -127,8 +129,11 @@ impl Limits {
             self
         }
     }
+}
 
-    /// How many slots may be made. Every index is below it.
+/// # Both numbers
+impl Limits {
+    /// Returns the number of slots that may be made. Every index is below it.
     ///
     /// ```
     /// use forgeni::{Entities, Limits};
@@ -153,7 +158,7 @@ impl Limits {
         self.slots
     }
 
-    /// The last generation of a slot.
+    /// Returns the last generation of a slot.
     ///
     /// ```
     /// use forgeni::{Entities, Limits};

@@ -3,10 +3,10 @@
 use crate::allocator::packed_slot::PackedSlot;
 use crate::handles::Handle;
 
-/// The handles of the living entities, by rising slot.
+/// An iterator over the handles of the living entities, in slot order.
 ///
-/// [`Entities::iter`](crate::allocator::Entities::iter) makes it. It borrows the allocator and copies nothing.
-/// Between two handles it looks at each slot once. After the last handle it looks at none.
+/// It is created by [`Entities::iter`](crate::allocator::Entities::iter). It borrows the allocator and copies
+/// nothing. Between two handles it looks at each slot once. After the last handle it looks at none.
 ///
 /// ```
 /// use forgeni::{Entities, Handle, Living};

@@ -75,7 +75,7 @@ impl Prepared {
         }
     }
 
-    /// Makes room for the slots of another allocator. It takes no memory if this one has made as
+    /// Makes room for the slots of another allocator. It doesn't allocate if this one has made as
     /// many, and as many wait.
     ///
     /// # Errors
@@ -101,7 +101,7 @@ impl Prepared {
         Ok(())
     }
 
-    /// The same allocator as another one, in the lists of this one. It takes no memory.
+    /// The same allocator as another one, in the lists of this one. It doesn't allocate.
     #[inline]
     pub(crate) fn take_over(self, source: &Entities) -> Entities
         // requires slots { source.now.allocator.made ≤ self.slots }

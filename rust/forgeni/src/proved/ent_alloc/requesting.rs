@@ -13,7 +13,8 @@ use crate::handles::Handle;
 
 /// # What is left
 impl Entities {
-    /// How many handles can still be requested before a flush: 0 once a request was refused.
+    /// Returns the number of handles that can still be requested before a flush: 0 once a request
+    /// has been refused.
     ///
     /// ```
     /// use forgeni::{Entities, Limits};
@@ -193,7 +194,7 @@ impl Entities {
 /// what a refused one passed over, can be given again, in the same order. So the caller drops the
 /// handles that it got from them, or reserves them again.
 ///
-/// It takes constant time, and no memory.
+/// It takes constant time and doesn't allocate.
 ///
 /// <details><summary>Contract</summary>
 ///

@@ -30,8 +30,8 @@ pub struct Reserved<'a> {
 
 impl<'a> Reserved<'a> {
     /// The handles that wait from `position` up to, not including, `end`, and the first occupants
-    /// of the slots from `index` up to, not including, `index_end`: `left` in all. Who asks for the
-    /// number alone then waits for none of the ends.
+    /// of the slots from `index` up to, not including, `index_end`: `left` in all. A caller that
+    /// asks for the number alone then waits for none of the ends.
     #[inline]
     pub(super) fn new(
         slots: &'a Slots,

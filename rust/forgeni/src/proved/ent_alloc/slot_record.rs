@@ -5,16 +5,16 @@ use crate::kit::vec::FallibleVec;
 use crate::allocator::packed_slot::PackedSlot;
 use crate::handles::Handle;
 
-/// Who has a slot.
+/// What has a slot.
 #[derive(Clone, Copy)]
 pub(super) enum Occupancy {
     /// A living entity.
     Alive,
     /// A living entity, and the row that a program keeps with it.
     AliveWithRow { row: u32 },
-    /// Nobody: the slot waits at this position of the pending list.
+    /// None: the slot waits at this position of the pending list.
     Pending { position: u32 },
-    /// Nobody: the last generation was freed, and the slot is not given again.
+    /// None: the last generation was freed, and the slot is not given again.
     Retired,
 }
 
@@ -41,7 +41,7 @@ impl SlotRecord {
     }
 }
 
-/// Who has the handle's slot; `None` if the slot wasn't made or is at another generation.
+/// What has the handle's slot; `None` if the slot wasn't made or is at another generation.
 #[inline]
 pub(super) fn occupancy_of(records: &[PackedSlot], handle: Handle) -> Option<Occupancy>
     // ensures { result ≡ occupancy_of records.now handle }

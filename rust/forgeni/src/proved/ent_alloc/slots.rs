@@ -88,7 +88,7 @@ impl Slots {
         self.live
     }
 
-    /// The living occupants, by rising slot.
+    /// The living occupants, in slot order.
     #[inline]
     pub(super) fn occupants(&self) -> Living<'_>
         // ensures living { set.from_list result ≡ self.now.live }
@@ -98,7 +98,7 @@ impl Slots {
         Living::new(&self.records, self.live)
     }
 
-    /// Who has the handle's slot; `None` if the slot wasn't made or is at another generation.
+    /// What has the handle's slot; `None` if the slot wasn't made or is at another generation.
     #[inline]
     pub(super) fn occupancy_of(&self, handle: Handle) -> Option<Occupancy>
         // ensures lives { set.contains self.now.live handle ≡ lives result }

@@ -26,7 +26,16 @@ pub trait Source {
     /// What a caller reserves with.
     type Reserver;
 
-    /// Whether the handle was alive when the phase was opened. It takes constant time.
+    /// Returns `true` if the handle was alive when the phase was opened. It takes constant time.
+    ///
+    /// ```
+    /// use forgeni::{Handle, Source};
+    ///
+    /// /// The first target that is still there.
+    /// fn target<S: Source>(source: &S, targets: &[Handle]) -> Option<Handle> {
+    ///     targets.iter().copied().find(|one| source.was_alive(*one))
+    /// }
+    /// ```
     ///
     /// <details><summary>Contract</summary>
     ///
@@ -37,8 +46,17 @@ pub trait Source {
     /// </details>
     fn was_alive(&self, handle: Handle) -> bool;
 
-    /// The row that was kept with the handle when the phase was opened. `None` if it was not alive
-    /// then, or had no row. It takes constant time.
+    /// Returns the row that the handle had when the phase was opened, or `None` if it wasn't alive
+    /// then or had no row. It takes constant time.
+    ///
+    /// ```
+    /// use forgeni::{Handle, Source};
+    ///
+    /// /// The value of an entity in a column of an engine's own.
+    /// fn value<S: Source>(source: &S, column: &[i64], of: Handle) -> Option<i64> {
+    ///     column.get(source.had_row(of)? as usize).copied()
+    /// }
+    /// ```
     ///
     /// <details><summary>Contract</summary>
     ///
@@ -50,7 +68,37 @@ pub trait Source {
     /// </details>
     fn had_row(&self, handle: Handle) -> Option<u32>;
 
+    /// Returns `true` if a request for `n` handles may be served, and `false` if it is sure to be
+    /// refused. It takes constant time.
+    ///
+    /// ```
+    /// use forgeni::Source;
+    ///
+    /// /// The most handles, up to `most`, that a request may be for.
+    /// fn most<S: Source>(source: &S, reserver: &S::Reserver, most: u32) -> u32 {
+    ///     (0..=most).rev().find(|n| source.may_serve(reserver, *n)).unwrap_or(0)
+    /// }
+    /// ```
+    ///
+    /// <details><summary>Contract</summary>
+    ///
+    /// <code style="display: block; tab-size: 4; white-space: pre-wrap">// In the words of [contracts](crate::contracts):
+    /// ensures { [IsTrue](crate::contracts::logic#IsTrue) result ↔ may_give self.now reserver.now n }
+    /// </code>
+    ///
+    /// </details>
+    fn may_serve(&self, reserver: &Self::Reserver, n: u32) -> bool;
+
     /// Reserves one handle.
+    ///
+    /// ```
+    /// use forgeni::{Handle, Source};
+    ///
+    /// /// A handle, if there is one.
+    /// fn spark<S: Source>(source: &S, reserver: &mut S::Reserver) -> Option<Handle> {
+    ///     source.serve_one(reserver).ok()
+    /// }
+    /// ```
     ///
     /// # Errors
     ///
@@ -68,7 +116,16 @@ pub trait Source {
     /// </details>
     fn serve_one(&self, reserver: &mut Self::Reserver) -> Result<Handle, Refused>;
 
-    /// Reserves `n` handles, all of them or none. It takes no memory.
+    /// Reserves `n` handles, all of them or none. It doesn't allocate.
+    ///
+    /// ```
+    /// use forgeni::{Handle, Refused, Source};
+    ///
+    /// /// A wave of ten.
+    /// fn wave<S: Source>(source: &S, mine: &mut S::Reserver) -> Result<Vec<Handle>, Refused> {
+    ///     Ok(source.serve_many(mine, 10)?.collect())
+    /// }
+    /// ```
     ///
     /// # Errors
     ///
@@ -81,6 +138,7 @@ pub trait Source {
     /// ensures stays { serves self.now reserver.new }
     /// ensures replies { may_reply self.now reserver.old reserver.new n result }
     /// ensures length { [IfOk](crate::contracts::logic#IfOk) result (λ handles. [length](crate::contracts::logic#length) handles ≡ n) }
+    /// ensures enough { [OnOk](crate::contracts::logic#OnOk) result (may_give self.now reserver.old n) }
     /// ensures wanted { [IfErr](crate::contracts::logic#IfErr) result ([SaysWanted](crate::contracts::ent_alloc::serving#SaysWanted) n) }
     /// </code>
     ///

@@ -1,6 +1,6 @@
 // Made of crates/ent_alloc/src/state.rt by rust/erase. It isn't edited by hand.
 
-/// What became of a handle.
+/// The state of a handle.
 ///
 /// ```
 /// use forgeni::{Entities, State};
@@ -19,7 +19,7 @@
 pub enum State {
     /// It is alive.
     Alive,
-    /// A request was given it, and the next flush brings it to life.
+    /// It was given to a request, and the next flush brings it to life.
     Reserved,
     /// Neither: it was freed, or it was never given.
     Gone,

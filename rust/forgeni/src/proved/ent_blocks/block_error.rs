@@ -4,8 +4,11 @@ use crate::allocator::Space;
 use crate::handles::OutOfMemory;
 use crate::kit::alloc::AllocError;
 
-/// Why no handle of a block was reserved. Nothing has changed then, but that the reserver
+/// Why no handle of a block was reserved. Nothing has changed then, except that the reserver
 /// [remembers](crate::in_blocks::BlockReserver::wanted) a request for more than is left.
+///
+/// To be refused only if the allocator has no more handles, reserve from blocks that go on:
+/// [`Entities::share_behind_blocks`](crate::Entities::share_behind_blocks).
 ///
 /// ```
 /// use forgeni::{BlockError, Entities};
@@ -13,7 +16,7 @@ use crate::kit::alloc::AllocError;
 /// let (blocks, mut reservers) = Entities::new().open_in_blocks(&[2])?;
 /// let mine = &mut reservers[0];
 /// blocks.reserve_many(mine, 2)?;
-/// // The block is used up. The caller goes on without, and its next block is larger.
+/// // The block is used up. The caller goes on without a handle, and its next block is larger.
 /// if let Err(BlockError::Space { wanted, left }) = blocks.reserve(mine) {
 ///     assert_eq!((wanted, left, mine.wanted()), (1, 0, 3));
 /// }
@@ -22,9 +25,10 @@ use crate::kit::alloc::AllocError;
 #[derive(Clone, Copy, Debug, PartialEq, Eq, Hash)]
 #[non_exhaustive]
 pub enum BlockError {
-    /// Fewer handles are left of the block than were wanted. A later request for fewer is served.
+    /// Fewer handles are left of the block than were requested. A later request for fewer is
+    /// served.
     Space {
-        /// How many handles were wanted.
+        /// How many handles were requested.
         wanted: u32,
         /// How many are left of the block.
         left: u32,

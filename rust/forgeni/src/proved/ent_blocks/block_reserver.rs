@@ -5,7 +5,7 @@ use crate::in_blocks::blocks::Blocks;
 use crate::in_blocks::held::Held;
 use crate::in_blocks::part::Part;
 
-/// The right of one caller to the handles of its block.
+/// One caller's right to the handles of its block.
 ///
 /// [`Entities::open_in_blocks`](crate::Entities::open_in_blocks) makes them, and
 /// [`Blocks::close`] takes them back. It is a few numbers: it has no list of
@@ -27,8 +27,10 @@ pub struct BlockReserver {
     pub(super) number: u64,
 }
 
+/// # Its block
 impl BlockReserver {
-    /// How many handles the block has. It is less than what was wanted if the pool ended.
+    /// Returns the number of handles in the block. It is less than the requested size if the pool
+    /// had no more.
     ///
     /// ```
     /// use forgeni::{Entities, Limits};
@@ -53,7 +55,7 @@ impl BlockReserver {
         self.part.size()
     }
 
-    /// How many of them are used.
+    /// Returns the number of handles of the block that are used.
     ///
     /// ```
     /// use forgeni::Entities;
@@ -82,7 +84,7 @@ impl BlockReserver {
         self.part.used()
     }
 
-    /// How many handles of the block are left.
+    /// Returns the number of handles that are left of the block.
     ///
     /// ```
     /// use forgeni::Entities;
@@ -110,8 +112,8 @@ impl BlockReserver {
         self.part.left()
     }
 
-    /// How many handles would have been enough: those that are used, and the largest of the
-    /// requests that were refused since too few were left. At most 4,294,967,295.
+    /// Returns how many handles would have been enough: those that are used, plus the largest of
+    /// the requests that were refused because too few were left. It is at most 4,294,967,295.
     /// [`BlockSize::adapt`](crate::in_blocks::BlockSize::adapt) takes it.
     ///
     /// ```
@@ -137,18 +139,11 @@ impl BlockReserver {
     pub fn wanted(&self) -> u32 {
         self.part.used().saturating_add(self.refused)
     }
+}
 
-    /// Remembers a request for `wanted` handles, of which only `left` are left.
-    #[inline]
-    pub(super) fn refuse(&mut self, wanted: u32, left: u32) -> BlockError
-        // ensures remembers { self.new ≡ after_refusal self.old wanted }
-        // ensures error { result ≡ why.Space wanted left }
-    {
-        self.refused = self.refused.max(wanted);
-        BlockError::Space { wanted, left }
-    }
-
-    /// Whether it is of this phase.
+/// # Its phase
+impl BlockReserver {
+    /// Returns `true` if it belongs to this phase.
     ///
     /// ```
     /// use forgeni::{BlockError, Entities};
@@ -171,6 +166,18 @@ impl BlockReserver {
     #[inline]
     pub fn is_of(&self, blocks: &Blocks) -> bool {
         self.number == blocks.number()
+    }
+}
+
+impl BlockReserver {
+    /// Remembers a request for `wanted` handles, of which only `left` are left.
+    #[inline]
+    pub(super) fn refuse(&mut self, wanted: u32, left: u32) -> BlockError
+        // ensures remembers { self.new ≡ after_refusal self.old wanted }
+        // ensures error { result ≡ why.Space wanted left }
+    {
+        self.refused = self.refused.max(wanted);
+        BlockError::Space { wanted, left }
     }
 }
 

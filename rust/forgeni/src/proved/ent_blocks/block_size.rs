@@ -1,10 +1,10 @@
 // Made of crates/ent_blocks/src/block_size.rt by rust/erase. It isn't edited by hand.
 
-/// How large a caller's block is in the next phase: twice what it
-/// [wanted](crate::in_blocks::BlockReserver::wanted) in this one, at least 64, and at most a limit. So a size
-/// follows from the phases before, and is the same on every machine.
+/// The size of a caller's block in the next phase: twice what it
+/// [wanted](crate::in_blocks::BlockReserver::wanted) in this one, at least 64, and at most a limit. So the
+/// size depends only on earlier phases, and is the same on every machine.
 ///
-/// What a caller wanted is what it used, and the largest of its requests that were refused. So the
+/// What a caller wanted is what it used, plus the largest of its requests that were refused. So the
 /// next block has enough for that one too, unless the limit is less.
 ///
 /// ```
@@ -26,8 +26,9 @@ pub struct BlockSize {
     limit: u32,
 }
 
+/// # Making one
 impl BlockSize {
-    /// The size before the first phase: 64, or the limit if that is less.
+    /// Creates the size for a first phase: 64, or the limit if that is less.
     ///
     /// ```
     /// use forgeni::BlockSize;
@@ -53,8 +54,8 @@ impl BlockSize {
         }
     }
 
-    /// One of this size, or of the limit if that is less: for a first phase in which more is wanted
-    /// than 64 handles, or as it was saved.
+    /// Creates a block size of this size, or of the limit if that is less. It is for a first phase
+    /// that needs more than 64 handles, and for a size that was saved.
     ///
     /// ```
     /// use forgeni::BlockSize;
@@ -81,8 +82,11 @@ impl BlockSize {
             limit,
         }
     }
+}
 
-    /// How many handles the block has in the next phase.
+/// # From phase to phase
+impl BlockSize {
+    /// Returns the size of the block in the next phase.
     ///
     /// ```
     /// use forgeni::{BlockSize, Entities};
@@ -107,31 +111,7 @@ impl BlockSize {
         self.size
     }
 
-    /// The greatest size.
-    ///
-    /// ```
-    /// use forgeni::BlockSize;
-    ///
-    /// // A save needs both numbers.
-    /// let size = BlockSize::with_size(300, 1_000);
-    /// let saved = (size.size(), size.limit());
-    /// assert_eq!(BlockSize::with_size(saved.0, saved.1), size);
-    /// ```
-    ///
-    /// <details><summary>Contract</summary>
-    ///
-    /// <code style="display: block; tab-size: 4; white-space: pre-wrap">// In the words of [contracts](crate::contracts):
-    /// ensures { result ≡ self.now.limit }
-    /// </code>
-    ///
-    /// </details>
-    #[must_use]
-    #[inline]
-    pub fn limit(&self) -> u32 {
-        self.limit
-    }
-
-    /// Sets the size to the one that follows from how many handles were
+    /// Sets the size for the next phase from how many handles were
     /// [wanted](crate::in_blocks::BlockReserver::wanted) in this phase.
     ///
     /// ```
@@ -159,6 +139,30 @@ impl BlockSize {
     #[inline]
     pub fn adapt(&mut self, wanted: u32) {
         self.size = next_size(wanted, self.limit);
+    }
+
+    /// Returns the greatest size.
+    ///
+    /// ```
+    /// use forgeni::BlockSize;
+    ///
+    /// // A save needs both numbers.
+    /// let size = BlockSize::with_size(300, 1_000);
+    /// let saved = (size.size(), size.limit());
+    /// assert_eq!(BlockSize::with_size(saved.0, saved.1), size);
+    /// ```
+    ///
+    /// <details><summary>Contract</summary>
+    ///
+    /// <code style="display: block; tab-size: 4; white-space: pre-wrap">// In the words of [contracts](crate::contracts):
+    /// ensures { result ≡ self.now.limit }
+    /// </code>
+    ///
+    /// </details>
+    #[must_use]
+    #[inline]
+    pub fn limit(&self) -> u32 {
+        self.limit
     }
 }
 

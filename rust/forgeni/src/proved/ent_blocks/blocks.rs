@@ -12,11 +12,11 @@ use crate::in_blocks::taking::{append, take_many, take_one};
 use crate::allocator::{Entities, Reserved, Space};
 use crate::handles::{HandedBack, Handle};
 
-/// An allocator whose pool's front is dealt in blocks, one to each [`BlockReserver`].
-/// [`Entities::open_in_blocks`](crate::Entities::open_in_blocks) makes it.
+/// An allocator in a phase in which the front of its pool is dealt in blocks, one to each
+/// [`BlockReserver`]. [`Entities::open_in_blocks`](crate::Entities::open_in_blocks) makes it.
 ///
 /// Which handles a reserver gets depends on the allocator, on the sizes, and on what it has
-/// reserved before: on no other reserver, and on no thread. Many threads may reserve at once: no
+/// reserved before: not on other reservers or on threads. Many threads may reserve at once: no
 /// reservation writes to what they share.
 ///
 /// ```
@@ -42,8 +42,8 @@ pub struct Blocks {
 
 /// # Reserving
 impl Blocks {
-    /// Reserves the next handle of the reserver's block. It makes no atomic step, takes no memory
-    /// and waits for nobody. The handle comes to life after the phase, by the next flush.
+    /// Reserves the next handle of the reserver's block. It makes no atomic step, and neither
+    /// allocates nor waits. The handle comes to life after the phase, by the next flush.
     ///
     /// ```
     /// use forgeni::Entities;
@@ -108,10 +108,10 @@ impl Blocks {
     ///
     /// # Errors
     ///
-    /// No handle is used then. The error is the first of these that holds:
+    /// No handle is used then. The error is the first of these that applies:
     /// [`BlockError::OtherPhase`] if the reserver is of another phase; [`BlockError::Space`] if the
     /// block has fewer than `n` handles left, and the reserver [remembers](BlockReserver::wanted)
-    /// how many were wanted; [`BlockError::Memory`] if there is no memory for the list.
+    /// how many were wanted; [`BlockError::Memory`] if there isn't enough memory for the list.
     ///
     /// <details><summary>Contract</summary>
     ///
@@ -145,8 +145,8 @@ impl Blocks {
         Ok(handles)
     }
 
-    /// [`reserve_many`](Self::reserve_many), which appends the handles to a list. It takes no
-    /// memory if the list has room for them, or if they are refused.
+    /// [`reserve_many`](Self::reserve_many), which appends the handles to a list. It doesn't
+    /// allocate if the list has room for them, or if they are refused.
     ///
     /// ```
     /// use forgeni::Entities;
@@ -162,7 +162,7 @@ impl Blocks {
     ///
     /// # Errors
     ///
-    /// As [`reserve_many`](Self::reserve_many), and then the list has the same handles as before.
+    /// The same as for [`reserve_many`](Self::reserve_many). The list is unchanged.
     ///
     /// <details><summary>Contract</summary>
     ///
@@ -215,9 +215,9 @@ impl Blocks {
     /// is reserved: a flush brings it to life. What is left of the blocks can be given again, and
     /// comes before all that was not dealt.
     ///
-    /// If the blocks are used up, one after the other, it takes time for each block alone. If
+    /// If the blocks are used up from the first one on, it takes time only for each block. If
     /// something is left before the last handle that was used, it takes time and memory for each
-    /// handle up to that one, and makes their slots: a new one that nobody used waits, with
+    /// handle up to that one, and makes their slots: a new slot that wasn't used waits, with
     /// generation 1.
     ///
     /// ```
@@ -236,7 +236,7 @@ impl Blocks {
     /// # Errors
     ///
     /// [`HandedBack`] has the phase and the reservers as they were, and the first of these errors
-    /// that holds: [`EndError::OtherPhase`], [`EndError::Order`], [`EndError::Missing`],
+    /// that applies: [`EndError::OtherPhase`], [`EndError::Order`], [`EndError::Missing`],
     /// [`EndError::Memory`].
     ///
     /// <details><summary>Contract</summary>
@@ -320,7 +320,7 @@ impl Blocks {
     /// # Errors
     ///
     /// [`HandedBack`] has the phase and the reservers as they were, and the first of these errors
-    /// that holds: [`EndError::OtherPhase`], [`EndError::Order`], [`EndError::Memory`].
+    /// that applies: [`EndError::OtherPhase`], [`EndError::Order`], [`EndError::Memory`].
     ///
     /// <details><summary>Contract</summary>
     ///
@@ -375,7 +375,7 @@ impl Blocks {
 
 /// # Looking at entities
 impl Blocks {
-    /// How many blocks it has.
+    /// Returns the number of blocks.
     ///
     /// ```
     /// use forgeni::Entities;
@@ -398,8 +398,8 @@ impl Blocks {
         self.parts.len()
     }
 
-    /// Whether the entity was alive when the phase was opened. It stays so until the close. Any
-    /// thread may ask, and it takes constant time.
+    /// Returns `true` if the entity was alive when the phase was opened. That doesn't change until
+    /// the close. Any thread may call it, and it takes constant time.
     ///
     /// ```
     /// use forgeni::Entities;
@@ -425,8 +425,8 @@ impl Blocks {
         self.entities.is_alive(handle)
     }
 
-    /// The row that was set with the entity when the phase was opened. `None` if the entity was not
-    /// alive then, or had no row. It takes constant time.
+    /// Returns the row that the entity had when the phase was opened, or `None` if it wasn't alive
+    /// then or had no row. It takes constant time.
     ///
     /// ```
     /// use forgeni::Entities;
@@ -530,7 +530,7 @@ impl Blocks {
     }
 }
 
-/// [`Blocks::reserve_many`] without a list: it takes no memory, and each handle is looked up when
+/// [`Blocks::reserve_many`] without a list: it doesn't allocate, and each handle is looked up when
 /// it is yielded.
 ///
 /// # Errors
@@ -543,6 +543,7 @@ impl Blocks {
 /// ensures given { [IfOk](crate::contracts::logic#IfOk) result (λ handles. handles ≡ [listed](crate::contracts::ent_alloc::sequential#listed) blocks.now.phase.start.made
 /// &#9;([take](crate::contracts::logic#take) n ([rest_of](crate::contracts::ent_blocks::blocks#rest_of) blocks.now.phase.start.pool reserver.old.block))) }
 /// ensures length { [IfOk](crate::contracts::logic#IfOk) result (λ handles. [length](crate::contracts::logic#length) handles ≡ n) }
+/// ensures enough { [OnOk](crate::contracts::logic#OnOk) result (n ≤ reserver.old.block.size - reserver.old.block.used) }
 /// ensures ok { [OnOk](crate::contracts::logic#OnOk) result (reserver.new ≡ record reserver.old {
 /// &#32;&#32;block = [after_use](crate::contracts::ent_blocks::blocks#after_use) reserver.old.block n;
 /// }) }

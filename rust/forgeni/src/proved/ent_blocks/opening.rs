@@ -27,7 +27,7 @@ pub struct Deal {
 /// # Errors
 ///
 /// [`HandedBack`] has the allocator as it was, and [`DealError::NeedsFlush`] or
-/// [`DealError::Memory`]. No sizes take no memory.
+/// [`DealError::Memory`]. With no sizes, it doesn't allocate.
 ///
 /// <details><summary>Contract</summary>
 ///
@@ -69,7 +69,7 @@ pub fn open_in_blocks(
 
 impl Deal {
     /// The phase under this number, which no other phase has, and a reserver of each block, in the
-    /// order of the sizes. It takes no memory.
+    /// order of the sizes. It doesn't allocate.
     #[inline]
     pub(crate) fn numbered(self, number: u64) -> (Blocks, Vec<BlockReserver>)
         // requires stands_for { J.blocks_of number ≡ self }

@@ -1,7 +1,7 @@
 // Made of crates/ent_blocks/src/overflow.rt by rust/erase. It isn't edited by hand.
 
-//! Blocks whose callers go on to one cursor that all share. As long as nobody goes past its block,
-//! which handle each is given depends on no other.
+//! Blocks whose callers go on to one cursor that all share. As long as no caller goes past its
+//! block, its handles don't depend on the others.
 
 mod dealing;
 mod ended;

@@ -42,7 +42,7 @@ impl Part {
         self.before
     }
 
-    /// How many handles the block has.
+    /// Returns the number of handles in the block.
     ///
     /// <details><summary>Contract</summary>
     ///
@@ -56,7 +56,7 @@ impl Part {
         self.size
     }
 
-    /// How many of them are used.
+    /// Returns the number of handles of the block that are used.
     ///
     /// <details><summary>Contract</summary>
     ///
@@ -71,7 +71,7 @@ impl Part {
         self.used
     }
 
-    /// How many handles of the block are left.
+    /// Returns the number of handles that are left of the block.
     ///
     /// <details><summary>Contract</summary>
     ///
@@ -113,7 +113,7 @@ impl Part {
         }
     }
 
-    /// Whether it is the same block, however many of its handles are used.
+    /// Returns `true` if it is the same block, however many of its handles are used.
     ///
     /// <details><summary>Contract</summary>
     ///

@@ -5,7 +5,7 @@ use crate::in_blocks::blocks::{Blocks, reserve_iter};
 use crate::allocator::{Refused, Reserved, Source};
 use crate::handles::Handle;
 
-/// Each reservation is of the [next handles](Blocks::reserve) of the reserver's own block.
+/// A reservation takes the [next handles](Blocks::reserve) of the reserver's own block.
 impl Source for Blocks {
     type Reserver = BlockReserver;
 
@@ -17,6 +17,11 @@ impl Source for Blocks {
     #[inline]
     fn had_row(&self, handle: Handle) -> Option<u32> {
         self.row(handle)
+    }
+
+    #[inline]
+    fn may_serve(&self, reserver: &BlockReserver, n: u32) -> bool {
+        n <= reserver.left()
     }
 
     #[inline(always)]

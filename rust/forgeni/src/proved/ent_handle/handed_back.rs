@@ -30,7 +30,7 @@ pub struct HandedBack<T, E> {
 }
 
 impl<T, E> HandedBack<T, E> {
-    /// A value that is handed back, and why it wasn't taken.
+    /// Creates a `HandedBack` of a value and the reason why it wasn't taken.
     ///
     /// ```
     /// use forgeni::HandedBack;
@@ -61,7 +61,7 @@ impl<T, E> HandedBack<T, E> {
         HandedBack { value, error }
     }
 
-    /// What was handed in, and why it wasn't taken.
+    /// Returns what was handed in, and why it wasn't taken.
     ///
     /// ```
     /// use forgeni::{Entities, ShareError};
@@ -88,7 +88,7 @@ impl<T, E> HandedBack<T, E> {
         (self.value, self.error)
     }
 
-    /// What was handed in.
+    /// Returns what was handed in.
     ///
     /// ```
     /// use forgeni::HandleMap;
@@ -112,7 +112,7 @@ impl<T, E> HandedBack<T, E> {
         &self.value
     }
 
-    /// Why it wasn't taken.
+    /// Returns why it wasn't taken.
     ///
     /// ```
     /// use forgeni::{HandleMap, InsertError};

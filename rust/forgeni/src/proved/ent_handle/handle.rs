@@ -5,7 +5,7 @@ use core::hash::{Hash, Hasher};
 use core::num::NonZeroU64;
 
 /// The name of an entity: the index of a slot, and a generation that tells the slot's entities
-/// apart. It is ordered by index and then by generation.
+/// apart. Handles are ordered by index, and then by generation.
 ///
 /// A handle takes 8 bytes, and so does an `Option<Handle>`. `Display` and `Debug` write it as
 /// `0v1`, and it is parsed from that text.
@@ -27,19 +27,20 @@ use core::num::NonZeroU64;
 /// # Ok::<(), forgeni::ParseHandleError>(())
 /// ```
 ///
-/// An index is 0 to 4,294,967,294, and a generation 1 to 2,147,483,647: Bevy's ranges without the
-/// index that its placeholder has. As in Bevy, each entity of a slot has the generation after that
-/// of the entity before it, so an earlier handle doesn't name a later entity. After the last
-/// generation a slot has no more entities, whereas Bevy starts again with the first one. The order
-/// is this project's own: that of Bevy and hecs is [`by_bits`](Self::by_bits).
+/// An index is 0 to 4,294,967,294, and a generation 1 to 2,147,483,647: Bevy's ranges, without the
+/// index of its placeholder. As in Bevy, each entity of a slot has the generation after that of the
+/// entity before it, so an earlier handle doesn't name a later entity. After the last generation a
+/// slot has no more entities, whereas Bevy starts again with the first one. The order is this
+/// project's own: that of Bevy and hecs is [`by_bits`](Self::by_bits).
 #[derive(Clone, Copy, PartialEq, Eq)]
 #[repr(transparent)]
 pub struct Handle {
     bits: NonZeroU64,
 }
 
+/// # Making one
 impl Handle {
-    /// The handle of these numbers: an index below 4,294,967,295, a generation from 1 to
+    /// Returns the handle with these numbers: an index below 4,294,967,295, a generation from 1 to
     /// 2,147,483,647. `None` if one of them is out of range.
     ///
     /// ```
@@ -68,25 +69,11 @@ impl Handle {
             None
         }
     }
+}
 
-    /// The handle of these numbers, which have to be in range: the index is 0 to 4,294,967,294, the
-    /// generation 1 to 2,147,483,647. It tests nothing when it runs, so it is for a caller that
-    /// keeps such numbers. `new` tests them.
-    #[inline]
-    pub(crate) const fn from_parts(index: u32, generation: u32) -> Self
-        // requires { IsHandle (record { index = index; generation = generation }) }
-        // ensures { result ≡ record { index = index; generation = generation } }
-    {
-        let bits = ((generation as u64) << 32) + index as u64;
-        // The bits are never 0, and to take another number for 0 costs less than a branch.
-        let bits = match NonZeroU64::new(bits) {
-            Some(bits) => bits,
-            None => NonZeroU64::MIN,
-        };
-        Handle { bits }
-    }
-
-    /// The index of its slot: 0 to 4,294,967,294.
+/// # Index and generation
+impl Handle {
+    /// Returns the index of its slot: 0 to 4,294,967,294.
     ///
     /// ```
     /// use forgeni::Entities;
@@ -113,7 +100,7 @@ impl Handle {
         (self.bits.get() & 0xffff_ffff) as u32
     }
 
-    /// Its generation: 1 for the first entity of a slot, and at most 2,147,483,647.
+    /// Returns its generation: 1 for the first entity of a slot, and at most 2,147,483,647.
     ///
     /// ```
     /// use forgeni::Entities;
@@ -141,22 +128,11 @@ impl Handle {
     pub const fn generation(self) -> u32 {
         (self.bits.get() >> 32) as u32
     }
+}
 
-    /// The handle of the slot's next occupant: of the same index, and of the next generation, which
-    /// has to be in range. It tests nothing when it runs.
-    ///
-    /// It is never `None`. As an `Option` its bits need no test for 0, which would stand for
-    /// `None`.
-    #[inline]
-    pub(crate) fn following(self) -> Option<Self>
-        // requires { IsHandle (record self { generation = self.generation + 1 }) }
-        // ensures { result ≡ Some (record self { generation = self.generation + 1 }) }
-    {
-        let bits = NonZeroU64::new(self.bits.get() + (1 << 32))?;
-        Some(Handle { bits })
-    }
-
-    /// Both numbers in one: the generation times 2^32, plus the index.
+/// # Bits
+impl Handle {
+    /// Returns both numbers in one: the generation times 2^32, plus the index.
     ///
     /// ```
     /// use forgeni::Handle;
@@ -179,43 +155,8 @@ impl Handle {
         self.bits.get()
     }
 
-    /// Both numbers in one with the index above, which is a rotation of the bits: one comparison of
-    /// these orders handles by index, then by generation.
-    #[inline]
-    fn index_first(self) -> u64
-        // ensures word { result ≡ self.index * 2 ^ 32 + self.generation }
-        // ensures in_range { IsHandle self }
-    {
-        (u64::from(self.index()) << 32) + u64::from(self.generation())
-    }
-
-    /// The order by bits, which is that of Bevy and hecs: by generation, then by index.
-    ///
-    /// ```
-    /// use forgeni::Handle;
-    ///
-    /// let [new, old] = [Handle::new(9, 1).unwrap(), Handle::new(0, 2).unwrap()];
-    /// assert!(new.by_bits(&old).is_lt() && new > old);
-    /// ```
-    ///
-    /// <details><summary>Contract</summary>
-    ///
-    /// <code style="display: block; tab-size: 4; white-space: pre-wrap">// In the words of [contracts](crate::contracts):
-    /// ensures bits { result ≡ [nat_cmp](crate::contracts::logic#nat_cmp) ([bits](crate::contracts::ent_handle::handle#bits) self.now) ([bits](crate::contracts::ent_handle::handle#bits) other.now) }
-    /// ensures parts { result ≡ [ordering_then](crate::contracts::logic#ordering_then)
-    /// &#9;([nat_cmp](crate::contracts::logic#nat_cmp) self.now.generation other.now.generation)
-    /// &#9;([nat_cmp](crate::contracts::logic#nat_cmp) self.now.index other.now.index) }
-    /// </code>
-    ///
-    /// </details>
-    #[must_use]
-    #[inline]
-    pub fn by_bits(&self, other: &Self) -> Ordering {
-        self.to_bits().cmp(&other.to_bits())
-    }
-
-    /// The handle that [`to_bits`](Self::to_bits) packed into these bits. `None` if they are the
-    /// bits of no handle.
+    /// Returns the handle that [`to_bits`](Self::to_bits) packed into these bits, or `None` if no
+    /// handle has these bits.
     ///
     /// ```
     /// use forgeni::Handle;
@@ -239,6 +180,74 @@ impl Handle {
     #[inline]
     pub const fn from_bits(of: u64) -> Option<Self> {
         Handle::new((of & 0xffff_ffff) as u32, (of >> 32) as u32)
+    }
+
+    /// Compares two handles by their bits, as Bevy and hecs do: by generation, then by index.
+    ///
+    /// ```
+    /// use forgeni::Handle;
+    ///
+    /// let [new, old] = [Handle::new(9, 1).unwrap(), Handle::new(0, 2).unwrap()];
+    /// assert!(new.by_bits(&old).is_lt() && new > old);
+    /// ```
+    ///
+    /// <details><summary>Contract</summary>
+    ///
+    /// <code style="display: block; tab-size: 4; white-space: pre-wrap">// In the words of [contracts](crate::contracts):
+    /// ensures bits { result ≡ [nat_cmp](crate::contracts::logic#nat_cmp) ([bits](crate::contracts::ent_handle::handle#bits) self.now) ([bits](crate::contracts::ent_handle::handle#bits) other.now) }
+    /// ensures parts { result ≡ [ordering_then](crate::contracts::logic#ordering_then)
+    /// &#9;([nat_cmp](crate::contracts::logic#nat_cmp) self.now.generation other.now.generation)
+    /// &#9;([nat_cmp](crate::contracts::logic#nat_cmp) self.now.index other.now.index) }
+    /// </code>
+    ///
+    /// </details>
+    #[must_use]
+    #[inline]
+    pub fn by_bits(&self, other: &Self) -> Ordering {
+        self.to_bits().cmp(&other.to_bits())
+    }
+}
+
+impl Handle {
+    /// The handle of these numbers, which have to be in range: the index is 0 to 4,294,967,294, the
+    /// generation 1 to 2,147,483,647. It tests nothing when it runs, so it is for a caller that
+    /// keeps such numbers. `new` tests them.
+    #[inline]
+    pub(crate) const fn from_parts(index: u32, generation: u32) -> Self
+        // requires { IsHandle (record { index = index; generation = generation }) }
+        // ensures { result ≡ record { index = index; generation = generation } }
+    {
+        let bits = ((generation as u64) << 32) + index as u64;
+        // The bits are never 0, and to take another number for 0 costs less than a branch.
+        let bits = match NonZeroU64::new(bits) {
+            Some(bits) => bits,
+            None => NonZeroU64::MIN,
+        };
+        Handle { bits }
+    }
+
+    /// The handle of the slot's next occupant: of the same index, and of the next generation, which
+    /// has to be in range. It tests nothing when it runs.
+    ///
+    /// It is never `None`. As an `Option` its bits need no test for 0, which would stand for
+    /// `None`.
+    #[inline]
+    pub(crate) fn following(self) -> Option<Self>
+        // requires { IsHandle (record self { generation = self.generation + 1 }) }
+        // ensures { result ≡ Some (record self { generation = self.generation + 1 }) }
+    {
+        let bits = NonZeroU64::new(self.bits.get() + (1 << 32))?;
+        Some(Handle { bits })
+    }
+
+    /// Both numbers in one with the index above, which is a rotation of the bits: one comparison of
+    /// these orders handles by index, then by generation.
+    #[inline]
+    fn index_first(self) -> u64
+        // ensures word { result ≡ self.index * 2 ^ 32 + self.generation }
+        // ensures in_range { IsHandle self }
+    {
+        (u64::from(self.index()) << 32) + u64::from(self.generation())
     }
 }
 

@@ -2,8 +2,8 @@
 
 use crate::kit::alloc::{AllocError, AllocFailed};
 
-/// Out of memory: an allocation failed, or something else happened that the call says counts as
-/// that. A call without any other error returns this one.
+/// Out of memory: an allocation failed, or something else happened that the call counts as such. A
+/// call without any other error returns this one.
 ///
 /// ```
 /// use forgeni::{Entities, OutOfMemory};

@@ -20,9 +20,9 @@ use core::fmt;
 /// ```
 #[derive(Clone, Copy, Debug, PartialEq, Eq, Hash)]
 pub enum ParseHandleError {
-    /// It doesn't have the form, which is that of `0v1` for a handle.
+    /// It doesn't have the right form, such as `0v1` for a handle.
     Shape,
-    /// It has the form, and a number in it is out of range.
+    /// It has the right form, but a number in it is out of range.
     Range,
 }
 
@@ -54,11 +54,12 @@ pub fn split_once(bytes: &[u8], separator: u8) -> Option<(&[u8], &[u8])> {
     Some((&bytes[..at], &bytes[at + 1..]))
 }
 
+/// # Text
 impl Handle {
-    /// The handle of this text: the index in decimal, the letter `v`, the generation in decimal. A
-    /// decimal has no sign and no leading zero.
+    /// Parses the text of a handle: the index in decimal, the letter `v`, the generation in
+    /// decimal. A decimal has no sign and no leading zero.
     ///
-    /// It takes time linear in the length of the text, however long that is, and no memory.
+    /// It takes time linear in the length of the text, however long that is, and doesn't allocate.
     ///
     /// ```
     /// use forgeni::{Handle, ParseHandleError};
@@ -74,7 +75,7 @@ impl Handle {
     /// # Errors
     ///
     /// - `Shape`: the text does not have this form.
-    /// - `Range`: it has this form, and no handle has these numbers.
+    /// - `Range`: it has this form, but no handle has these numbers.
     ///
     /// <details><summary>Contract</summary>
     ///
@@ -104,16 +105,6 @@ impl Handle {
         Handle::of_decimals(index, generation).ok_or(ParseHandleError::Range)
     }
 
-    #[inline]
-    fn of_decimals(index: &[u8], generation: &[u8]) -> Option<Self>
-        // requires index { IsDecimal index.now }
-        // requires generation { IsDecimal generation.now }
-        // ensures value { IfSome result (λ h. h ≡ written index.now generation.now) }
-        // ensures in_range { IsSome result ↔ IsHandle (written index.now generation.now) }
-    {
-        Handle::new(decimal_value(index)?, decimal_value(generation)?)
-    }
-
     /// Appends the handle's text. It succeeds if `out` has room for the whole text.
     ///
     /// ```
@@ -127,7 +118,7 @@ impl Handle {
     ///
     /// # Errors
     ///
-    /// `Memory`: there is no memory for the text. `out` has the same items as before.
+    /// `Memory`: there isn't enough memory for the text. `out` is unchanged.
     ///
     /// <details><summary>Contract</summary>
     ///
@@ -152,6 +143,18 @@ impl Handle {
         out.push_reserved(b'v');
         out.extend_from_slice_fallibly(generation).unwrap();
         Ok(())
+    }
+}
+
+impl Handle {
+    #[inline]
+    fn of_decimals(index: &[u8], generation: &[u8]) -> Option<Self>
+        // requires index { IsDecimal index.now }
+        // requires generation { IsDecimal generation.now }
+        // ensures value { IfSome result (λ h. h ≡ written index.now generation.now) }
+        // ensures in_range { IsSome result ↔ IsHandle (written index.now generation.now) }
+    {
+        Handle::new(decimal_value(index)?, decimal_value(generation)?)
     }
 }
 

@@ -3,7 +3,7 @@
 use crate::allocator::Refused;
 use crate::handles::Handle;
 
-/// What a [`Log`](crate::logs::Log) keeps of one call, for the sync point to hand on.
+/// What a [`Log`](crate::logs::Log) keeps of one call, for the sync point to pass on.
 ///
 /// ```
 /// use forgeni::{Entities, Entry, Limits, Log};
@@ -23,7 +23,7 @@ use crate::handles::Handle;
 /// ```
 #[derive(Clone, Copy, Debug, PartialEq, Eq, Hash)]
 pub enum Entry<C> {
-    /// A handle that a spawn returned. It is alive when the sync point hands on its first entry.
+    /// A handle that a spawn returned. It is alive when the sync point passes on its first entry.
     Spawn(Handle),
     /// Why a spawn returned no handle. Nothing comes to life for it.
     Refused(Refused),

@@ -12,7 +12,7 @@ use alloc::vec::IntoIter;
 /// The spawns and commands of one system, in the order of issue. `C` is the caller's type of
 /// commands.
 ///
-/// A [`SyncPoint`](crate::logs::SyncPoint) brings to life what was spawned, and hands on the entries. A
+/// A [`SyncPoint`](crate::logs::SyncPoint) brings to life what was spawned, and passes on the entries. A
 /// log can go to another thread. If a worker runs several systems, each has a log.
 ///
 /// ```
@@ -41,7 +41,7 @@ pub struct Log<C> {
 
 /// # Making one
 impl<C> Log<C> {
-    /// A log without entries. It takes no memory.
+    /// Creates a log without entries. It doesn't allocate.
     ///
     /// ```
     /// use forgeni::Log;
@@ -91,7 +91,7 @@ impl<C> Log<C> {
     /// - [`ReserveError::Memory`] if there is no room for the entry. The log is as it was, and
     ///   nothing was reserved.
     /// - [`ReserveError::Space`] and [`ReserveError::Quota`] as the reservation returns them. The
-    ///   log has an entry for the [refusal](Entry::Refused), which the sync point hands on in its
+    ///   log has an entry for the [refusal](Entry::Refused), which the sync point passes on in its
     ///   turn. [`ReserveError::or_memory`] lets the system go on.
     ///
     /// <details><summary>Contract</summary>
@@ -130,7 +130,8 @@ impl<C> Log<C> {
     /// - [`ReserveError::Memory`] if there is no room for the entry. The log is as it was, and
     ///   nothing was reserved.
     /// - [`ReserveError::Space`] and [`ReserveError::Quota`] as the source returns them. The log
-    ///   has an entry for the [refusal](Entry::Refused), which the sync point hands on in its turn.
+    ///   has an entry for the [refusal](Entry::Refused), which the sync point passes on in its
+    ///   turn.
     #[inline]
     pub(crate) fn spawn_from<S: Source>(
         &mut self,
@@ -160,7 +161,7 @@ impl<C> Log<C> {
         }
     }
 
-    /// Adds a command, which the sync point hands on in its turn.
+    /// Adds a command, which the sync point passes on in its turn.
     ///
     /// ```
     /// use forgeni::{Handle, Log};
@@ -198,14 +199,14 @@ impl<C> Log<C> {
         Ok(())
     }
 
-    /// Drops all entries, and keeps their room. So adding as many entries again takes no memory.
+    /// Drops all entries, and keeps their room. So adding as many entries again doesn't allocate.
     ///
     /// ```
     /// use forgeni::Log;
     ///
     /// let mut log = Log::new();
     /// for frame in 0..3 {
-    ///     // From the second frame on it takes no memory.
+    ///     // From the second frame on it doesn't allocate.
     ///     log.clear();
     ///     log.push(frame)?;
     /// }
@@ -228,7 +229,7 @@ impl<C> Log<C> {
 
 /// # What it has
 impl<C> Log<C> {
-    /// The entries, in the order of issue.
+    /// Returns the entries, in the order of issue.
     ///
     /// ```
     /// use forgeni::{Entry, Log};
@@ -257,7 +258,7 @@ impl<C> Log<C> {
         &self.entries
     }
 
-    /// How many entries there are.
+    /// Returns the number of entries.
     ///
     /// ```
     /// use forgeni::Log;
@@ -282,7 +283,7 @@ impl<C> Log<C> {
         self.entries.len()
     }
 
-    /// Whether there is none.
+    /// Returns `true` if there are no entries.
     ///
     /// ```
     /// use forgeni::Log;
@@ -305,7 +306,7 @@ impl<C> Log<C> {
         self.entries.is_empty()
     }
 
-    /// How many of its spawns were refused.
+    /// Returns the number of its spawns that were refused.
     ///
     /// ```
     /// use forgeni::{Entities, Limits, Log};
@@ -343,7 +344,7 @@ impl<C> Log<C> {
 }
 
 impl<C> Log<C> {
-    /// The entries, to be taken out one by one.
+    /// The entries, to be removed one by one.
     #[inline]
     pub(super) fn into_entries(self) -> IntoIter<Entry<C>>
         // ensures { into_iter_items result ≡ self }

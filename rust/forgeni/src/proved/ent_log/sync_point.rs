@@ -10,9 +10,9 @@ use crate::allocator::Entities;
 use crate::handles::{Handle, OutOfMemory};
 use core::mem;
 
-/// A sync point of logs: the entries that are still to be handed on.
+/// A sync point of logs: the entries that are still to be passed on.
 ///
-/// [`begin`](Self::begin) brings to life what is reserved, and [`apply`](Self::apply) hands on the
+/// [`begin`](Self::begin) brings to life what is reserved, and [`apply`](Self::apply) passes on the
 /// entries. It doesn't own the allocator, so the allocator isn't lost if a caller returns early.
 /// The entries that are left are dropped then.
 ///
@@ -71,6 +71,7 @@ pub struct SyncPoint<C> {
     rest: Rest<C>,
 }
 
+/// # Beginning
 impl<C> SyncPoint<C> {
     /// Brings to life all that is reserved, and appends it to `out`, as
     /// [`flush`](Entities::flush) does. The sync point has the entries of these logs, one log after
@@ -78,7 +79,7 @@ impl<C> SyncPoint<C> {
     /// comes to life too.
     ///
     /// It tests each spawn of the logs: its handle has to be reserved in this allocator. So when
-    /// the first entry is handed on, each of these handles is alive.
+    /// the first entry is passed on, each of these handles is alive.
     ///
     /// ```
     /// use forgeni::{Entities, Log, SyncPoint};
@@ -98,7 +99,7 @@ impl<C> SyncPoint<C> {
     /// The list has its logs, and nothing has changed.
     ///
     /// - [`BeginError::NotReserved`] if the handle of a spawn isn't reserved.
-    /// - [`BeginError::Memory`] if there is no memory for what is born.
+    /// - [`BeginError::Memory`] if there isn't enough memory for what is born.
     ///
     /// <details><summary>Contract</summary>
     ///
@@ -141,48 +142,15 @@ impl<C> SyncPoint<C> {
             Err(OutOfMemory) => Err(BeginError::Memory),
         }
     }
+}
 
-    /// As [`begin`](Self::begin), for logs all of whose spawns are reserved in the allocator. It
-    /// tests none of them.
-    ///
-    /// # Errors
-    ///
-    /// [`OutOfMemory`] if there is no memory for what is born. Nothing has changed.
-    #[inline]
-    pub(crate) fn begin_reserved(
-        entities: &mut Entities,
-        logs: &mut Vec<Log<C>>,
-        out: &mut Vec<Handle>,
-    ) -> Result<Self, OutOfMemory>
-        // requires reserved { first_unreserved entities.old.allocator
-        //     (spawned_in (entries_of logs.old.items)) ≡ None }
-        // ensures entries { IfOk result (λ point. point ≡ entries_of logs.old.items) }
-        // ensures emptied { OnOk result (logs.new.items ≡ []) }
-        // ensures flushed { OnOk result
-        //     (entities.new.allocator ≡ after_flush entities.old.allocator) }
-        // ensures rows { entities.new.rows ≡ entities.old.rows }
-        // ensures born { OnOk result
-        //     (out.new.items ≡ out.old.items ++ born entities.old.allocator) }
-        // ensures alive { OnOk result
-        //     (All (IsLive entities.new.allocator) (spawned_in (entries_of logs.old.items))) }
-        // ensures memory { OnErr result ((0 < made_at_flush entities.old.allocator)
-        //     ⊎ (vec_capacity out.old < vec_len out.old + length entities.old.allocator.taken)) }
-        // ensures kept { OnErr result (logs.new.items ≡ logs.old.items) }
-        // ensures err { OnErr result (entities.new ≡ entities.old) }
-        // ensures unchanged { OnErr result (out.new.items ≡ out.old.items) }
-    {
-        entities.flush(out)?;
-        Ok(SyncPoint {
-            front: None,
-            rest: Rest::of(mem::replace(logs, Vec::new())),
-        })
-    }
-
+/// # Entries
+impl<C> SyncPoint<C> {
     /// Calls `run` with each entry in turn, and with the allocator, so that a command can free
     /// entities.
     ///
     /// `run` hands an entry back with its error. That entry is then the first one that is left, and
-    /// a later call goes on with it. [`take_next`](Self::take_next) removes it instead.
+    /// the next call begins with it. [`take_next`](Self::take_next) removes it instead.
     ///
     /// ```
     /// use forgeni::{Entities, Entry, HandleMap, Log, SyncPoint};
@@ -209,12 +177,12 @@ impl<C> SyncPoint<C> {
     ///
     /// # Errors
     ///
-    /// That of `run`. It was called with the entries before that one, and not with those behind it,
+    /// That of `run`. It was called with the entries before that one, and not with those after it,
     /// which are left.
     ///
     /// # Panics
     ///
-    /// A panic of `run` is handed on. The entry at which it panicked is gone, and those behind it
+    /// A panic in `run` is propagated. The entry on which it panicked is lost, and those after it
     /// are left.
     ///
     /// <details><summary>Contract</summary>
@@ -277,6 +245,44 @@ impl<C> SyncPoint<C> {
             Some(entry) => Some(entry),
             None => self.rest.take_next(),
         }
+    }
+}
+
+impl<C> SyncPoint<C> {
+    /// As [`begin`](Self::begin), for logs all of whose spawns are reserved in the allocator. It
+    /// tests none of them.
+    ///
+    /// # Errors
+    ///
+    /// [`OutOfMemory`] if there isn't enough memory for what is born. Nothing has changed.
+    #[inline]
+    pub(crate) fn begin_reserved(
+        entities: &mut Entities,
+        logs: &mut Vec<Log<C>>,
+        out: &mut Vec<Handle>,
+    ) -> Result<Self, OutOfMemory>
+        // requires reserved { first_unreserved entities.old.allocator
+        //     (spawned_in (entries_of logs.old.items)) ≡ None }
+        // ensures entries { IfOk result (λ point. point ≡ entries_of logs.old.items) }
+        // ensures emptied { OnOk result (logs.new.items ≡ []) }
+        // ensures flushed { OnOk result
+        //     (entities.new.allocator ≡ after_flush entities.old.allocator) }
+        // ensures rows { entities.new.rows ≡ entities.old.rows }
+        // ensures born { OnOk result
+        //     (out.new.items ≡ out.old.items ++ born entities.old.allocator) }
+        // ensures alive { OnOk result
+        //     (All (IsLive entities.new.allocator) (spawned_in (entries_of logs.old.items))) }
+        // ensures memory { OnErr result ((0 < made_at_flush entities.old.allocator)
+        //     ⊎ (vec_capacity out.old < vec_len out.old + length entities.old.allocator.taken)) }
+        // ensures kept { OnErr result (logs.new.items ≡ logs.old.items) }
+        // ensures err { OnErr result (entities.new ≡ entities.old) }
+        // ensures unchanged { OnErr result (out.new.items ≡ out.old.items) }
+    {
+        entities.flush(out)?;
+        Ok(SyncPoint {
+            front: None,
+            rest: Rest::of(mem::replace(logs, Vec::new())),
+        })
     }
 }
 

@@ -1,8 +1,8 @@
 // Made of crates/ent_queue/src/bundle.rt by rust/erase. It isn't edited by hand.
 
-/// Components and their values, by strictly rising number.
+/// Components and their values, in strictly ascending order of number.
 ///
-/// A bundle of up to four components takes no memory.
+/// A bundle of up to four components needs no allocation.
 ///
 /// ```
 /// use forgeni::{run_frame, system, Bundle, ComponentId, World};

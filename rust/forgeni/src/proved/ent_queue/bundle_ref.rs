@@ -27,7 +27,7 @@ impl<'a> BundleRef<'a> {
         (BundleRef { items }, rest)
     }
 
-    /// How many components there are.
+    /// Returns the number of components.
     ///
     /// <details><summary>Contract</summary>
     ///
@@ -41,7 +41,7 @@ impl<'a> BundleRef<'a> {
         self.items.len()
     }
 
-    /// Whether there is none.
+    /// Returns `true` if there is none.
     ///
     /// <details><summary>Contract</summary>
     ///
@@ -55,7 +55,7 @@ impl<'a> BundleRef<'a> {
         self.items.is_empty()
     }
 
-    /// The components and their values, by strictly rising number.
+    /// Returns the components and their values, in strictly ascending order of number.
     ///
     /// <details><summary>Contract</summary>
     ///
@@ -71,7 +71,7 @@ impl<'a> BundleRef<'a> {
     }
 }
 
-/// Yields the components of one command and their values, by strictly rising number.
+/// Yields the components of one command and their values, in strictly ascending order of number.
 pub struct BundleItems<'a> {
     left: &'a [[u8; ITEM]],
 }

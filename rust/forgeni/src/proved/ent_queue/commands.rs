@@ -50,25 +50,9 @@ impl<'a, O: Output, S: Source> SystemCommands<'a, O, S> {
     }
 }
 
+/// # Looking at entities
 impl<'a, O, S: Source> SystemCommands<'a, O, S> {
-    /// Goes on with what was begun before, whose entries stay in front. The reserver may be another
-    /// one of the source than before.
-    #[inline]
-    pub(crate) fn resume(source: &'a S, reserver: &'a mut S::Reserver, output: O) -> Self
-        // requires { S.serves source.now reserver.old }
-        // ensures same { result.reserver.ghost_name ≡ reserver.entry.ghost_name }
-        // ensures reserver { reserver_of result ≡ reserver.old }
-        // ensures source { source_of result ≡ source.now }
-        // ensures output { output_of result ≡ output }
-    {
-        SystemCommands {
-            reserver,
-            source,
-            output,
-        }
-    }
-
-    /// Whether the entity was alive when the phase was opened. It takes constant time.
+    /// Returns `true` if the entity was alive when the phase was opened. It takes constant time.
     ///
     /// ```
     /// use forgeni::{run_logs, Entities, Handle, LogCommands};
@@ -95,8 +79,8 @@ impl<'a, O, S: Source> SystemCommands<'a, O, S> {
         self.source.was_alive(handle)
     }
 
-    /// The row that was kept with the entity when the phase was opened. `None` if the entity was
-    /// not alive then, or had no row. It takes constant time.
+    /// Returns the row that the entity had when the phase was opened, or `None` if it wasn't alive
+    /// then or had no row. It takes constant time.
     ///
     /// ```
     /// use forgeni::{run_logs, Entities, Entry, LogCommands};
@@ -129,6 +113,26 @@ impl<'a, O, S: Source> SystemCommands<'a, O, S> {
     }
 }
 
+impl<'a, O, S: Source> SystemCommands<'a, O, S> {
+    /// Goes on with what was begun before, whose entries stay in front. The reserver may be another
+    /// one of the source than before.
+    #[inline]
+    pub(crate) fn resume(source: &'a S, reserver: &'a mut S::Reserver, output: O) -> Self
+        // requires { S.serves source.now reserver.old }
+        // ensures same { result.reserver.ghost_name ≡ reserver.entry.ghost_name }
+        // ensures reserver { reserver_of result ≡ reserver.old }
+        // ensures source { source_of result ≡ source.now }
+        // ensures output { output_of result ≡ output }
+    {
+        SystemCommands {
+            reserver,
+            source,
+            output,
+        }
+    }
+}
+
+/// # The end
 impl<O, S: Source> SystemCommands<'_, O, S> {
     /// Returns what was filled, and gives the reserver back to its owner.
     ///

@@ -25,7 +25,7 @@ impl<'a> HandlesRef<'a> {
         (HandlesRef { handles }, rest)
     }
 
-    /// How many handles there are.
+    /// Returns the number of handles.
     ///
     /// <details><summary>Contract</summary>
     ///
@@ -39,7 +39,7 @@ impl<'a> HandlesRef<'a> {
         self.handles.len()
     }
 
-    /// Whether there is none.
+    /// Returns `true` if there is none.
     ///
     /// <details><summary>Contract</summary>
     ///

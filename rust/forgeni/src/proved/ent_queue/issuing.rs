@@ -10,7 +10,57 @@ use crate::allocator::{ReserveError, Source};
 use crate::handles::{ComponentId, Handle, OutOfMemory};
 use crate::components::InlineBundle;
 
+/// # Commands of a world
 impl<S: Source> SystemCommands<'_, IssuedCommands, S> {
+    /// Reserves a handle. Its entity gets these components when the queue is applied. They may be
+    /// in any order; if a component is listed twice, its last value counts.
+    ///
+    /// ```
+    /// use forgeni::{run_frame, system, ComponentId, World};
+    ///
+    /// const HEAT: ComponentId = ComponentId(0);
+    ///
+    /// let burn = system(|_, commands| match commands.spawn_with(&[(HEAT, 900)]) {
+    ///     Ok(_) => Ok(()),
+    ///     Err(refused) => refused.or_memory(),
+    /// });
+    /// let mut world = World::new();
+    /// let report = run_frame(&mut world, &[burn], 1)?;
+    /// assert_eq!(world.get(report.born[0], HEAT), Some(900));
+    /// # Ok::<(), Box<dyn std::error::Error>>(())
+    /// ```
+    ///
+    /// # Errors
+    ///
+    /// The same as for [`SystemCommands::spawn`].
+    ///
+    /// <details><summary>Contract</summary>
+    ///
+    /// <code style="display: block; tab-size: 4; white-space: pre-wrap">// In the words of [contracts](crate::contracts):
+    /// requires { [IsReady](crate::contracts::ent_queue::commands#IsReady) S.serves self.old }
+    /// ensures extends { [Extends](crate::contracts::ent_queue::commands#Extends) [Issues](crate::contracts::ent_queue::issuing#Issues) S.serves S.may_reply self.old self.new }
+    /// ensures ok { [IfOk](crate::contracts::logic#IfOk) result (λ handle. [output_of](crate::contracts::ent_queue::commands#output_of) self.new
+    /// &#9;≡ [output_of](crate::contracts::ent_queue::commands#output_of) self.old ++ [Spawn](crate::contracts::ent_queue::command#Spawn) handle ([bundle_of](crate::contracts::ent_storage::bundle#bundle_of) components.now) ∷ \[\]) }
+    /// ensures refused { [IfErr](crate::contracts::logic#IfErr) result (λ fault.
+    /// &#9;[output_of](crate::contracts::ent_queue::commands#output_of) self.new ≡ [output_of](crate::contracts::ent_queue::commands#output_of) self.old ++ [refused_by](crate::contracts::ent_queue::reserving#refused_by) 1 fault) }
+    /// ensures memory { [IsErrOf](crate::contracts::logic#IsErrOf) result ReserveError.Memory
+    /// &#9;→ [reserver_of](crate::contracts::ent_queue::commands#reserver_of) self.new ≡ [reserver_of](crate::contracts::ent_queue::commands#reserver_of) self.old }
+    /// &#32;
+    /// // Anything but Memory is the result of a reservation.
+    /// ensures replies { (reply : [Result](crate::contracts::logic#Result) [HandleValue](crate::contracts::ent_handle::handle#Handle) Refusal) → result ≡ [queued](crate::contracts::ent_queue::reserving#queued) reply
+    /// &#9;→ S.may_reply ([source_of](crate::contracts::ent_queue::commands#source_of) self.old) ([reserver_of](crate::contracts::ent_queue::commands#reserver_of) self.old) ([reserver_of](crate::contracts::ent_queue::commands#reserver_of) self.new) 1
+    /// &#9;([listed_alone](crate::contracts::ent_alloc::sequential#listed_alone) reply) }
+    /// </code>
+    ///
+    /// </details>
+    #[inline]
+    pub fn spawn_with(&mut self, components: &[(ComponentId, i64)]) -> Result<Handle, ReserveError> {
+        let Ok(bundle) = OwnBundle::of(components) else {
+            return Err(ReserveError::Memory);
+        };
+        self.spawn(&bundle)
+    }
+
     /// Reserves a handle. Its entity gets the components when the queue is applied.
     ///
     /// ```
@@ -63,108 +113,6 @@ impl<S: Source> SystemCommands<'_, IssuedCommands, S> {
             .spawn(self.source, self.reserver, bundle.items())
     }
 
-    /// Reserves a handle. Its entity gets these components when the queue is applied. They may be
-    /// in any order; if a component is listed twice, its last value counts.
-    ///
-    /// ```
-    /// use forgeni::{run_frame, system, ComponentId, World};
-    ///
-    /// const HEAT: ComponentId = ComponentId(0);
-    ///
-    /// let burn = system(|_, commands| match commands.spawn_with(&[(HEAT, 900)]) {
-    ///     Ok(_) => Ok(()),
-    ///     Err(refused) => refused.or_memory(),
-    /// });
-    /// let mut world = World::new();
-    /// let report = run_frame(&mut world, &[burn], 1)?;
-    /// assert_eq!(world.get(report.born[0], HEAT), Some(900));
-    /// # Ok::<(), Box<dyn std::error::Error>>(())
-    /// ```
-    ///
-    /// # Errors
-    ///
-    /// As of [`SystemCommands::spawn`].
-    ///
-    /// <details><summary>Contract</summary>
-    ///
-    /// <code style="display: block; tab-size: 4; white-space: pre-wrap">// In the words of [contracts](crate::contracts):
-    /// requires { [IsReady](crate::contracts::ent_queue::commands#IsReady) S.serves self.old }
-    /// ensures extends { [Extends](crate::contracts::ent_queue::commands#Extends) [Issues](crate::contracts::ent_queue::issuing#Issues) S.serves S.may_reply self.old self.new }
-    /// ensures ok { [IfOk](crate::contracts::logic#IfOk) result (λ handle. [output_of](crate::contracts::ent_queue::commands#output_of) self.new
-    /// &#9;≡ [output_of](crate::contracts::ent_queue::commands#output_of) self.old ++ [Spawn](crate::contracts::ent_queue::command#Spawn) handle ([bundle_of](crate::contracts::ent_storage::bundle#bundle_of) components.now) ∷ \[\]) }
-    /// ensures refused { [IfErr](crate::contracts::logic#IfErr) result (λ fault.
-    /// &#9;[output_of](crate::contracts::ent_queue::commands#output_of) self.new ≡ [output_of](crate::contracts::ent_queue::commands#output_of) self.old ++ [refused_by](crate::contracts::ent_queue::reserving#refused_by) 1 fault) }
-    /// ensures memory { [IsErrOf](crate::contracts::logic#IsErrOf) result ReserveError.Memory
-    /// &#9;→ [reserver_of](crate::contracts::ent_queue::commands#reserver_of) self.new ≡ [reserver_of](crate::contracts::ent_queue::commands#reserver_of) self.old }
-    /// &#32;
-    /// // Anything but Memory is the result of a reservation.
-    /// ensures replies { (reply : [Result](crate::contracts::logic#Result) [HandleValue](crate::contracts::ent_handle::handle#Handle) Refusal) → result ≡ [queued](crate::contracts::ent_queue::reserving#queued) reply
-    /// &#9;→ S.may_reply ([source_of](crate::contracts::ent_queue::commands#source_of) self.old) ([reserver_of](crate::contracts::ent_queue::commands#reserver_of) self.old) ([reserver_of](crate::contracts::ent_queue::commands#reserver_of) self.new) 1
-    /// &#9;([listed_alone](crate::contracts::ent_alloc::sequential#listed_alone) reply) }
-    /// </code>
-    ///
-    /// </details>
-    #[inline]
-    pub fn spawn_with(&mut self, components: &[(ComponentId, i64)]) -> Result<Handle, ReserveError> {
-        let Ok(bundle) = OwnBundle::of(components) else {
-            return Err(ReserveError::Memory);
-        };
-        self.spawn(&bundle)
-    }
-
-    /// Reserves `n` handles at once. Each of their entities gets the components when the queue is
-    /// applied. It takes time for each handle, which goes into the list and into the queue.
-    ///
-    /// ```
-    /// use forgeni::{run_frame, system, Bundle, ComponentId, World};
-    ///
-    /// const HEAT: ComponentId = ComponentId(0);
-    ///
-    /// let spark = Bundle::of(&[(HEAT, 900)])?;
-    /// let burst = system(|_, commands| match commands.spawn_many(50, &spark) {
-    ///     Ok(_) => Ok(()),
-    ///     Err(refused) => refused.or_memory(),
-    /// });
-    /// let mut world = World::new();
-    /// assert_eq!(run_frame(&mut world, &[burst], 1)?.born.len(), 50);
-    /// # Ok::<(), Box<dyn std::error::Error>>(())
-    /// ```
-    ///
-    /// # Errors
-    ///
-    /// As of [`SystemCommands::spawn`].
-    ///
-    /// <details><summary>Contract</summary>
-    ///
-    /// <code style="display: block; tab-size: 4; white-space: pre-wrap">// In the words of [contracts](crate::contracts):
-    /// requires { [IsReady](crate::contracts::ent_queue::commands#IsReady) S.serves self.old }
-    /// ensures extends { [Extends](crate::contracts::ent_queue::commands#Extends) [Issues](crate::contracts::ent_queue::issuing#Issues) S.serves S.may_reply self.old self.new }
-    /// ensures ok { [IfOk](crate::contracts::logic#IfOk) result (λ handles.
-    /// &#9;[output_of](crate::contracts::ent_queue::commands#output_of) self.new ≡ [output_of](crate::contracts::ent_queue::commands#output_of) self.old ++ [SpawnMany](crate::contracts::ent_queue::command#SpawnMany) handles.items bundle.now ∷ \[\]) }
-    /// ensures length { [IfOk](crate::contracts::logic#IfOk) result (λ handles. [length](crate::contracts::logic#length) handles.items ≡ n) }
-    /// ensures refused { [IfErr](crate::contracts::logic#IfErr) result (λ fault.
-    /// &#9;[output_of](crate::contracts::ent_queue::commands#output_of) self.new ≡ [output_of](crate::contracts::ent_queue::commands#output_of) self.old ++ [refused_by](crate::contracts::ent_queue::reserving#refused_by) n fault) }
-    /// ensures memory { [IsErrOf](crate::contracts::logic#IsErrOf) result ReserveError.Memory
-    /// &#9;→ [reserver_of](crate::contracts::ent_queue::commands#reserver_of) self.new ≡ [reserver_of](crate::contracts::ent_queue::commands#reserver_of) self.old }
-    /// &#32;
-    /// // Anything but Memory is the result of a reservation.
-    /// ensures replies { (reply : [Result](crate::contracts::logic#Result) ([List](crate::contracts::logic#List) [HandleValue](crate::contracts::ent_handle::handle#Handle)) Refusal)
-    /// &#9;→ [as_list](crate::contracts::ent_queue::reserving#as_list) result ≡ [queued](crate::contracts::ent_queue::reserving#queued) reply
-    /// &#9;→ S.may_reply ([source_of](crate::contracts::ent_queue::commands#source_of) self.old) ([reserver_of](crate::contracts::ent_queue::commands#reserver_of) self.old) ([reserver_of](crate::contracts::ent_queue::commands#reserver_of) self.new) n
-    /// &#9;reply }
-    /// </code>
-    ///
-    /// </details>
-    #[inline]
-    pub fn spawn_many<const INLINE: usize>(
-        &mut self,
-        n: u32,
-        bundle: &InlineBundle<INLINE>,
-    ) -> Result<Vec<Handle>, ReserveError> {
-        self.output
-            .spawn_many(self.source, self.reserver, n, bundle.items())
-    }
-
     /// Reserves `n` handles at once. Each of their entities gets these components when the queue is
     /// applied. They may be in any order; if a component is listed twice, its last value counts.
     ///
@@ -184,7 +132,7 @@ impl<S: Source> SystemCommands<'_, IssuedCommands, S> {
     ///
     /// # Errors
     ///
-    /// As of [`SystemCommands::spawn_many`].
+    /// The same as for [`SystemCommands::spawn_many`].
     ///
     /// <details><summary>Contract</summary>
     ///
@@ -219,44 +167,57 @@ impl<S: Source> SystemCommands<'_, IssuedCommands, S> {
         self.spawn_many(n, &bundle)
     }
 
-    /// Gives the entity the components, in place of those that it has under the same numbers.
+    /// Reserves `n` handles at once. Each of their entities gets the components when the queue is
+    /// applied. It takes time for each handle, which goes into the list and into the queue.
     ///
     /// ```
     /// use forgeni::{run_frame, system, Bundle, ComponentId, World};
     ///
-    /// const SPEED: ComponentId = ComponentId(0);
+    /// const HEAT: ComponentId = ComponentId(0);
     ///
+    /// let spark = Bundle::of(&[(HEAT, 900)])?;
+    /// let burst = system(|_, commands| match commands.spawn_many(50, &spark) {
+    ///     Ok(_) => Ok(()),
+    ///     Err(refused) => refused.or_memory(),
+    /// });
     /// let mut world = World::new();
-    /// let cart = world.spawn(&[])?;
-    /// let fast = Bundle::of(&[(SPEED, 40)])?;
-    /// run_frame(&mut world, &[system(|_, commands| commands.insert(cart, &fast))], 1)?;
-    /// assert_eq!(world.get(cart, SPEED), Some(40));
+    /// assert_eq!(run_frame(&mut world, &[burst], 1)?.born.len(), 50);
     /// # Ok::<(), Box<dyn std::error::Error>>(())
     /// ```
     ///
     /// # Errors
     ///
-    /// `Memory`, and then nothing has changed.
+    /// The same as for [`SystemCommands::spawn`].
     ///
     /// <details><summary>Contract</summary>
     ///
     /// <code style="display: block; tab-size: 4; white-space: pre-wrap">// In the words of [contracts](crate::contracts):
     /// requires { [IsReady](crate::contracts::ent_queue::commands#IsReady) S.serves self.old }
     /// ensures extends { [Extends](crate::contracts::ent_queue::commands#Extends) [Issues](crate::contracts::ent_queue::issuing#Issues) S.serves S.may_reply self.old self.new }
-    /// ensures reserver { [reserver_of](crate::contracts::ent_queue::commands#reserver_of) self.new ≡ [reserver_of](crate::contracts::ent_queue::commands#reserver_of) self.old }
-    /// ensures ok { [OnOk](crate::contracts::logic#OnOk) result
-    /// &#9;([output_of](crate::contracts::ent_queue::commands#output_of) self.new ≡ [output_of](crate::contracts::ent_queue::commands#output_of) self.old ++ [Insert](crate::contracts::ent_queue::command#Insert) handle bundle.now ∷ \[\]) }
-    /// ensures err { [OnErr](crate::contracts::logic#OnErr) result ([output_of](crate::contracts::ent_queue::commands#output_of) self.new ≡ [output_of](crate::contracts::ent_queue::commands#output_of) self.old) }
+    /// ensures ok { [IfOk](crate::contracts::logic#IfOk) result (λ handles.
+    /// &#9;[output_of](crate::contracts::ent_queue::commands#output_of) self.new ≡ [output_of](crate::contracts::ent_queue::commands#output_of) self.old ++ [SpawnMany](crate::contracts::ent_queue::command#SpawnMany) handles.items bundle.now ∷ \[\]) }
+    /// ensures length { [IfOk](crate::contracts::logic#IfOk) result (λ handles. [length](crate::contracts::logic#length) handles.items ≡ n) }
+    /// ensures refused { [IfErr](crate::contracts::logic#IfErr) result (λ fault.
+    /// &#9;[output_of](crate::contracts::ent_queue::commands#output_of) self.new ≡ [output_of](crate::contracts::ent_queue::commands#output_of) self.old ++ [refused_by](crate::contracts::ent_queue::reserving#refused_by) n fault) }
+    /// ensures memory { [IsErrOf](crate::contracts::logic#IsErrOf) result ReserveError.Memory
+    /// &#9;→ [reserver_of](crate::contracts::ent_queue::commands#reserver_of) self.new ≡ [reserver_of](crate::contracts::ent_queue::commands#reserver_of) self.old }
+    /// &#32;
+    /// // Anything but Memory is the result of a reservation.
+    /// ensures replies { (reply : [Result](crate::contracts::logic#Result) ([List](crate::contracts::logic#List) [HandleValue](crate::contracts::ent_handle::handle#Handle)) Refusal)
+    /// &#9;→ [as_list](crate::contracts::ent_queue::reserving#as_list) result ≡ [queued](crate::contracts::ent_queue::reserving#queued) reply
+    /// &#9;→ S.may_reply ([source_of](crate::contracts::ent_queue::commands#source_of) self.old) ([reserver_of](crate::contracts::ent_queue::commands#reserver_of) self.old) ([reserver_of](crate::contracts::ent_queue::commands#reserver_of) self.new) n
+    /// &#9;reply }
     /// </code>
     ///
     /// </details>
     #[inline]
-    pub fn insert<const INLINE: usize>(
+    pub fn spawn_many<const INLINE: usize>(
         &mut self,
-        handle: Handle,
+        n: u32,
         bundle: &InlineBundle<INLINE>,
-    ) -> Result<(), OutOfMemory> {
-        IssuedCommands::insert(&mut self.output, handle, bundle.items())
+    ) -> Result<Vec<Handle>, ReserveError> {
+        self.output
+            .spawn_many(self.source, self.reserver, n, bundle.items())
     }
 
     /// Gives the entity these components, in place of those that it has under the same numbers.
@@ -281,7 +242,7 @@ impl<S: Source> SystemCommands<'_, IssuedCommands, S> {
     ///
     /// # Errors
     ///
-    /// `Memory`, and then nothing has changed.
+    /// `Memory`. Nothing has changed then.
     ///
     /// <details><summary>Contract</summary>
     ///
@@ -305,6 +266,46 @@ impl<S: Source> SystemCommands<'_, IssuedCommands, S> {
         self.insert(handle, &bundle)
     }
 
+    /// Gives the entity the components, in place of those that it has under the same numbers.
+    ///
+    /// ```
+    /// use forgeni::{run_frame, system, Bundle, ComponentId, World};
+    ///
+    /// const SPEED: ComponentId = ComponentId(0);
+    ///
+    /// let mut world = World::new();
+    /// let cart = world.spawn(&[])?;
+    /// let fast = Bundle::of(&[(SPEED, 40)])?;
+    /// run_frame(&mut world, &[system(|_, commands| commands.insert(cart, &fast))], 1)?;
+    /// assert_eq!(world.get(cart, SPEED), Some(40));
+    /// # Ok::<(), Box<dyn std::error::Error>>(())
+    /// ```
+    ///
+    /// # Errors
+    ///
+    /// `Memory`. Nothing has changed then.
+    ///
+    /// <details><summary>Contract</summary>
+    ///
+    /// <code style="display: block; tab-size: 4; white-space: pre-wrap">// In the words of [contracts](crate::contracts):
+    /// requires { [IsReady](crate::contracts::ent_queue::commands#IsReady) S.serves self.old }
+    /// ensures extends { [Extends](crate::contracts::ent_queue::commands#Extends) [Issues](crate::contracts::ent_queue::issuing#Issues) S.serves S.may_reply self.old self.new }
+    /// ensures reserver { [reserver_of](crate::contracts::ent_queue::commands#reserver_of) self.new ≡ [reserver_of](crate::contracts::ent_queue::commands#reserver_of) self.old }
+    /// ensures ok { [OnOk](crate::contracts::logic#OnOk) result
+    /// &#9;([output_of](crate::contracts::ent_queue::commands#output_of) self.new ≡ [output_of](crate::contracts::ent_queue::commands#output_of) self.old ++ [Insert](crate::contracts::ent_queue::command#Insert) handle bundle.now ∷ \[\]) }
+    /// ensures err { [OnErr](crate::contracts::logic#OnErr) result ([output_of](crate::contracts::ent_queue::commands#output_of) self.new ≡ [output_of](crate::contracts::ent_queue::commands#output_of) self.old) }
+    /// </code>
+    ///
+    /// </details>
+    #[inline]
+    pub fn insert<const INLINE: usize>(
+        &mut self,
+        handle: Handle,
+        bundle: &InlineBundle<INLINE>,
+    ) -> Result<(), OutOfMemory> {
+        IssuedCommands::insert(&mut self.output, handle, bundle.items())
+    }
+
     /// Removes the component from the entity, if it has it.
     ///
     /// ```
@@ -321,7 +322,7 @@ impl<S: Source> SystemCommands<'_, IssuedCommands, S> {
     ///
     /// # Errors
     ///
-    /// `Memory`, and then nothing has changed.
+    /// `Memory`. Nothing has changed then.
     ///
     /// <details><summary>Contract</summary>
     ///
@@ -361,7 +362,7 @@ impl<S: Source> SystemCommands<'_, IssuedCommands, S> {
     ///
     /// # Errors
     ///
-    /// `Memory`, and then nothing has changed.
+    /// `Memory`. Nothing has changed then.
     ///
     /// <details><summary>Contract</summary>
     ///

@@ -4,8 +4,9 @@
 use crate::commands::commands::SystemCommands;
 use crate::in_blocks::Blocks;
 
+/// # In blocks
 impl<O> SystemCommands<'_, O, Blocks> {
-    /// How many handles of the block are left.
+    /// Returns the number of handles that are left of the block.
     ///
     /// ```
     /// # #[cfg(feature = "std")] {

@@ -8,39 +8,8 @@ use crate::handles::{Handle, OutOfMemory};
 use crate::logs::{Entry, Log};
 use core::fmt;
 
+/// # Filling a log
 impl<C, S: Source> SystemCommands<'_, Log<C>, S> {
-    /// The entries so far, in the order of issue.
-    ///
-    /// ```
-    /// use forgeni::{run_logs, Entities, Entry, LogCommands, OutOfMemory};
-    ///
-    /// /// Two enemies are seen, but the guard shouts once.
-    /// fn guard(commands: &mut LogCommands<'_, &'static str>) -> Result<(), OutOfMemory> {
-    ///     for _enemy in 0..2 {
-    ///         if !commands.entries().contains(&Entry::Command("halt")) {
-    ///             commands.push("halt")?;
-    ///         }
-    ///     }
-    ///     Ok(())
-    /// }
-    ///
-    /// assert_eq!(run_logs(&mut Entities::new(), &[guard], 1)?[0].len(), 1);
-    /// # Ok::<(), Box<dyn std::error::Error>>(())
-    /// ```
-    ///
-    /// <details><summary>Contract</summary>
-    ///
-    /// <code style="display: block; tab-size: 4; white-space: pre-wrap">// In the words of [contracts](crate::contracts):
-    /// ensures { result.now ≡ [output_of](crate::contracts::ent_queue::commands#output_of) self.now }
-    /// </code>
-    ///
-    /// </details>
-    #[must_use]
-    #[inline]
-    pub fn entries(&self) -> &[Entry<C>] {
-        self.output.entries()
-    }
-
     /// Reserves a handle at once, and adds its entry, or that of the refusal. Room for the entry is
     /// allocated first, so each reservation has one.
     ///
@@ -65,8 +34,8 @@ impl<C, S: Source> SystemCommands<'_, Log<C>, S> {
     /// - [`ReserveError::Memory`] if there is no room for the entry. The log is as it was, and
     ///   nothing was reserved.
     /// - [`ReserveError::Space`] and [`ReserveError::Quota`] as the source returns them. The log
-    ///   has an entry for the [refusal](Entry::Refused), which the sync point hands on in its turn.
-    ///   [`ReserveError::or_memory`] lets the system go on.
+    ///   has an entry for the [refusal](Entry::Refused), which the sync point passes on in its
+    ///   turn. [`ReserveError::or_memory`] lets the system go on.
     ///
     /// <details><summary>Contract</summary>
     ///
@@ -91,10 +60,8 @@ impl<C, S: Source> SystemCommands<'_, Log<C>, S> {
     pub fn spawn(&mut self) -> Result<Handle, ReserveError> {
         self.output.spawn_from(self.source, self.reserver)
     }
-}
 
-impl<C, S: Source> SystemCommands<'_, Log<C>, S> {
-    /// Adds a command, which the sync point hands on in its turn.
+    /// Adds a command, which the sync point passes on in its turn.
     ///
     /// ```
     /// use forgeni::{run_logs, Entities, Entry, LogCommands, SyncPoint};
@@ -126,6 +93,38 @@ impl<C, S: Source> SystemCommands<'_, Log<C>, S> {
     #[inline]
     pub fn push(&mut self, command: C) -> Result<(), OutOfMemory> {
         Log::push(&mut self.output, command)
+    }
+
+    /// Returns the entries so far, in the order of issue.
+    ///
+    /// ```
+    /// use forgeni::{run_logs, Entities, Entry, LogCommands, OutOfMemory};
+    ///
+    /// /// Two enemies are seen, but the guard shouts once.
+    /// fn guard(commands: &mut LogCommands<'_, &'static str>) -> Result<(), OutOfMemory> {
+    ///     for _enemy in 0..2 {
+    ///         if !commands.entries().contains(&Entry::Command("halt")) {
+    ///             commands.push("halt")?;
+    ///         }
+    ///     }
+    ///     Ok(())
+    /// }
+    ///
+    /// assert_eq!(run_logs(&mut Entities::new(), &[guard], 1)?[0].len(), 1);
+    /// # Ok::<(), Box<dyn std::error::Error>>(())
+    /// ```
+    ///
+    /// <details><summary>Contract</summary>
+    ///
+    /// <code style="display: block; tab-size: 4; white-space: pre-wrap">// In the words of [contracts](crate::contracts):
+    /// ensures { result.now ≡ [output_of](crate::contracts::ent_queue::commands#output_of) self.now }
+    /// </code>
+    ///
+    /// </details>
+    #[must_use]
+    #[inline]
+    pub fn entries(&self) -> &[Entry<C>] {
+        self.output.entries()
     }
 }
 

@@ -3,16 +3,16 @@
 //! Queues of commands that systems write and a world applies, and what systems fill them with, or
 //! logs.
 
+mod issuing;
+mod logging;
+mod leaving;
+mod commands;
 mod bundle;
 mod bundle_ref;
-mod commands;
 mod entries;
 mod entry;
 mod handles_ref;
-mod issuing;
 mod kind;
-mod leaving;
-mod logging;
 mod output;
 mod queue;
 mod reading;

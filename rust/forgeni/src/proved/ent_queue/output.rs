@@ -5,7 +5,7 @@ use crate::logs::Log;
 
 /// What a system fills: a [`IssuedCommands`] of a world, or a [`Log`] of the caller's own commands.
 pub trait Output {
-    /// One without entries. It takes no memory.
+    /// One without entries. It doesn't allocate.
     ///
     /// <details><summary>Contract</summary>
     ///

@@ -9,7 +9,7 @@ pub struct ByCaller<V> {
 }
 
 impl<V: Copy> ByCaller<V> {
-    /// No caller has a value. It takes no memory.
+    /// No caller has a value. It doesn't allocate.
     ///
     /// <details><summary>Contract</summary>
     ///
@@ -25,7 +25,7 @@ impl<V: Copy> ByCaller<V> {
         }
     }
 
-    /// Whether no caller has a value.
+    /// Returns `true` if no caller has a value.
     ///
     /// <details><summary>Contract</summary>
     ///
@@ -73,7 +73,7 @@ impl<V: Copy> ByCaller<V> {
         Ok(())
     }
 
-    /// Writes the value of a caller that has one. It takes no memory.
+    /// Writes the value of a caller that has one. It doesn't allocate.
     #[inline]
     pub(crate) fn replace(&mut self, caller: u32, value: V)
         // requires { IsSome (map.get self.old caller) }

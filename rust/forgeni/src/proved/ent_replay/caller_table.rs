@@ -15,7 +15,7 @@ pub(super) struct CallerTable<V> {
 }
 
 impl<V: Copy> CallerTable<V> {
-    /// No caller has a value. It takes no memory.
+    /// No caller has a value. It doesn't allocate.
     #[inline]
     pub(super) fn new() -> Self
         // ensures { result ≡ map.empty }
@@ -62,7 +62,7 @@ impl<V: Copy> CallerTable<V> {
         Ok(())
     }
 
-    /// Writes the value of a caller that has one. It takes no memory.
+    /// Writes the value of a caller that has one. It doesn't allocate.
     #[inline]
     pub(super) fn replace(&mut self, caller: u32, value: V)
         // requires { IsSome (map.get self.old caller) }

@@ -21,7 +21,7 @@ pub struct HandleList {
 }
 
 impl HandleList {
-    /// The list of these handles. It takes no memory.
+    /// Creates a list of these handles. It doesn't allocate.
     ///
     /// ```
     /// use forgeni::trace;
@@ -44,7 +44,7 @@ impl HandleList {
         HandleList { handles }
     }
 
-    /// The handles.
+    /// Returns the handles as a slice.
     ///
     /// ```
     /// use forgeni::{trace, Handle};
@@ -68,7 +68,15 @@ impl HandleList {
         &self.handles
     }
 
-    /// How many there are.
+    /// Returns the number of handles.
+    ///
+    /// ```
+    /// use forgeni::trace;
+    ///
+    /// let list = trace::HandleList::new(vec!["0v1".parse()?, "1v1".parse()?]);
+    /// assert_eq!(list.len(), 2);
+    /// # Ok::<(), forgeni::ParseHandleError>(())
+    /// ```
     ///
     /// <details><summary>Contract</summary>
     ///
@@ -83,7 +91,13 @@ impl HandleList {
         self.handles.len()
     }
 
-    /// Whether there is none.
+    /// Returns `true` if there are no handles.
+    ///
+    /// ```
+    /// use forgeni::trace;
+    ///
+    /// assert!(trace::HandleList::new(Vec::new()).is_empty());
+    /// ```
     ///
     /// <details><summary>Contract</summary>
     ///
@@ -108,7 +122,7 @@ impl HandleList {
         Ok(HandleList { handles })
     }
 
-    /// Returns the handles, with their memory.
+    /// Returns the handles, without copying them.
     ///
     /// ```
     /// use forgeni::{trace, Entities};

@@ -39,7 +39,7 @@ impl Machine {
     ///
     /// # Errors
     ///
-    /// None: it takes no memory.
+    /// None: it doesn't allocate.
     ///
     /// <details><summary>Contract</summary>
     ///

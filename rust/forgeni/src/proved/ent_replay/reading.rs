@@ -16,7 +16,7 @@ fn first_line(text: &[u8]) -> (&[u8], &[u8])
     split_once(text, b'\n').unwrap_or((text, &[]))
 }
 
-/// The first word of a line, and what stands after the space that ends it, if there is one.
+/// The first word of a line, and what follows the space that ends it, if there is one.
 #[inline]
 fn first_word(line: &[u8]) -> (&[u8], Option<&[u8]>)
     // ensures { words_of line.now ≡ result.0.now ∷ words_after (option_copied result.1) }

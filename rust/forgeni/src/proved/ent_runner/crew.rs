@@ -8,6 +8,7 @@ mod collecting;
 mod jobs;
 mod record;
 mod rule;
+mod steps;
 mod word;
 mod worker;
 
@@ -18,6 +19,7 @@ pub use crate::running::crew::claims::Claims;
 use crate::running::crew::collecting::{collect, put_all};
 pub use crate::running::crew::jobs::Jobs;
 pub use crate::running::crew::record::ClaimRecord;
+use crate::running::crew::steps::Kept;
 use crate::running::crew::worker::{Site, Worker, run_all};
 use crate::handles::OutOfMemory;
 use crate::kit::alloc::AllocError;
@@ -25,26 +27,27 @@ use crate::kit::thread::Join;
 
 /// Workers that do jobs side by side, and the room that they need for it.
 ///
-/// A worker does the next job that nobody has claimed yet, until none is left. Each job has one
-/// output of type `O`, and the outputs come back in the order of the jobs.
-pub struct Crew<O> {
+/// Each worker does the next job that isn't claimed yet, until none is left. Each job has one
+/// output of type `O`, and the outputs come back in the order of the jobs. A job that stops returns
+/// an error of type `E`.
+pub struct Crew<O, E> {
     claims: Claims,
     /// Each has room for its first output, so that only a worker that has done a job may stop. If
     /// all workers do as many jobs, no list of outputs grows.
-    workers: Vec<Worker<O>>,
+    workers: Vec<Worker<(O, Option<E>)>>,
     /// Room for the claimers when the work is over.
     claimers: Vec<Claimer>,
-    by_number: Vec<Option<O>>,
+    by_number: Vec<Option<(O, Option<E>)>>,
     outputs: Vec<O>,
 }
 
-impl<O> Crew<O> {
+impl<O, E> Crew<O, E> {
     /// A crew of that many workers, 1 to 64, with room for the outputs of that many jobs, at most
     /// 65,536. Both limits are this project's own.
     ///
     /// # Errors
     ///
-    /// [`OutOfMemory`] if there is no memory for them.
+    /// [`OutOfMemory`] if there isn't enough memory for them.
     #[inline]
     pub(crate) fn new(jobs: usize, workers: usize) -> Result<Self, OutOfMemory>
         // requires jobs { jobs ≤ 2 ^ 16 }
@@ -71,17 +74,23 @@ impl<O> Crew<O> {
     ///
     /// # Errors
     ///
-    /// The outputs that were made, each at the number of its job. Memory ran out: a job returned
-    /// `Memory`, or jobs are left and no worker has memory for the output of another one. All
-    /// workers have ended then. What the jobs did to what was lent stays done. The caller drops the
-    /// outputs when it is ready for what their drop may do.
+    /// The outputs that were made, each at the number of its job, with the error of a job that
+    /// stopped. If no job returned one, some weren't done, since no worker has memory for another
+    /// output. All workers have ended then. What the jobs did to what was lent stays done. The
+    /// caller drops the outputs when it is ready for what their drop may do.
     #[inline]
-    pub(crate) fn work<R, L, J>(self, rt: &R, lent: &mut [L], jobs: &J) -> Result<Vec<O>, Vec<Option<O>>>
+    pub(crate) fn work<R, L, J>(
+        self,
+        rt: &R,
+        lent: &mut [L],
+        jobs: &J,
+    ) -> Result<Vec<O>, Vec<Option<(O, Option<E>)>>>
     where
         R: Join + Sync,
         O: Send,
+        E: Send,
         L: Send,
-        J: Jobs<O, L> + Sync,
+        J: Jobs<O, L, E> + Sync,
         // requires jobs { J.count jobs.now ≡ self.jobs }
         // requires workers { length lent.old ≡ self.workers }
         // requires lent { All (J.may_have jobs.now) lent.old }
@@ -89,8 +98,8 @@ impl<O> Crew<O> {
         // ensures lent { All (J.may_have jobs.now) lent.new }
         // ensures done { IfOk result (λ outputs. AreDone (J.may_do jobs.now) self.jobs
         //     lent.old outputs.items lent.new) }
-        // ensures broken_off { IfErr result (λ left. AreBrokenOff (J.may_do jobs.now)
-        //     (J.may_leave jobs.now) self.jobs lent.old left.items lent.new) }
+        // ensures broken_off { IfErr result (λ left. AreBrokenOff (Ended (J.may_do jobs.now))
+        //     (Stopped (J.may_leave jobs.now)) self.jobs lent.old left.items lent.new) }
 
         // So late, memory runs out only in a job, or in workers that have done one.
         // ensures some { OnErr result (0 < self.jobs) }
@@ -104,9 +113,10 @@ impl<O> Crew<O> {
         } = self;
         // More threads than jobs would find nothing to do.
         let threads = by_number.len();
+        let kept = Kept { jobs };
         let site = Site {
             claims: &claims,
-            jobs,
+            jobs: &kept,
         };
         run_all(rt, &site, &mut workers, lent, threads);
         let stopped = some_stopped(&workers);
@@ -155,7 +165,32 @@ fn without_outputs<O>(count: usize) -> Result<Vec<Option<O>>, AllocError>
     Ok(by_number)
 }
 
-/// Whether a job of a worker has stopped because memory ran out.
+/// The error of the first job that returned one. All else is dropped.
+#[inline]
+pub(super) fn first_error<O, E>(by_number: Vec<Option<(O, Option<E>)>>) -> Option<E>
+    // ensures { result ≡ first_error by_number.items }
+{
+    for made in by_number {
+        let error = error_of(made);
+        if error.is_some() {
+            return error;
+        }
+    }
+    None
+}
+
+/// The error of a job that made something, if it returned one.
+#[inline]
+fn error_of<O, E>(made: Option<(O, Option<E>)>) -> Option<E>
+    // ensures { result ≡ error_in made }
+{
+    match made {
+        Some((_, error)) => error,
+        None => None,
+    }
+}
+
+/// Whether a job of a worker has stopped.
 #[inline]
 fn some_stopped<O>(workers: &[Worker<O>]) -> bool
     // ensures going { result ≡ false → All (λ w. w.stopped ≡ false) workers.now }

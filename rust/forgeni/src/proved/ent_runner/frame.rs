@@ -9,7 +9,7 @@ mod side;
 pub(super) mod system;
 
 use alloc::vec::Vec;
-use crate::running::crew::Crew;
+use crate::running::crew::{Crew, first_error};
 use crate::running::frame::gate::Gate;
 use crate::running::frame::report::{FrameFault, FrameReport};
 use crate::running::frame::system::System;
@@ -23,8 +23,8 @@ use crate::kit::thread::Join;
 
 /// Runs each system once, on that many workers side by side, and then the sync point.
 ///
-/// A worker has one reserver, and takes the next system that nobody has taken yet until none is
-/// left. Each system fills a queue of its own. The queues are applied in the order of the systems,
+/// A worker has one reserver, and takes the next system that isn't taken yet until none is left.
+/// Each system fills a queue of its own. The queues are applied in the order of the systems,
 /// whatever the order in which they ended. If a thread can't be started, another one does its work.
 ///
 /// There have to be 1 to 64 workers and at most 65,536 systems. No handle may have been requested
@@ -34,25 +34,27 @@ use crate::kit::thread::Join;
 /// # Errors
 ///
 /// - [`FrameFault::Memory`] if memory ran out before any system ran. The world is as it was. A
-///   frame without systems takes no memory.
-/// - [`FrameFault::Lost`] if a system returned `Memory`, or if systems are left and no worker has
-///   memory for the queue of another one. No command was applied. What the systems that ran had
-///   reserved stays reserved, and nothing else is: [`World::flush`] brings it to life.
+///   frame without systems doesn't allocate.
+/// - [`FrameFault::Lost`] if a system returned an error: it has the first one in the order of the
+///   systems. Or if some systems didn't run, since no worker has memory for the queue of another
+///   one: then it has none. No command was applied. What the systems that ran had reserved stays
+///   reserved, and nothing else is: [`World::flush`] brings it to life.
 /// - [`FrameFault::Sync`] if all systems ran and memory ran out in the sync point. The
 ///   fault has the queues. If it stopped before any entity was born ([`SyncFault::FlushMemory`]),
 ///   [`World::apply`] does the sync point. If it stopped at a command, [`World::apply_from`] goes
 ///   on there. Both end as this frame would have.
 #[inline]
-pub(crate) fn run_frame<R, S, G>(
+pub(crate) fn run_frame<R, S, E, G>(
     rt: &R,
     world: &mut World,
     systems: &[S],
     workers: usize,
     gate: &G,
-) -> Result<FrameReport, FrameFault>
+) -> Result<FrameReport, FrameFault<E>>
 where
     R: Join + Sync,
-    S: System<SharedSource> + Sync,
+    S: System<SharedSource, E> + Sync,
+    E: Send,
     G: Gate + Sync,
     // requires flushed { world.old.allocator.asked ≡ 0 }
     // requires systems { length systems.now ≤ 2 ^ 16 }
@@ -65,13 +67,13 @@ where
     // ensures flushed { OnOk result (world.new.allocator.asked ≡ 0) }
     // ensures memory { IsErrOf result FrameFault.Memory → world.new ≡ world.old }
     // ensures memory_some { IsErrOf result FrameFault.Memory → 0 < length systems.now }
-    // ensures lost { IsErrOf result FrameFault.Lost → (history : List Call)
-    //     × IsBrokenOff S.may_issue S.may_leave systems.now workers world.old history
-    //     × (world.new ≡ reserved_by history world.old) }
-    // ensures still { IsErrOf result FrameFault.Lost → IsLost world.old world.new }
+    // ensures lost { IfLost result (λ error. (history : List Call)
+    //     × IsBrokenOff S.may_issue S.may_leave systems.now workers world.old history error
+    //     × (world.new ≡ reserved_by history world.old)) }
+    // ensures still { IfLost result (λ _. IsLost world.old world.new) }
 
-    // So late, memory runs out only in a system, or in workers that have run one.
-    // ensures lost_some { IsErrOf result FrameFault.Lost → 0 < length systems.now }
+    // So late, memory runs out only in workers that have run a system.
+    // ensures lost_some { IfLost result (λ _. 0 < length systems.now) }
 
     // ensures stopped { IfSyncStopped result (λ fault queues.
     //     StopsAt S.may_issue systems.now workers world.old queues world.new fault) }
@@ -115,8 +117,9 @@ where
     };
     let queues = crew.work(rt, &mut reservers, &stage);
     *world = opened.close(reservers);
-    let Ok(queues) = queues else {
-        return Err(FrameFault::Lost);
+    let queues = match queues {
+        Ok(queues) => queues,
+        Err(left) => return Err(FrameFault::Lost(first_error(left))),
     };
     match world.apply(&queues) {
         Ok(sync) => Ok(FrameReport { queues, sync }),

@@ -7,7 +7,7 @@ pub(super) mod log_error;
 pub(super) mod system;
 
 use alloc::vec::Vec;
-use crate::running::crew::Crew;
+use crate::running::crew::{Crew, first_error};
 use crate::running::logs::log_error::LogError;
 use crate::running::logs::system::LogSystem;
 use crate::running::stage::SharedStage;
@@ -28,8 +28,8 @@ const SYSTEMS: usize = 65_536;
 /// are in the order of the systems, whatever the order in which they ended, and
 /// [`SyncPoint::begin`](crate::logs::SyncPoint::begin) takes them.
 ///
-/// A worker takes the next system that nobody has taken yet, until none is left. If a thread can't
-/// be started, another one does its work. One worker starts no thread.
+/// Each worker takes the next system that isn't taken yet, until none is left. If a thread can't be
+/// started, another one does its work. One worker starts no thread.
 ///
 /// # Errors
 ///
@@ -37,9 +37,10 @@ const SYSTEMS: usize = 65_536;
 ///
 /// - [`LogError::NeedsFlush`], [`LogError::Workers`], [`LogError::Systems`], [`LogError::Memory`]:
 ///   no system ran, and the allocator is as it was.
-/// - [`LogError::Lost`]: a system returned an error, or systems are left and no worker has memory
-///   for the log of another one. The logs are dropped. What the systems that ran had reserved stays
-///   reserved, and nothing else is: [`Entities::flush`] brings it to life.
+/// - [`LogError::Lost`]: a system returned an error, and this has the first one in the order of the
+///   systems. Or some systems didn't run, since no worker has memory for the log of another one:
+///   then it has none. The logs are dropped. What the systems that ran had reserved stays reserved,
+///   and nothing else is: [`Entities::flush`] brings it to life.
 ///
 /// <details><summary>Contract</summary>
 ///
@@ -60,28 +61,28 @@ const SYSTEMS: usize = 65_536;
 /// &#9;↔ ((entities.old.allocator.asked ≡ 0) × (0 \< workers) × (workers ≤ 64)
 /// &#9;× (2 ^ 16 \< [length](crate::contracts::logic#length) systems.now)) }
 /// ensures memory_some { [IsErrOf](crate::contracts::logic#IsErrOf) result LogError.Memory → 0 \< [length](crate::contracts::logic#length) systems.now }
-/// ensures nothing { [IfErr](crate::contracts::logic#IfErr) result (λ error. error ≢ LogError.Lost
-/// &#9;→ entities.new ≡ entities.old) }
+/// ensures nothing { [IfErr](crate::contracts::logic#IfErr) result ([IfNotLost](crate::contracts::ent_runner::logs#IfNotLost) (entities.new ≡ entities.old)) }
 /// &#32;
 /// // What is left of a run that was broken off.
-/// ensures lost { [IsErrOf](crate::contracts::logic#IsErrOf) result LogError.Lost → [IsBrokenOff](crate::contracts::ent_runner::logs#IsBrokenOff) S.may_log S.may_leave systems.now
-/// &#9;workers entities.old.allocator entities.new.allocator }
-/// ensures lost_some { [IsErrOf](crate::contracts::logic#IsErrOf) result LogError.Lost → 0 \< [length](crate::contracts::logic#length) systems.now }
+/// ensures lost { [IfErr](crate::contracts::logic#IfErr) result ([IfLost](crate::contracts::ent_runner::logs#IfLost) ([IsBrokenOff](crate::contracts::ent_runner::logs#IsBrokenOff) S.may_log S.may_leave systems.now workers
+/// &#9;entities.old.allocator entities.new.allocator)) }
+/// ensures lost_some { [IfErr](crate::contracts::logic#IfErr) result ([IfLost](crate::contracts::ent_runner::logs#IfLost) (λ \_. 0 \< [length](crate::contracts::logic#length) systems.now)) }
 /// ensures unborn { result ≢ [Err](crate::contracts::logic#Err) LogError.Unborn }
 /// </code>
 ///
 /// </details>
 #[inline]
-pub fn run_logs<R, C, S>(
+pub fn run_logs<R, C, S, E>(
     rt: &R,
     entities: &mut Entities,
     systems: &[S],
     workers: usize,
-) -> Result<Vec<Log<C>>, LogError>
+) -> Result<Vec<Log<C>>, LogError<E>>
 where
     R: Join + Sync,
     C: Send,
-    S: LogSystem<C, SharedSource> + Sync,
+    S: LogSystem<C, SharedSource, E> + Sync,
+    E: Send,
 {
     if entities.needs_flush() {
         return Err(LogError::NeedsFlush);
@@ -115,8 +116,8 @@ where
     // place.
     let logs = crew.work(rt, &mut reservers, &stage);
     *entities = shared.close(reservers);
-    let Ok(logs) = logs else {
-        return Err(LogError::Lost);
-    };
-    Ok(logs)
+    match logs {
+        Ok(logs) => Ok(logs),
+        Err(left) => Err(LogError::Lost(first_error(left))),
+    }
 }

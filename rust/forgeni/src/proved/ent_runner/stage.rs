@@ -4,7 +4,6 @@
 use crate::running::crew::Jobs;
 use crate::running::systems::Systems;
 use crate::in_blocks::{BlockReserver, Blocks, again};
-use crate::handles::OutOfMemory;
 use crate::commands::{SystemCommands, Output};
 use crate::reserving::{SharedReserver, SharedSource};
 
@@ -14,10 +13,10 @@ pub(super) struct SharedStage<'a, 's, T> {
     pub(super) systems: &'s T,
 }
 
-impl<O: Output, T: Systems<O, SharedSource>> Jobs<O, SharedReserver> for SharedStage<'_, '_, T> {
+impl<O: Output, E, T: Systems<O, SharedSource, E>> Jobs<O, SharedReserver, E> for SharedStage<'_, '_, T> {
     /// Runs the system of this number. Its output has what it added, also if it stopped.
     #[inline]
-    fn run(&self, number: usize, reserver: &mut SharedReserver) -> (O, Result<(), OutOfMemory>) {
+    fn run(&self, number: usize, reserver: &mut SharedReserver) -> (O, Result<(), E>) {
         let mut commands = SystemCommands::new(self.shared, reserver);
         let ran = self.systems.run_at(number, &mut commands);
         (commands.finish(), ran)
@@ -33,12 +32,15 @@ pub(super) struct BlockStage<'b, 'r, 's, T> {
 
 /// Nothing is lent to them: each has its own reserver. So there is nothing that workers share but
 /// the claims.
-impl<O: Output, T: Systems<O, Blocks>> Jobs<(O, BlockReserver), ()>
-    for BlockStage<'_, '_, '_, T> {
+impl<O: Output, E, T: Systems<O, Blocks, E>> Jobs<
+    (O, BlockReserver),
+    (),
+    E,
+> for BlockStage<'_, '_, '_, T> {
     /// Runs the system of this number, which is run once. Its output has what it added, also if it
     /// stopped.
     #[inline]
-    fn run(&self, number: usize, lent: &mut ()) -> ((O, BlockReserver), Result<(), OutOfMemory>) {
+    fn run(&self, number: usize, lent: &mut ()) -> ((O, BlockReserver), Result<(), E>) {
         let mut reserver = again(&self.reservers[number]);
         let mut commands = SystemCommands::new(self.blocks, &mut reserver);
         let ran = self.systems.run_at(number, &mut commands);

@@ -33,7 +33,7 @@ impl Kinds {
     }
 }
 
-/// What stands under each key that an operation may have.
+/// What is under each key that an operation may have.
 pub(super) struct Fields<'a> {
     pub(super) spawn: Option<Part<'a>>,
     pub(super) spawn_many: Option<Part<'a>>,

@@ -9,7 +9,7 @@ pub struct Frame {
 }
 
 impl Frame {
-    /// The frame of these systems. It takes no memory.
+    /// The frame of these systems. It doesn't allocate.
     #[inline]
     pub(super) fn new(systems: Vec<System>) -> Self
         // ensures { result ≡ systems.items }

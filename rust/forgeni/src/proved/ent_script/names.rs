@@ -27,7 +27,7 @@ pub(super) struct Names<'a> {
 }
 
 impl<'a> Names<'a> {
-    /// No names. It takes no memory.
+    /// No names. It doesn't allocate.
     #[inline]
     pub(super) fn new() -> Self
         // ensures { result ≡ [] }

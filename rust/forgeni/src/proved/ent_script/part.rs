@@ -9,7 +9,7 @@ use crate::scripts::read_fault::ReadFault;
 use crate::kit::programs::json::{Reader, Token};
 use crate::kit::programs::serde_json::Number;
 
-/// What stands under a key of an operation, with its arrays emptied, and the objects in it.
+/// What is under a key of an operation, with its arrays emptied, and the objects in it.
 pub(super) enum Part<'a> {
     Null,
     Bool(bool),

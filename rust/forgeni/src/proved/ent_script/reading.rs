@@ -44,7 +44,7 @@ fn format(part: Option<&Value>) -> Result<Format, ScriptCause>
     }
 }
 
-/// The heading, after the tests of all that stands before it.
+/// The heading, after the tests of all that comes before it.
 #[inline]
 fn heading(value: &Value) -> Result<Heading, ScriptCause>
     // ensures { result ≡ heading_of (view value.now) }
@@ -144,7 +144,7 @@ fn ran_out(read: &Result<Vec<Frame>, ReadFault>) -> bool
     matches!(read, Err(ReadFault::Memory))
 }
 
-/// The frames of an object of which the brace was taken. Of a key that stands twice the last
+/// The frames of an object of which the brace was taken. Of a key that occurs twice the last
 /// counts.
 #[inline]
 fn frames_inside(

@@ -14,7 +14,7 @@ pub struct Script {
 }
 
 impl Script {
-    /// The script of these parts. It takes no memory.
+    /// The script of these parts. It doesn't allocate.
     #[inline]
     pub(super) fn new(limits: Limits, components: Vec<String>, frames: Vec<Frame>) -> Self
         // ensures { result ≡ record {
@@ -72,7 +72,7 @@ impl Script {
         &self.frames
     }
 
-    /// The limits, the names of the components, and the frames. It takes no memory.
+    /// The limits, the names of the components, and the frames. It doesn't allocate.
     ///
     /// The frames are most of a long script. Their owner can free each one after its run.
     ///

@@ -9,7 +9,7 @@ pub struct System {
 }
 
 impl System {
-    /// The system of these operations. It takes no memory.
+    /// The system of these operations. It doesn't allocate.
     #[inline]
     pub(super) fn new(operations: Vec<Operation>) -> Self
         // ensures { result ≡ operations.items }

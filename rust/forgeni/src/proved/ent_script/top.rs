@@ -47,7 +47,7 @@ pub(super) fn read_top(
     })
 }
 
-/// The top of an object, of which the brace was taken. Of a key that stands twice the last counts.
+/// The top of an object, of which the brace was taken. Of a key that occurs twice the last counts.
 #[inline]
 fn read_members(reader: &mut Reader<'_>, depth: usize) -> Result<Top, ReadFault>
     // ensures ok { IfOk result (λ top. (ms : Members)

@@ -5,7 +5,7 @@
 use crate::kit::atomic_table::{Join, Play, Split};
 use crate::kit::collections::LinkedList;
 
-/// What a holder knows: the records of those that it stands for. No value of it is ever made.
+/// What a holder knows: the records of those that it represents. No value of it is ever made.
 pub type HeldRecords<R> = LinkedList<R>;
 
 /// A new holder, which has no record.

@@ -4,7 +4,7 @@ use crate::reserving::holders::RecordsToken;
 use crate::reserving::record::Record;
 use crate::allocator::QUOTA;
 
-/// The right of one caller to reserve from a shared allocator, and what is left of its quota.
+/// One caller's right to reserve from a shared allocator, and what is left of its quota.
 ///
 /// `share` makes them, and `SharedSource::close` takes them back.
 /// A caller that reserves in a thread of its own takes one with it.
@@ -38,7 +38,7 @@ impl SharedReserver {
         }
     }
 
-    /// Which of the reservers it is: its position in the list that `share` gave, from 0.
+    /// Returns its number: its position in the list that `share` returned, counted from 0.
     #[inline]
     pub(crate) fn number(&self) -> usize
         // ensures { result ≡ self.now.own.number }
@@ -46,8 +46,8 @@ impl SharedReserver {
         self.number
     }
 
-    /// How many handles it may still request in this phase: [`QUOTA`] less what it has requested,
-    /// served or not.
+    /// Returns the number of handles that it can still request in this phase: [`QUOTA`] minus those
+    /// that it has requested, served or not.
     #[inline]
     pub(crate) fn left(&self) -> u64
         // ensures left { result ≡ self.now.own.left }

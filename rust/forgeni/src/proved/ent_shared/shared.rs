@@ -47,7 +47,7 @@ impl SharedSource {
 }
 
 impl SharedSource {
-    /// How many reservers `share` made for it.
+    /// Returns the number of reservers that `share` made for it.
     ///
     /// <details><summary>Contract</summary>
     ///
@@ -61,7 +61,8 @@ impl SharedSource {
         self.count
     }
 
-    /// The allocator as it was when the phase was opened. It doesn't change until the close.
+    /// Returns the allocator as it was when the phase was opened. It doesn't change until the
+    /// close.
     ///
     /// <details><summary>Contract</summary>
     ///
@@ -76,7 +77,7 @@ impl SharedSource {
         &self.entities
     }
 
-    /// Whether the handle was alive when the phase was opened. It takes constant time.
+    /// Returns `true` if the handle was alive when the phase was opened. It takes constant time.
     ///
     /// <details><summary>Contract</summary>
     ///
@@ -90,7 +91,7 @@ impl SharedSource {
         self.entities.is_alive(handle)
     }
 
-    /// How many handles were alive when the phase was opened.
+    /// Returns the number of handles that were alive when the phase was opened.
     ///
     /// <details><summary>Contract</summary>
     ///
@@ -104,7 +105,7 @@ impl SharedSource {
         self.entities.len()
     }
 
-    /// Whether no handle was alive when the phase was opened.
+    /// Returns `true` if no handle was alive when the phase was opened.
     ///
     /// <details><summary>Contract</summary>
     ///
@@ -118,7 +119,8 @@ impl SharedSource {
         self.entities.is_empty()
     }
 
-    /// The handles that were alive when the phase was opened, by rising slot.
+    /// Returns an iterator over the handles that were alive when the phase was opened, in slot
+    /// order.
     ///
     /// <details><summary>Contract</summary>
     ///
@@ -134,7 +136,7 @@ impl SharedSource {
         self.entities.iter()
     }
 
-    /// How many handles the pool had when the phase was opened. It never has more.
+    /// Returns the number of handles in the pool when the phase was opened. It never has more.
     ///
     /// <details><summary>Contract</summary>
     ///
@@ -148,9 +150,8 @@ impl SharedSource {
         u64::from(self.entities.top()) + u64::from(self.entities.room())
     }
 
-    /// The row that the program kept with the entity when the phase was opened. `None` if the
-    /// handle was not alive then, or if no row was set since it came to life. It takes constant
-    /// time.
+    /// Returns the row that the entity had when the phase was opened, or `None` if the handle
+    /// wasn't alive then, or if no row was set since it came to life. It takes constant time.
     ///
     /// <details><summary>Contract</summary>
     ///
@@ -165,7 +166,7 @@ impl SharedSource {
         self.entities.row(handle)
     }
 
-    /// Reserves one handle, by one atomic step. It takes no memory, and never waits.
+    /// Reserves one handle, by one atomic step. It neither allocates nor waits.
     ///
     /// The handle is what the allocator would have given to one caller at that moment.
     ///
@@ -201,8 +202,8 @@ impl SharedSource {
         Ok(handle)
     }
 
-    /// Reserves `n` handles at once, by one atomic step. It takes no memory, and never waits. A
-    /// request for 0 makes no step and is always served.
+    /// Reserves `n` handles at once, by one atomic step. It neither allocates nor waits. A request
+    /// for 0 makes no step and is always served.
     ///
     /// The handles are what the allocator would have given to one caller at that moment, in the
     /// order of [`Entities::reply`]. They borrow from the allocator.
@@ -250,7 +251,7 @@ impl SharedSource {
     }
 
     /// Orders two reservers: every later reservation by `a` comes after everything that `b` has
-    /// reserved or learned of so far. It makes two atomic steps, takes no memory, and never waits.
+    /// reserved or learned of so far. It makes two atomic steps, and neither allocates nor waits.
     #[inline]
     pub(crate) fn meet(&self, a: &mut SharedReserver, b: &mut SharedReserver)
         // requires first { IsOf self.now a.old }
@@ -268,7 +269,7 @@ impl SharedSource {
     }
 
     /// Ends the phase with all its reservers. The allocator is as if their reservations had been
-    /// made one by one, in the order of their atomic steps. It takes no memory.
+    /// made one by one, in the order of their atomic steps. It doesn't allocate.
     #[inline]
     pub(crate) fn close(self, reservers: Vec<SharedReserver>) -> Entities
         // requires all { length reservers.items ≡ self.count }
@@ -312,7 +313,7 @@ impl SharedSource {
     /// Ends the phase although some reservers may be lost. The cursor tells how many handles were
     /// requested in all, but not which of the lost reservers' requests were refused. So the front
     /// of the pool counts as reserved, as far as it goes, including handles that no caller got. It
-    /// takes no memory.
+    /// doesn't allocate.
     #[inline]
     pub(crate) fn close_lost(self, reservers: Vec<SharedReserver>) -> Entities
         // requires own { All (IsOf self) reservers.items }

@@ -17,7 +17,7 @@ use crate::handles::OutOfMemory;
 /// ```
 #[derive(Clone, Copy, Debug, PartialEq, Eq, Hash)]
 pub enum StorageImageFault {
-    /// There are fewer bytes than the entities have, or more.
+    /// There are fewer or more bytes than the entities have.
     Length,
     /// No entity has the last of that many components, or there are no components with such
     /// numbers.
@@ -25,7 +25,7 @@ pub enum StorageImageFault {
         /// How many components the image has.
         width: u32,
     },
-    /// The bytes of the entity at this place are those of no entity.
+    /// The bytes at this place aren't those of any entity.
     Entity {
         /// How many entities come before it.
         place: usize,

@@ -11,7 +11,7 @@ use crate::kit::alloc::AllocError;
 
 /// The place of each entity, and places of entities that are gone. The pairs are in the order of
 /// handles, so that a look-up is a binary search at most. If each slot has one pair, as with an
-/// allocator's handles, the pair stands at the slot's number, where it is looked for first.
+/// allocator's handles, the pair is at the slot's number, where it is looked for first.
 ///
 /// So that each slot has one, a pair that comes behind all others and past its slot's number brings
 /// pairs that don't count for the slots between, if there is room for them. Births in those slots
@@ -19,8 +19,7 @@ use crate::kit::alloc::AllocError;
 ///
 /// A pair counts only if its place has the pair's handle. So to take an entity out, nothing is
 /// moved here. The pair of the slot's next occupant takes over the one before it, because it comes
-/// next in the order. Where the place is one that nobody has, no entity has to be looked at for
-/// that.
+/// next in the order. If no entity has the place, no entity has to be looked at for that.
 pub struct Index {
     pairs: Vec<(Key, u32)>,
 }
@@ -97,7 +96,7 @@ impl Index {
     }
 
     /// Writes down that the entity has the next place, after all the living, and returns whether it
-    /// did: not if the living have the entity already. It takes no memory.
+    /// did: not if the living have the entity already. It doesn't allocate.
     ///
     /// An allocator's handles come behind the pair of their slot's last occupant, or behind all, or
     /// over a pair that was made for their slot before it had an occupant. So these places are
@@ -179,7 +178,7 @@ impl Index {
         }
     }
 
-    /// Forgets the place of an entity that has gone, if its pair stands at its slot's number.
+    /// Forgets the place of an entity that has gone, if its pair is at its slot's number.
     ///
     /// <details><summary>Contract</summary>
     ///
@@ -291,7 +290,7 @@ fn append_counted(pairs: &mut Vec<(Key, u32)>, living: &Living, source: &[(Key, 
     }
 }
 
-/// Drops the pairs that don't count. It takes no memory.
+/// Drops the pairs that don't count. It doesn't allocate.
 #[inline(never)]
 fn sweep(pairs: &mut Vec<(Key, u32)>, living: &Living)
     // requires { T (map.is_sorted handle_cmp pairs.old.items) }
@@ -305,7 +304,7 @@ fn sweep(pairs: &mut Vec<(Key, u32)>, living: &Living)
 }
 
 /// Puts a pair over that of its slot's last occupant, and returns whether it did: only if that one
-/// stands at the slot's number, doesn't count, and is the one before the gap for the new pair.
+/// is at the slot's number, doesn't count, and is the one before the gap for the new pair.
 #[inline(always)]
 fn put_over_last(pairs: &mut Vec<(Key, u32)>, living: &Living, pair: (Key, u32)) -> bool
     // requires { T (map.is_sorted handle_cmp pairs.old.items) }
@@ -355,8 +354,8 @@ fn put_behind(pairs: &mut Vec<(Key, u32)>, living: &Living, pair: (Key, u32)) ->
     }
 }
 
-/// Puts a pair over that of the same handle, and returns whether it did: only if that one stands at
-/// the slot's number, and doesn't count. A slot that had no occupant yet may have such a pair.
+/// Puts a pair over that of the same handle, and returns whether it did: only if that one is at the
+/// slot's number, and doesn't count. A slot that had no occupant yet may have such a pair.
 #[inline(always)]
 fn put_over_first(pairs: &mut Vec<(Key, u32)>, living: &Living, pair: (Key, u32)) -> bool
     // requires { T (map.is_sorted handle_cmp pairs.old.items) }
@@ -383,7 +382,7 @@ fn put_over_first(pairs: &mut Vec<(Key, u32)>, living: &Living, pair: (Key, u32)
 }
 
 /// Gives a pair that doesn't count to each slot below this one that comes after all pairs. So the
-/// next births in these slots move nothing, whatever their order. It takes no memory.
+/// next births in these slots move nothing, whatever their order. It doesn't allocate.
 #[inline(never)]
 fn fill_up(pairs: &mut Vec<(Key, u32)>, living: &Living, slot: u32)
     // requires { T (map.is_sorted handle_cmp pairs.old.items) }
@@ -476,7 +475,7 @@ fn put_in_gap(pairs: &mut Vec<(Key, u32)>, living: &Living, position: usize, pai
     }
 }
 
-/// Where the pair stands that a new one takes over: beside the gap at the position, and it doesn't
+/// Where the pair is that a new one takes over: beside the gap at the position, and it doesn't
 /// count.
 ///
 /// The pair of the same slot comes first, so that the slots' pairs stay at their numbers. At the
@@ -511,8 +510,8 @@ fn taken_over(
     }
 }
 
-/// Whether a pair of the handle's slot stands there that doesn't count. The slot is compared first,
-/// so that no entity of another slot is looked at.
+/// Whether there is a pair of the handle's slot that doesn't count. The slot is compared first, so
+/// that no entity of another slot is looked at.
 #[inline]
 fn is_own(pairs: &[(Key, u32)], living: &Living, position: usize, handle: Handle) -> bool
     // ensures { IsTrue result → IsFree living.now.entities pairs.now position }
@@ -522,7 +521,7 @@ fn is_own(pairs: &[(Key, u32)], living: &Living, position: usize, handle: Handle
         && is_free(pairs, living, position)
 }
 
-/// Whether a pair stands there that doesn't count.
+/// Whether there is a pair that doesn't count.
 #[inline]
 fn is_free(pairs: &[(Key, u32)], living: &Living, position: usize) -> bool
     // ensures { IsTrue result → IsFree living.now.entities pairs.now position }

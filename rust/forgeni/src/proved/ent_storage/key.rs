@@ -65,7 +65,7 @@ impl Key {
         (u64::from(self.generation) << 32) + u64::from(self.index)
     }
 
-    /// Whether it is the key of the handle.
+    /// Returns `true` if it is the key of the handle.
     ///
     /// <details><summary>Contract</summary>
     ///
@@ -79,7 +79,8 @@ impl Key {
         self.bits() == handle.to_bits()
     }
 
-    /// Whether it comes before the handle. The indices are compared first, since most differ.
+    /// Returns `true` if it comes before the handle. The indices are compared first, since most
+    /// differ.
     ///
     /// <details><summary>Contract</summary>
     ///
@@ -94,7 +95,7 @@ impl Key {
             || self.index == handle.index() && self.generation < handle.generation()
     }
 
-    /// Whether it comes after the handle.
+    /// Returns `true` if it comes after the handle.
     ///
     /// <details><summary>Contract</summary>
     ///

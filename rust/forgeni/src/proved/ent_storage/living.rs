@@ -73,9 +73,9 @@ impl Living {
         })
     }
 
-    /// Takes over the entities of another, and makes room for `count` in all. It takes no memory if
-    /// there is that room, and no entity of the other has a component. After an `Err` the entities
-    /// are as before.
+    /// Takes over the entities of another, and makes room for `count` in all. It doesn't allocate
+    /// if there is that room, and no entity of the other has a component. After an `Err` the
+    /// entities are as before.
     #[inline]
     pub(crate) fn try_clone_from(&mut self, source: &Living, count: usize) -> Result<(), AllocError>
         // requires { length source.now.entities ≤ count }
@@ -98,7 +98,7 @@ impl Living {
         Ok(())
     }
 
-    /// How many entities there are.
+    /// Returns the number of entities.
     ///
     /// <details><summary>Contract</summary>
     ///
@@ -112,7 +112,7 @@ impl Living {
         self.residents.len()
     }
 
-    /// Whether there are no entities.
+    /// Returns `true` if there are no entities.
     ///
     /// <details><summary>Contract</summary>
     ///
@@ -177,7 +177,7 @@ impl Living {
         self.residents[place].birth
     }
 
-    /// Changes the birth of the entity at the place. It takes no memory.
+    /// Changes the birth of the entity at the place. It doesn't allocate.
     #[inline]
     pub(crate) fn set_birth(&mut self, place: usize, birth: Birth)
         // requires { place < length self.old.entities }
@@ -214,7 +214,7 @@ impl Living {
         columns::value(&self.columns, place, id)
     }
 
-    /// The components of the entity at the place and their values, by rising number.
+    /// The components of the entity at the place and their values, in ascending order of number.
     #[inline]
     pub(crate) fn items(&self, place: usize) -> Items<'_>
         // requires { place < length self.now.entities }
@@ -235,7 +235,7 @@ impl Living {
         self.residents.push_reserved(Resident { handle, birth });
     }
 
-    /// Takes the entity at the place out, and moves the last one there. It takes no memory.
+    /// Takes the entity at the place out, and moves the last one there. It doesn't allocate.
     #[inline(always)]
     pub(crate) fn swap_remove(&mut self, place: usize)
         // requires { place < length self.old.entities }
@@ -264,7 +264,8 @@ impl Living {
         Ok(())
     }
 
-    /// Takes a component out of the entity at the place, and returns its value. It takes no memory.
+    /// Takes a component out of the entity at the place, and returns its value. It doesn't
+    /// allocate.
     #[inline]
     pub(crate) fn remove(&mut self, place: usize, id: ComponentId) -> Option<i64>
         // requires { place < length self.old.entities }
@@ -277,7 +278,7 @@ impl Living {
         columns::remove(&mut self.columns, place, id)
     }
 
-    /// The birth and the handle of each entity. It takes no memory if there is none.
+    /// The birth and the handle of each entity. It doesn't allocate if there is none.
     ///
     /// <details><summary>Contract</summary>
     ///
@@ -293,7 +294,7 @@ impl Living {
         births(&self.residents)
     }
 
-    /// The least handle of an entity with that birth, if there is one. It takes no memory.
+    /// The least handle of an entity with that birth, if there is one. It doesn't allocate.
     ///
     /// <details><summary>Contract</summary>
     ///
@@ -308,8 +309,8 @@ impl Living {
         least_of_birth(&self.residents, birth)
     }
 
-    /// The birth and the handle of the entity at the place of each pair. It takes no memory for
-    /// none.
+    /// The birth and the handle of the entity at the place of each pair. With none, it doesn't
+    /// allocate.
     #[inline]
     pub(crate) fn births_at(
         &self,
@@ -366,7 +367,7 @@ fn births(residents: &[Resident]) -> Result<Vec<(Birth, Handle)>, AllocError>
         .collect_in()
 }
 
-/// Whether the entity at the place has the handle of that key.
+/// Returns `true` if the entity at the place has the handle of that key.
 ///
 /// <details><summary>Contract</summary>
 ///

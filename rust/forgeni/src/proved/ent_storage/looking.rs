@@ -10,7 +10,8 @@ use crate::handles::{Birth, ComponentId, Handle, OutOfMemory};
 
 /// # Looking at entities
 impl Storage {
-    /// The value of the entity's component, if the entity is there and has it.
+    /// Returns the value of the entity's component, if the storage has the entity and the entity
+    /// has the component.
     ///
     /// ```
     /// use forgeni::{Birth, ComponentId, Storage};
@@ -40,7 +41,7 @@ impl Storage {
         self.get_at(place, handle, id)
     }
 
-    /// Whether the entity is there.
+    /// Returns `true` if the storage has the entity.
     ///
     /// ```
     /// use forgeni::{Birth, Storage};
@@ -65,7 +66,7 @@ impl Storage {
         self.place(handle).is_some()
     }
 
-    /// The birth of the entity, if it is there.
+    /// Returns the birth of the entity, if the storage has it.
     ///
     /// ```
     /// use forgeni::{Birth, Storage};
@@ -92,7 +93,8 @@ impl Storage {
         Some(self.living.birth(place))
     }
 
-    /// The entity's components and their values, by rising number, if the entity is there.
+    /// Returns the entity's components and their values, in ascending order of number, if the
+    /// storage has the entity.
     ///
     /// ```
     /// use forgeni::{Birth, ComponentId, Storage};
@@ -120,8 +122,8 @@ impl Storage {
         Some(self.items_at(place, handle))
     }
 
-    /// The place and the value of each entity that has the component, in no stated order. It takes
-    /// no memory, and is one slice.
+    /// Returns the place and the value of each entity that has the component, in no particular
+    /// order, as one slice. It doesn't allocate.
     ///
     /// ```
     /// use forgeni::{Birth, ComponentId, Handle, Storage};
@@ -153,8 +155,8 @@ impl Storage {
         self.living.pairs(id)
     }
 
-    /// The handles of the entities that have the component, by birth and then by handle. It takes
-    /// the time of a sort of those that are listed.
+    /// Returns the handles of the entities that have the component, ordered by birth and then by
+    /// handle. It takes the time of sorting these.
     ///
     /// ```
     /// use forgeni::{Birth, ComponentId, Storage};
@@ -190,7 +192,8 @@ impl Storage {
         Ok(handles_in_order(births)?)
     }
 
-    /// The handles of all entities, by birth and then by handle. It takes the time of a sort.
+    /// Returns the handles of all entities, ordered by birth and then by handle. It takes the time
+    /// of a sort.
     ///
     /// ```
     /// use forgeni::{Birth, Storage};
@@ -221,10 +224,10 @@ impl Storage {
         Ok(handles_in_order(births)?)
     }
 
-    /// The handle of the entity with that birth, if there is one. If several entities have the
-    /// birth, it is the least of their handles.
+    /// Returns the handle of the entity with that birth, if there is one. If several entities have
+    /// the birth, it returns the least of their handles.
     ///
-    /// It takes no memory, and time for each entity.
+    /// It doesn't allocate, and takes time for each entity.
     ///
     /// ```
     /// use forgeni::{Birth, Storage};
@@ -257,8 +260,8 @@ impl Storage {
         self.living.of_birth(birth)
     }
 
-    /// The place of the entity in the vector of entities, if it is there. It stays the same until
-    /// an entity is taken out.
+    /// Returns the place of the entity in the vector of entities, if the storage has it. The place
+    /// stays the same until an entity is removed.
     ///
     /// ```
     /// use forgeni::{Birth, Storage};
@@ -300,8 +303,8 @@ impl Storage {
         self.living.value(place, id)
     }
 
-    /// The components and their values, by rising number, of the entity at this place, which has to
-    /// be that of the handle.
+    /// The components and their values, in ascending order of number, of the entity at this place,
+    /// which has to be that of the handle.
     #[inline]
     pub(crate) fn items_at(&self, place: usize, handle: Handle) -> Items<'_>
         // requires { slice_get self.now.places place ≡ Some handle }

@@ -7,7 +7,7 @@ use super::living::Resident;
 use crate::handles::{Birth, Handle};
 use crate::kit::alloc::AllocError;
 
-/// The handles, by birth and then by handle. It takes no memory for nobody.
+/// The handles, by birth and then by handle. Without entities it doesn't allocate.
 ///
 /// <details><summary>Contract</summary>
 ///

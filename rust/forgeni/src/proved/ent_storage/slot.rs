@@ -37,7 +37,7 @@ fn search(pairs: &[(Key, u32)], handle: Handle) -> Result<usize, usize>
     pairs.binary_search_by_key(&handle, |pair| pair.0.handle())
 }
 
-/// The slot's number, if the handle stands there.
+/// The slot's number, if the handle is there.
 ///
 /// <details><summary>Contract</summary>
 ///
@@ -56,7 +56,7 @@ pub fn at_slot(pairs: &[(Key, u32)], handle: Handle) -> Option<usize> {
     }
 }
 
-/// Whether the handle would go to that position.
+/// Returns `true` if the handle would go to that position.
 #[inline(always)]
 pub(crate) fn is_gap(pairs: &[(Key, u32)], position: usize, handle: Handle) -> bool
     // requires { T (is_sorted handle_cmp pairs.now) }

@@ -18,8 +18,8 @@ use crate::handles::{HandedBack, Handle, OutOfMemory};
 use crate::kit::alloc::AllocError;
 use core::mem;
 
-/// A value of any type for each of few handles: a rare component. At most one handle of a slot has
-/// a value.
+/// A map from handles to values of any type, for a component that few entities have. At most one
+/// handle of a slot has a value.
 ///
 /// It takes and refuses what a [`HandleMap`](crate::components::handle_map::HandleMap) does. The values lie
 /// side by side, and each slot takes only four bytes, for the position of its value. So ten values
@@ -47,7 +47,7 @@ use core::mem;
 /// # Ok::<(), Box<dyn std::error::Error + Send + Sync>>(())
 /// ```
 ///
-/// **A handle from a save or a network can make the map take much memory**, four bytes for each
+/// **A handle from a save or a network can make the map take a lot of memory**, four bytes for each
 /// slot up to its own. So give a map for such handles a [limit](Self::with_limit).
 ///
 /// Contracts see a finite map from handles to values (`values`), for how many values there is room
@@ -62,7 +62,7 @@ pub struct SparseMap<T> {
 
 /// # Making one
 impl<T> SparseMap<T> {
-    /// A map without values, and without a limit. It takes no memory.
+    /// Creates a map without values and without a limit. It doesn't allocate.
     ///
     /// ```
     /// use forgeni::{Handle, SparseMap};
@@ -87,8 +87,8 @@ impl<T> SparseMap<T> {
         SparseMap::with_limit(u32::MAX)
     }
 
-    /// A map without values, which refuses each handle whose slot is at or above this limit. It
-    /// takes no memory.
+    /// Creates a map without values, which refuses each handle whose slot is at or above this
+    /// limit. It doesn't allocate.
     ///
     /// [`Entities::total`](crate::Entities::total) is a limit that fits an allocator as long as
     /// it makes no new slots. [`set_limit`](Self::set_limit) changes the limit.
@@ -127,8 +127,9 @@ impl<T> SparseMap<T> {
     /// slot has one, that is dropped.
     ///
     /// If there is room for the slot ([`slots`](Self::slots)) and for one value more
-    /// ([`capacity`](Self::capacity)), or the slot has a value, it takes no memory, and constant
-    /// time. If not, it takes room for all slots up to that of the handle, and for an eighth more.
+    /// ([`capacity`](Self::capacity)), or the slot has a value, it takes constant time and doesn't
+    /// allocate. If not, it takes room for all slots up to that of the handle, and for an eighth
+    /// more.
     ///
     /// ```
     /// use forgeni::{Handle, InsertError, SparseMap};
@@ -195,7 +196,7 @@ impl<T> SparseMap<T> {
         put(&mut self.entries, &mut self.positions, handle, value)
     }
 
-    /// The value of the handle, if it has one. It takes constant time.
+    /// Returns a reference to the handle's value, if it has one. It takes constant time.
     ///
     /// ```
     /// use forgeni::{Entities, SparseMap};
@@ -224,7 +225,7 @@ impl<T> SparseMap<T> {
         find(&self.entries, &self.positions, handle)
     }
 
-    /// The value of the handle, if it has one, to be changed. It takes constant time.
+    /// Returns a mutable reference to the handle's value, if it has one. It takes constant time.
     ///
     /// ```
     /// use forgeni::SparseMap;
@@ -233,7 +234,7 @@ impl<T> SparseMap<T> {
     /// let (knight, horse) = ("0v1".parse()?, "1v1".parse()?);
     /// shields.insert(knight, 50)?;
     /// for one in [knight, horse] {
-    ///     // Few have a shield, and it takes the blow.
+    ///     // The few that have a shield lose some of it.
     ///     if let Some(shield) = shields.get_mut(one) {
     ///         *shield -= 20;
     ///     }
@@ -260,8 +261,8 @@ impl<T> SparseMap<T> {
         }
     }
 
-    /// Removes the value of the handle, and returns it if it had one. It takes constant time and no
-    /// memory.
+    /// Removes the handle's value, and returns it if there was one. It takes constant time and
+    /// doesn't allocate.
     ///
     /// ```
     /// use forgeni::{Handle, SparseMap};
@@ -291,7 +292,7 @@ impl<T> SparseMap<T> {
         Some(take(&mut self.entries, &mut self.positions, handle))
     }
 
-    /// Whether the handle has a value. It takes constant time.
+    /// Returns `true` if the handle has a value. It takes constant time.
     ///
     /// ```
     /// use forgeni::SparseMap;
@@ -316,8 +317,8 @@ impl<T> SparseMap<T> {
         self.get(handle).is_some()
     }
 
-    /// What the map has for the handle: a value, or none. Each call of the entry looks for the
-    /// handle once more.
+    /// Returns the handle's entry: occupied if the handle has a value, vacant if not. Each call on
+    /// the entry looks the handle up again.
     ///
     /// ```
     /// use forgeni::sparse_map::Entry;
@@ -362,7 +363,8 @@ impl<T> SparseMap<T> {
 
 /// # All values
 impl<T> SparseMap<T> {
-    /// The handles and their values, in the order of [`entries`](Self::entries).
+    /// Returns an iterator over the handles and their values, in the order of
+    /// [`entries`](Self::entries).
     ///
     /// ```
     /// use forgeni::SparseMap;
@@ -387,8 +389,8 @@ impl<T> SparseMap<T> {
         Iter::new(&self.entries)
     }
 
-    /// The handles and their values, in no particular order. The same calls leave them in the same
-    /// order.
+    /// Returns the handles and their values, in no particular order. The same calls always leave
+    /// them in the same order.
     ///
     /// ```
     /// use forgeni::{Entities, SparseMap};
@@ -423,7 +425,7 @@ impl<T> SparseMap<T> {
     ///
     /// let mut marks = SparseMap::new();
     /// for frame in 0..3 {
-    ///     // From the second frame on it takes no memory.
+    ///     // From the second frame on it doesn't allocate.
     ///     marks.clear();
     ///     marks.insert("99v1".parse()?, frame)?;
     /// }
@@ -443,8 +445,8 @@ impl<T> SparseMap<T> {
         self.entries.clear();
     }
 
-    /// The handles and their values, in the order of [`entries`](Self::entries). It takes no
-    /// memory.
+    /// Returns the handles and their values, in the order of [`entries`](Self::entries). It doesn't
+    /// allocate.
     ///
     /// ```
     /// use forgeni::SparseMap;
@@ -472,7 +474,7 @@ impl<T> SparseMap<T> {
 
 /// # Counts and room
 impl<T> SparseMap<T> {
-    /// How many values there are. It takes constant time.
+    /// Returns the number of values. It takes constant time.
     ///
     /// ```
     /// use forgeni::SparseMap;
@@ -498,7 +500,7 @@ impl<T> SparseMap<T> {
         self.entries.len()
     }
 
-    /// Whether there is no value.
+    /// Returns `true` if the map has no values.
     ///
     /// ```
     /// use forgeni::SparseMap;
@@ -524,14 +526,14 @@ impl<T> SparseMap<T> {
         self.len() == 0
     }
 
-    /// How many slots there is room for, from slot 0 on. Each takes four bytes.
+    /// Returns the number of slots that there is room for, from slot 0 on. Each takes four bytes.
     ///
     /// ```
     /// use forgeni::SparseMap;
     ///
     /// let mut names = SparseMap::new();
     /// names.insert("999v1".parse()?, "Ada")?;
-    /// // From here on, no name of these slots takes memory for its slot.
+    /// // From here on, a name in one of these slots allocates nothing for its slot.
     /// assert!(names.slots() >= 1_000);
     /// # Ok::<(), Box<dyn std::error::Error>>(())
     /// ```
@@ -551,8 +553,8 @@ impl<T> SparseMap<T> {
         self.positions.len()
     }
 
-    /// For how many slots the map may have values, from slot 0 on: 4,294,967,295, which is no
-    /// limit, or the limit that was set.
+    /// Returns the limit: for how many slots, from slot 0 on, the map takes values. It is the limit
+    /// that was set, or 4,294,967,295, which is no limit.
     ///
     /// ```
     /// use forgeni::SparseMap;
@@ -600,7 +602,7 @@ impl<T> SparseMap<T> {
         self.limit = Limit::of(limit);
     }
 
-    /// How many values there is room for.
+    /// Returns the number of values that there is room for.
     ///
     /// ```
     /// use forgeni::{Handle, SparseMap};
@@ -626,8 +628,8 @@ impl<T> SparseMap<T> {
         self.entries.sized_capacity()
     }
 
-    /// Frees the room that no value needs, as `Vec::shrink_to_fit` does. If there is no memory to
-    /// move the values to, the room stays. The room for slots always stays.
+    /// Frees the room that no value needs, like `Vec::shrink_to_fit`. If there isn't enough memory
+    /// to move the values to, the room stays. The room for slots always stays.
     ///
     /// ```
     /// use forgeni::SparseMap;
@@ -670,8 +672,8 @@ impl<T> SparseMap<T> {
 
 /// # Snapshots
 impl<T: Clone> SparseMap<T> {
-    /// A map with a clone of each value, with room for the same slots, and with the same limit.
-    /// Without room for slots it takes no memory.
+    /// Returns a map with a clone of each value, with room for the same slots, and with the same
+    /// limit. Without room for slots it doesn't allocate.
     ///
     /// ```
     /// use forgeni::SparseMap;
@@ -740,7 +742,7 @@ impl<T: Clone> SparseMap<T> {
     ///
     /// # Panics
     ///
-    /// A panic of a clone is handed on. Nothing has changed, or no values are left, as after an
+    /// A panic in `clone` is propagated. Nothing has changed, or no values are left, as after an
     /// error.
     ///
     /// <details><summary>Contract</summary>
@@ -907,7 +909,7 @@ fn take<T>(entries: &mut Vec<(Handle, T)>, positions: &mut Vec<u32>, handle: Han
     value
 }
 
-/// Puts clones of these entries behind those that are there. It takes no memory for none.
+/// Puts clones of these entries behind those that are there. With none, it doesn't allocate.
 #[inline]
 fn append_entries<T: Clone>(
     entries: &mut Vec<(Handle, T)>,

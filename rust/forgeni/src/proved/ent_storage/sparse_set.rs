@@ -10,7 +10,7 @@ use crate::kit::alloc::AllocError;
 ///
 /// The dense vector has a pair of place and value for each of these entities, in no order. The
 /// sparse vector has at a place the position of its pair. An entry counts only if the pair there
-/// has the place, so nothing is cleared when a pair is taken out.
+/// has the place, so nothing is cleared when a pair is removed.
 pub struct SparseSet {
     dense: Vec<(usize, i64)>,
     sparse: Vec<u32>,
@@ -107,7 +107,7 @@ impl SparseSet {
         self.dense.clear();
     }
 
-    /// Whether there is any value.
+    /// Returns `true` if there is any value.
     ///
     /// <details><summary>Contract</summary>
     ///
@@ -171,7 +171,7 @@ impl SparseSet {
         }
     }
 
-    /// Whether there is room for any place.
+    /// Returns `true` if there is room for any place.
     ///
     /// <details><summary>Contract</summary>
     ///
@@ -185,7 +185,7 @@ impl SparseSet {
         !self.sparse.is_empty()
     }
 
-    /// Whether there is room for one value more, and for one of the place.
+    /// Returns `true` if there is room for one value more, and for one of the place.
     ///
     /// <details><summary>Contract</summary>
     ///
@@ -224,7 +224,7 @@ impl SparseSet {
         self.sparse.resize_fallibly(self.sparse.sized_capacity(), 0)
     }
 
-    /// Takes the value of the place out, and returns it. It takes no memory.
+    /// Takes the value of the place out, and returns it. It doesn't allocate.
     ///
     /// <details><summary>Contract</summary>
     ///
@@ -246,7 +246,7 @@ impl SparseSet {
     }
 
     /// Moves the value of the later place, if it has one, to the earlier place, which has none. It
-    /// takes no memory.
+    /// doesn't allocate.
     #[inline(always)]
     fn relocate(&mut self, from: usize, to: usize)
         // requires before { to < from }
@@ -259,8 +259,8 @@ impl SparseSet {
         }
     }
 
-    /// Takes the value of the place out, and moves that of the last place there. It takes no
-    /// memory.
+    /// Takes the value of the place out, and moves that of the last place there. It doesn't
+    /// allocate.
     #[inline(always)]
     pub(crate) fn swap_remove(&mut self, place: usize, last: usize)
         // requires { place ≤ last }

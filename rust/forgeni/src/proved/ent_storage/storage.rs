@@ -41,7 +41,7 @@ pub struct Storage {
 
 /// # Making one
 impl Storage {
-    /// A storage without entities. It takes no memory.
+    /// Creates a storage without entities. It doesn't allocate.
     ///
     /// ```
     /// use forgeni::{Birth, Entities, Storage};
@@ -74,8 +74,8 @@ impl Storage {
 
 /// # Entities and components
 impl Storage {
-    /// Adds an entity without components. With `spare` above 0 it takes no memory, and `spare` is
-    /// then less by 1.
+    /// Adds an entity without components. If `spare` is above 0, it doesn't allocate, and lowers
+    /// `spare` by 1.
     ///
     /// It takes the time of one look-up if the handle comes after all others, or if the index has a
     /// pair that doesn't count where the new pair goes, or beside it. With an allocator's handles
@@ -133,8 +133,7 @@ impl Storage {
         self.born_within(handle, birth)
     }
 
-    /// Removes the entity, with all its components. It takes no memory, and `spare` is then greater
-    /// by 1.
+    /// Removes the entity, with all its components. It doesn't allocate, and raises `spare` by 1.
     ///
     /// It takes the time of two look-ups, and time for each component that any entity has ever had.
     /// The index stays as it is, except for the entity that moves.
@@ -238,7 +237,7 @@ impl Storage {
     }
 
     /// Removes the component from the entity, and returns its value, or `None` if the entity
-    /// doesn't have it. It takes no memory.
+    /// doesn't have it. It doesn't allocate.
     ///
     /// ```
     /// use forgeni::{Birth, ComponentId, Storage};
@@ -285,7 +284,7 @@ impl Storage {
 
 /// # Counts and room
 impl Storage {
-    /// How many entities there are. That is also the place of the next one that is born.
+    /// Returns the number of entities. That is also the place of the next one to be born.
     ///
     /// ```
     /// use forgeni::{Birth, Storage};
@@ -313,7 +312,7 @@ impl Storage {
         self.living.len()
     }
 
-    /// Whether there are no entities.
+    /// Returns `true` if there are no entities.
     ///
     /// ```
     /// use forgeni::{Birth, Storage};
@@ -338,7 +337,7 @@ impl Storage {
         self.living.is_empty()
     }
 
-    /// For how many more entities there is room.
+    /// Returns the number of further entities that there is room for.
     ///
     /// `born` lowers it by 1, or makes more room if it is 0. `reserve` and `despawn` raise it.
     /// Nothing else changes it.
@@ -371,8 +370,8 @@ impl Storage {
         room - self.living.len()
     }
 
-    /// Makes room for `additional` more entities, so that `born` takes no memory for them. If there
-    /// is room for that many already, it takes no memory and changes nothing.
+    /// Makes room for `additional` more entities, so that `born` doesn't allocate for them. If
+    /// there is enough room already, it doesn't allocate, and changes nothing.
     ///
     /// ```
     /// use forgeni::Storage;
@@ -420,7 +419,7 @@ impl Storage {
 
     /// Makes room in the index for a pair of each of the first `slots` slots. If an allocator gives
     /// the handles, births in these slots then take constant time each, in any order. If there is
-    /// that room already, it takes no memory. Each slot takes twelve bytes.
+    /// that much room already, it doesn't allocate. Each slot takes twelve bytes.
     ///
     /// It is for a storage whose first births may be in the greatest slots, as with blocks. A
     /// [`World`](crate::World) does it itself.
@@ -462,8 +461,8 @@ impl Storage {
 
 /// # Snapshots
 impl Storage {
-    /// A storage of the same entities at the same places, with at least the same room. Without
-    /// entities and room it takes no memory.
+    /// Returns a storage with the same entities at the same places, with at least the same room.
+    /// Without entities and room it doesn't allocate.
     ///
     /// ```
     /// use forgeni::{Birth, ComponentId, Handle, Storage};
@@ -505,8 +504,8 @@ impl Storage {
         })
     }
 
-    /// Takes over the entities of another storage, each at its place, as
-    /// [`try_clone`](Self::try_clone) copies them. What this one had before is gone.
+    /// Copies the entities of another storage into this one, each at its place, like
+    /// [`try_clone`](Self::try_clone). What this one had before is gone.
     ///
     /// It uses the room that this one has, and never gives it back. So a storage that another one
     /// is cloned into again and again takes memory only as that one grows.
@@ -564,7 +563,7 @@ impl Storage {
 
 impl Storage {
     /// Changes the birth of the entity at this place, which has to be that of the handle, and
-    /// leaves the rest. It takes no memory and constant time.
+    /// leaves the rest. It takes constant time and doesn't allocate.
     #[inline]
     pub(crate) fn set_birth_at(&mut self, place: usize, handle: Handle, birth: Birth)
         // requires { slice_get self.old.places place ≡ Some handle }
@@ -585,7 +584,7 @@ impl Storage {
     }
 
     /// Does what [`Storage::born`] does, where there is room: a caller that adds many tests that
-    /// once for all of them. It takes no memory, and `spare` is then less by 1.
+    /// once for all of them. It doesn't allocate, and lowers `spare` by 1.
     ///
     /// # Errors
     ///
@@ -622,7 +621,7 @@ impl Storage {
 
     /// Takes out the entity at this place, which has to be that of the handle. Returns the handle
     /// of the entity that has moved into the place, which was the last one; `None` if the entity
-    /// was the last one itself. It takes no memory, and `spare` is then greater by 1.
+    /// was the last one itself. It doesn't allocate, and raises `spare` by 1.
     ///
     /// The time is that of a look-up, for the entity that moves, and of a look at each component
     /// that any entity has ever had.
@@ -677,8 +676,8 @@ impl Storage {
     }
 
     /// Takes the component out of the entity at this place, which has to be that of the handle.
-    /// Returns the value that it had, or `None` if the entity does not have it. It takes no memory
-    /// and constant time.
+    /// Returns the value that it had, or `None` if the entity does not have it. It takes constant
+    /// time and doesn't allocate.
     #[inline(always)]
     pub(crate) fn remove_at(&mut self, place: usize, handle: Handle, id: ComponentId) -> Option<i64>
         // requires { slice_get self.old.places place ≡ Some handle }

@@ -10,7 +10,7 @@ use crate::handles::OutOfMemory;
 ///
 /// # Errors
 ///
-/// `Memory`. It never comes if no slot was made and there are no entities.
+/// `Memory`. It is never returned if no slot was made and there are no entities.
 ///
 /// <details><summary>Contract</summary>
 ///
@@ -34,7 +34,8 @@ pub fn clone_world(world: &World, number: u64) -> Result<World, OutOfMemory> {
 ///
 /// # Errors
 ///
-/// `Memory`, with the world as it was. It never comes if the source has no slots and no entities.
+/// `Memory`, with the world as it was. It is never returned if the source has no slots and no
+/// entities.
 ///
 /// <details><summary>Contract</summary>
 ///

@@ -29,6 +29,9 @@ pub enum CloseError {
     /// A caller that was not handed in still exists. The phase keeps those that came, and the next
     /// close has them.
     InUse,
+    /// The callers aren't in the order in which they were made, which this phase requires. It keeps
+    /// those that came.
+    Order,
 }
 
 impl core::fmt::Display for CloseError {
@@ -37,6 +40,7 @@ impl core::fmt::Display for CloseError {
             CloseError::OtherPhase => write!(f, "a caller is of another phase"),
             CloseError::Missing { count } => write!(f, "missing callers: {count}"),
             CloseError::InUse => write!(f, "a caller is still in use"),
+            CloseError::Order => write!(f, "the callers aren't in the order in which they were made"),
         }
     }
 }

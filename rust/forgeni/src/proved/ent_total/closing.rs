@@ -1,20 +1,23 @@
 // Made of crates/ent_total/src/closing.rt by rust/erase. It isn't edited by hand.
 
-//! A phase ends, and gives the allocator back.
+//! A phase ends.
 
 use alloc::vec::Vec;
 use crate::phases::close_error::CloseError;
+use crate::phases::phase::Phase;
 use crate::phases::reserver::Reserver;
 use crate::phases::returning::are_of;
-use crate::phases::shared::Shared;
-use crate::allocator::Entities;
+use crate::allocator::Phased;
 use crate::handles::HandedBack;
 
 /// # Closing
-impl Shared {
-    /// Ends the phase with all its reservers: those that are returned, and these. The allocator is
-    /// as if their reservations had been made one by one, in the order of their atomic steps, and
-    /// [`flush`](Entities::flush) brings to life what they were given. It takes no memory.
+impl<S: Phased> Phase<S> {
+    /// Ends the phase with all its reservers: those that are returned, and these. It doesn't
+    /// allocate.
+    ///
+    /// A shared allocator is then as if their reservations had been made one by one, in the order of
+    /// their atomic steps, and [`flush`](crate::Entities::flush) brings to life what they were
+    /// given.
     ///
     /// ```
     /// use forgeni::Entities;
@@ -36,34 +39,36 @@ impl Shared {
     ///
     /// # Errors
     ///
-    /// [`HandedBack`] has the `Shared`, which goes on, the reservers that are handed back, and the
-    /// first of these errors that holds: [`CloseError::OtherPhase`] and [`CloseError::Missing`],
-    /// with all reservers handed back; [`CloseError::InUse`], and then those that came are
-    /// returned.
+    /// [`HandedBack`] has the phase, which goes on, the reservers that are handed back, and the
+    /// first of these errors that applies. With [`CloseError::OtherPhase`] and
+    /// [`CloseError::Missing`] all reservers are handed back. With [`CloseError::Order`], which a
+    /// shared allocator never returns, and [`CloseError::InUse`] the phase keeps those that came.
     ///
     /// <details><summary>Contract</summary>
     ///
     /// <code style="display: block; tab-size: 4; white-space: pre-wrap">// In the words of [contracts](crate::contracts):
-    /// ensures ended { [IfOk](crate::contracts::logic#IfOk) result (λ entities. [EndsWithAll](crate::contracts::ent_shared::ending#EndsWithAll)
-    /// &#9;self.shared ([all_returned](crate::contracts::ent_total::sharing#all_returned) self reservers.items) entities.allocator) }
-    /// ensures rows { [IfOk](crate::contracts::logic#IfOk) result (λ entities.
-    /// &#9;(entities.rows ≡ self.shared.rows) × [HasRowsOfLiving](crate::contracts::ent_alloc::entities#HasRowsOfLiving) entities) }
+    /// ensures ended { [IfOk](crate::contracts::logic#IfOk) result (λ closed.
+    /// &#9;S.closes self.source ([all_returned](crate::contracts::ent_total::phases#all_returned) self reservers.items) closed) }
     /// &#32;
     /// // When it succeeds, when it is refused, and what holds then.
-    /// ensures all { [OnOk](crate::contracts::logic#OnOk) result ([MayReturn](crate::contracts::ent_total::sharing#MayReturn) self reservers.items
-    /// &#9;× ([length](crate::contracts::logic#length) ([all_returned](crate::contracts::ent_total::sharing#all_returned) self reservers.items) ≡ self.shared.count)) }
+    /// ensures all { [OnOk](crate::contracts::logic#OnOk) result ([MayReturn](crate::contracts::ent_total::phases#MayReturn) (S.count self.source) self reservers.items
+    /// &#9;× ([length](crate::contracts::logic#length) ([all_returned](crate::contracts::ent_total::phases#all_returned) self reservers.items) ≡ S.count self.source)) }
     /// ensures other_phase { [IsErrAnd](crate::contracts::logic#IsErrAnd) result (λ h. h.error ≡ OtherPhase)
-    /// &#9;↔ ¬ ([MayReturn](crate::contracts::ent_total::sharing#MayReturn) self reservers.items) }
+    /// &#9;↔ ¬ ([MayReturn](crate::contracts::ent_total::phases#MayReturn) (S.count self.source) self reservers.items) }
     /// ensures missing { [IsErrAnd](crate::contracts::logic#IsErrAnd) result (λ h. [IsMissing](crate::contracts::ent_total::closing#IsMissing) h.error)
-    /// &#9;↔ ([MayReturn](crate::contracts::ent_total::sharing#MayReturn) self reservers.items
-    /// &#9;× ([length](crate::contracts::logic#length) ([all_returned](crate::contracts::ent_total::sharing#all_returned) self reservers.items) \< self.shared.count)) }
+    /// &#9;↔ ([MayReturn](crate::contracts::ent_total::phases#MayReturn) (S.count self.source) self reservers.items
+    /// &#9;× ([length](crate::contracts::logic#length) ([all_returned](crate::contracts::ent_total::phases#all_returned) self reservers.items) \< S.count self.source)) }
+    /// ensures order { [IsErrAnd](crate::contracts::logic#IsErrAnd) result (λ h. h.error ≡ Order)
+    /// &#9;↔ ([MayReturn](crate::contracts::ent_total::phases#MayReturn) (S.count self.source) self reservers.items
+    /// &#9;× ([length](crate::contracts::logic#length) ([all_returned](crate::contracts::ent_total::phases#all_returned) self reservers.items) ≡ S.count self.source)
+    /// &#9;× ¬ (S.takes self.source ([all_returned](crate::contracts::ent_total::phases#all_returned) self reservers.items))) }
     /// ensures how_many { [IfErr](crate::contracts::logic#IfErr) result (λ h. [IsMissing](crate::contracts::ent_total::closing#IsMissing) h.error
-    /// &#9;→ [length](crate::contracts::logic#length) ([all_returned](crate::contracts::ent_total::sharing#all_returned) self reservers.items) + [count_missing](crate::contracts::ent_total::closing#count_missing) h.error
-    /// &#9;≡ self.shared.count) }
-    /// ensures handed_back { [IfErr](crate::contracts::logic#IfErr) result (λ h. h.error ≢ InUse
+    /// &#9;→ [length](crate::contracts::logic#length) ([all_returned](crate::contracts::ent_total::phases#all_returned) self reservers.items) + [count_missing](crate::contracts::ent_total::closing#count_missing) h.error
+    /// &#9;≡ S.count self.source) }
+    /// ensures handed_back { [IfErr](crate::contracts::logic#IfErr) result (λ h. h.error ≢ InUse → h.error ≢ Order
     /// &#9;→ (h.value.0 ≡ self) × (h.value.1.items ≡ reservers.items)) }
-    /// ensures returned { [IfErr](crate::contracts::logic#IfErr) result (λ h. h.error ≡ InUse
-    /// &#9;→ (h.value.0 ≡ record self { returned = [all_returned](crate::contracts::ent_total::sharing#all_returned) self reservers.items })
+    /// ensures returned { [IfErr](crate::contracts::logic#IfErr) result (λ h. (h.error ≡ InUse) ⊎ (h.error ≡ Order)
+    /// &#9;→ (h.value.0 ≡ record self { returned = [all_returned](crate::contracts::ent_total::phases#all_returned) self reservers.items })
     /// &#9;× (h.value.1.items ≡ \[\])) }
     /// </code>
     ///
@@ -71,8 +76,8 @@ impl Shared {
     #[inline]
     pub fn close(
         mut self,
-        reservers: Vec<Reserver>,
-    ) -> Result<Entities, HandedBack<(Self, Vec<Reserver>), CloseError>> {
+        reservers: Vec<Reserver<S>>,
+    ) -> Result<S::Closed, HandedBack<(Self, Vec<Reserver<S>>), CloseError>> {
         let Some(missing) = self.missing(&reservers) else {
             return Err(HandedBack::new((self, reservers), CloseError::OtherPhase));
         };
@@ -81,18 +86,21 @@ impl Shared {
             return Err(HandedBack::new((self, reservers), error));
         }
         self.take_back(reservers);
+        if !self.may_end() {
+            return Err(self.with_none(CloseError::Order));
+        }
         match self.end() {
-            Ok((shared, returned)) => Ok(shared.close(returned)),
-            Err(shared) => Err(shared.in_use()),
+            Ok((source, returned)) => Ok(source.end_with_all(returned)),
+            Err(phase) => Err(phase.with_none(CloseError::InUse)),
         }
     }
 
     /// Ends the phase although some reservers are lost: they were dropped, as by a thread that
-    /// panicked. It takes no memory.
+    /// panicked. It doesn't allocate.
     ///
-    /// Which of their requests were refused is lost too. So the front of the pool counts as
-    /// reserved, as far as requests went, and [`flush`](Entities::flush) also brings to life those
-    /// handles that nobody got.
+    /// Which of their requests were refused is lost too. So the front of a shared allocator's pool
+    /// counts as reserved, as far as requests went, and [`flush`](crate::Entities::flush) also
+    /// brings to life those handles that no caller got.
     ///
     /// ```
     /// use forgeni::{CloseError, Entities};
@@ -108,29 +116,31 @@ impl Shared {
     ///
     /// # Errors
     ///
-    /// [`HandedBack`] has the `Shared`, which goes on, the reservers that are handed back, and the
-    /// first of these errors that holds: [`CloseError::OtherPhase`], with all reservers handed
-    /// back; [`CloseError::InUse`], and then those that came are returned. As long as a reserver
-    /// that wasn't handed in exists, it is `InUse`. One that was given to [`core::mem::forget`]
-    /// exists for good.
+    /// [`HandedBack`] has the phase, which goes on, the reservers that are handed back, and the
+    /// first of these errors that applies. With [`CloseError::OtherPhase`] all reservers are handed
+    /// back. With [`CloseError::Order`], which a shared allocator never returns, and
+    /// [`CloseError::InUse`] the phase keeps those that came. As long as a reserver that wasn't
+    /// handed in exists, the error is `InUse`. One that was passed to [`core::mem::forget`] exists
+    /// forever.
     ///
     /// <details><summary>Contract</summary>
     ///
     /// <code style="display: block; tab-size: 4; white-space: pre-wrap">// In the words of [contracts](crate::contracts):
-    /// ensures ended { [IfOk](crate::contracts::logic#IfOk) result (λ entities. [EndsWithSome](crate::contracts::ent_shared::ending#EndsWithSome)
-    /// &#9;self.shared ([all_returned](crate::contracts::ent_total::sharing#all_returned) self reservers.items) entities.allocator) }
-    /// ensures rows { [IfOk](crate::contracts::logic#IfOk) result (λ entities.
-    /// &#9;(entities.rows ≡ self.shared.rows) × [HasRowsOfLiving](crate::contracts::ent_alloc::entities#HasRowsOfLiving) entities) }
+    /// ensures ended { [IfOk](crate::contracts::logic#IfOk) result (λ closed.
+    /// &#9;S.closes_lost self.source ([all_returned](crate::contracts::ent_total::phases#all_returned) self reservers.items) closed) }
     /// &#32;
     /// // When it succeeds, when it is refused, and what holds then.
-    /// ensures may_return { [OnOk](crate::contracts::logic#OnOk) result ([MayReturn](crate::contracts::ent_total::sharing#MayReturn) self reservers.items) }
+    /// ensures may_return { [OnOk](crate::contracts::logic#OnOk) result ([MayReturn](crate::contracts::ent_total::phases#MayReturn) (S.count self.source) self reservers.items) }
     /// ensures other_phase { [IsErrAnd](crate::contracts::logic#IsErrAnd) result (λ h. h.error ≡ OtherPhase)
-    /// &#9;↔ ¬ ([MayReturn](crate::contracts::ent_total::sharing#MayReturn) self reservers.items) }
+    /// &#9;↔ ¬ ([MayReturn](crate::contracts::ent_total::phases#MayReturn) (S.count self.source) self reservers.items) }
     /// ensures no_missing { [IfErr](crate::contracts::logic#IfErr) result (λ h. ¬ ([IsMissing](crate::contracts::ent_total::closing#IsMissing) h.error)) }
-    /// ensures handed_back { [IfErr](crate::contracts::logic#IfErr) result (λ h. h.error ≢ InUse
+    /// ensures order { [IsErrAnd](crate::contracts::logic#IsErrAnd) result (λ h. h.error ≡ Order)
+    /// &#9;↔ ([MayReturn](crate::contracts::ent_total::phases#MayReturn) (S.count self.source) self reservers.items
+    /// &#9;× ¬ (S.takes self.source ([all_returned](crate::contracts::ent_total::phases#all_returned) self reservers.items))) }
+    /// ensures handed_back { [IfErr](crate::contracts::logic#IfErr) result (λ h. h.error ≢ InUse → h.error ≢ Order
     /// &#9;→ (h.value.0 ≡ self) × (h.value.1.items ≡ reservers.items)) }
-    /// ensures returned { [IfErr](crate::contracts::logic#IfErr) result (λ h. h.error ≡ InUse
-    /// &#9;→ (h.value.0 ≡ record self { returned = [all_returned](crate::contracts::ent_total::sharing#all_returned) self reservers.items })
+    /// ensures returned { [IfErr](crate::contracts::logic#IfErr) result (λ h. (h.error ≡ InUse) ⊎ (h.error ≡ Order)
+    /// &#9;→ (h.value.0 ≡ record self { returned = [all_returned](crate::contracts::ent_total::phases#all_returned) self reservers.items })
     /// &#9;× (h.value.1.items ≡ \[\])) }
     /// </code>
     ///
@@ -138,26 +148,29 @@ impl Shared {
     #[inline]
     pub fn close_lost(
         mut self,
-        reservers: Vec<Reserver>,
-    ) -> Result<Entities, HandedBack<(Self, Vec<Reserver>), CloseError>> {
+        reservers: Vec<Reserver<S>>,
+    ) -> Result<S::Closed, HandedBack<(Self, Vec<Reserver<S>>), CloseError>> {
         if self.missing(&reservers).is_none() {
             return Err(HandedBack::new((self, reservers), CloseError::OtherPhase));
         }
         self.take_back(reservers);
+        if !self.may_end() {
+            return Err(self.with_none(CloseError::Order));
+        }
         match self.end() {
-            Ok((shared, returned)) => Ok(shared.close_lost(returned)),
-            Err(shared) => Err(shared.in_use()),
+            Ok((source, returned)) => Ok(source.end_with_some(returned)),
+            Err(phase) => Err(phase.with_none(CloseError::InUse)),
         }
     }
 }
 
-impl Shared {
+impl<S: Phased> Phase<S> {
     /// How many reservers are missing beside those returned and these, if these may come back.
     #[inline]
-    fn missing(&self, reservers: &[Reserver]) -> Option<usize>
-        // ensures may_return { IsSome result ↔ MayReturn self.now reservers.now }
+    fn missing(&self, reservers: &[Reserver<S>]) -> Option<usize>
+        // ensures may_return { IsSome result ↔ MayReturn (S.count self.now.source) self.now reservers.now }
         // ensures count { IfSome result (λ missing.
-        //     length (all_returned self.now reservers.now) + missing ≡ self.now.shared.count) }
+        //     length (all_returned self.now reservers.now) + missing ≡ S.count self.now.source) }
     {
         if !are_of(self.number(), reservers) {
             return None;
@@ -170,14 +183,14 @@ impl Shared {
         Some(most - returned - reservers.len())
     }
 
-    /// Somebody else owns a part of the phase.
+    /// It goes on, and no reserver is handed back.
     #[inline]
-    fn in_use(self) -> HandedBack<(Self, Vec<Reserver>), CloseError>
-        // ensures shared { result.value.0 ≡ self }
+    fn with_none(self, error: CloseError) -> HandedBack<(Self, Vec<Reserver<S>>), CloseError>
+        // ensures phase { result.value.0 ≡ self }
         // ensures reservers { result.value.1.items ≡ [] }
-        // ensures error { result.error ≡ InUse }
+        // ensures error { result.error ≡ error }
     {
         let none = self.no_reservers();
-        HandedBack::new((self, none), CloseError::InUse)
+        HandedBack::new((self, none), error)
     }
 }

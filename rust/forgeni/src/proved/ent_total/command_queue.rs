@@ -33,9 +33,9 @@ impl CommandQueue {
         CommandQueue { commands }
     }
 
-    /// The number of its [`Commands`]. Queues that came in any order are put back in order by it:
-    /// `queues.sort_by_key(|one| one.number())`. A queue that a refused close kept stays where it
-    /// is.
+    /// Returns the number of its [`Commands`]. Queues that arrived in any order can be sorted by
+    /// it: `queues.sort_by_key(|one| one.number())`. A queue that a refused close kept stays where
+    /// it is.
     ///
     /// ```
     /// use forgeni::World;
@@ -62,7 +62,7 @@ impl CommandQueue {
         self.commands.number()
     }
 
-    /// Whether it is of this phase.
+    /// Returns `true` if it belongs to this phase.
     ///
     /// ```
     /// use forgeni::World;

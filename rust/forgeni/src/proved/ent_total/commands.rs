@@ -46,13 +46,13 @@ pub struct Commands {
 
 /// # Issuing
 impl Commands {
-    /// Reserves a handle at once, by one atomic step. It is to have these components, in any order.
-    /// If a component is listed twice, its last value counts.
+    /// Reserves a handle at once, by one atomic step. Its entity gets these components, in any
+    /// order, when the queue is applied. If a component is listed twice, its last value counts.
     ///
     /// # Errors
     ///
-    /// `Memory`, and then nothing has changed. With `Space` and `Quota` the queue keeps the
-    /// refusal, which is a fault of the sync point's report, and the system may go on.
+    /// `Memory`. Nothing has changed then. With `Space` and `Quota` the queue keeps the refusal,
+    /// which is a fault of the sync point's report, and the system may go on.
     ///
     /// ```
     /// use forgeni::{ComponentId, World};
@@ -103,8 +103,9 @@ impl Commands {
         spawned
     }
 
-    /// Reserves `n` handles at once, by one atomic step. Each is to have these components. It takes
-    /// time for each handle of the list, and of the queue, which has them too.
+    /// Reserves `n` handles at once, by one atomic step. Each of their entities gets these
+    /// components when the queue is applied. It takes time for each handle, which goes into the
+    /// list and into the queue.
     ///
     /// ```
     /// use forgeni::{ComponentId, World};
@@ -122,7 +123,7 @@ impl Commands {
     ///
     /// # Errors
     ///
-    /// As of [`spawn`](Commands::spawn).
+    /// The same as for [`spawn`](Commands::spawn).
     ///
     /// <details><summary>Contract</summary>
     ///
@@ -186,7 +187,7 @@ impl Commands {
     ///
     /// # Errors
     ///
-    /// `OutOfMemory`, and then nothing has changed.
+    /// `OutOfMemory`. Nothing has changed then.
     ///
     /// <details><summary>Contract</summary>
     ///
@@ -212,7 +213,7 @@ impl Commands {
         issued
     }
 
-    /// Takes the component out of the entity, if it has it.
+    /// Removes the component from the entity, if it has it.
     ///
     /// ```
     /// use forgeni::{ComponentId, World};
@@ -230,7 +231,7 @@ impl Commands {
     ///
     /// # Errors
     ///
-    /// `OutOfMemory`, and then nothing has changed.
+    /// `OutOfMemory`. Nothing has changed then.
     ///
     /// <details><summary>Contract</summary>
     ///
@@ -252,7 +253,7 @@ impl Commands {
         issued
     }
 
-    /// Takes the entity out of the world. If it isn't alive when the command takes effect, that is
+    /// Removes the entity from the world. If it isn't alive when the command takes effect, that is
     /// a fault of the sync point's report.
     ///
     /// ```
@@ -274,7 +275,7 @@ impl Commands {
     ///
     /// # Errors
     ///
-    /// `OutOfMemory`, and then nothing has changed.
+    /// `OutOfMemory`. Nothing has changed then.
     ///
     /// <details><summary>Contract</summary>
     ///
@@ -299,7 +300,7 @@ impl Commands {
 
 /// # Looking at the world
 impl Commands {
-    /// The value of the entity's component, if the entity is alive and has it.
+    /// Returns the value of the entity's component, if the entity is alive and has it.
     ///
     /// ```
     /// use forgeni::{ComponentId, World};
@@ -329,7 +330,7 @@ impl Commands {
         self.world.view().get(handle, id)
     }
 
-    /// Whether the entity is alive. What the systems of the phase spawn isn't yet.
+    /// Returns `true` if the entity is alive. What the systems of the phase spawn isn't alive yet.
     ///
     /// ```
     /// use forgeni::World;
@@ -356,7 +357,7 @@ impl Commands {
         self.world.view().contains(handle)
     }
 
-    /// When and by whom the entity was brought to life, if it is alive.
+    /// Returns the birth of the entity, if it is alive: when it came to life, and by which system.
     ///
     /// ```
     /// use forgeni::World;
@@ -384,7 +385,8 @@ impl Commands {
         self.world.view().birth(handle)
     }
 
-    /// The handles of all entities, by birth and then by handle. The time is that of a sort.
+    /// Returns the handles of all entities, ordered by birth and then by handle. It takes the time
+    /// of a sort.
     ///
     /// ```
     /// use forgeni::World;
@@ -401,7 +403,8 @@ impl Commands {
     ///
     /// # Errors
     ///
-    /// `OutOfMemory`: there is no memory for the list. It never comes if there are no entities.
+    /// `OutOfMemory`: there isn't enough memory for the list. It is never returned if there are no
+    /// entities.
     ///
     /// <details><summary>Contract</summary>
     ///
@@ -416,7 +419,7 @@ impl Commands {
         self.world.view().by_birth()
     }
 
-    /// All that can be read of the world, as a system of a frame reads it.
+    /// Returns a view of the world, like the one that a system of a frame gets.
     ///
     /// ```
     /// use forgeni::{Handle, View, World};
@@ -449,8 +452,9 @@ impl Commands {
 
 /// # Its phase
 impl Commands {
-    /// Which of the systems it is: its position in the list that the phase began with, from 0.
-    /// Births and faults count systems by the order of their queues at the close instead.
+    /// Returns the number of the system: its position in the list that the phase began with,
+    /// counted from 0. Births and faults number systems by the order of their queues at the close
+    /// instead.
     ///
     /// ```
     /// use forgeni::World;
@@ -477,7 +481,7 @@ impl Commands {
         self.reserver.number()
     }
 
-    /// Whether it is of this phase.
+    /// Returns `true` if it belongs to this phase.
     ///
     /// ```
     /// use forgeni::World;
@@ -502,7 +506,7 @@ impl Commands {
         self.number == phase.number()
     }
 
-    /// Ends the issuing, and returns the queue, which [`OpenWorld::close`] takes.
+    /// Returns the queue of the commands that were issued, which [`OpenWorld::close`] takes.
     ///
     /// ```
     /// use forgeni::World;

@@ -20,7 +20,7 @@ pub struct WorldDeal {
 /// # Errors
 ///
 /// [`HandedBack`] has the world as it was, and [`DealError::NeedsFlush`] or [`DealError::Memory`].
-/// No sizes take no memory.
+/// With no sizes, it doesn't allocate.
 ///
 /// <details><summary>Contract</summary>
 ///
@@ -67,7 +67,7 @@ pub fn open_in_blocks(
 
 impl WorldDeal {
     /// The world under this number, which no other phase has, and a reserver of each block, in the
-    /// order of the sizes. It takes no memory.
+    /// order of the sizes. It doesn't allocate.
     #[inline]
     pub(crate) fn numbered(self, number: u64) -> (WorldInBlocks, Vec<BlockReserver>)
         // requires stands_for { J.blocks_of number ≡ self.deal.blocks }

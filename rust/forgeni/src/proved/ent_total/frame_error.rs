@@ -2,21 +2,23 @@
 
 use crate::phases::queues::Queues;
 use crate::phases::stopped::Stopped;
+use crate::handles::OutOfMemory;
 use core::error::Error;
 use core::fmt;
 
 /// Why a frame wasn't completed.
 ///
 /// ```
-/// use forgeni::{run_frame, FrameError, OutOfMemory, SystemCommands, View, World};
+/// use forgeni::{run_frame, FrameError, SystemCommands, View, World};
 ///
-/// fn breaks(_: &View<'_>, commands: &mut SystemCommands<'_>) -> Result<(), OutOfMemory> {
+/// fn breaks(_: &View<'_>, commands: &mut SystemCommands<'_>) -> Result<(), &'static str> {
 ///     let _reserved = commands.spawn_with(&[]);
-///     Err(OutOfMemory)
+///     Err("no road")
 /// }
 ///
 /// let mut world = World::new();
-/// assert!(matches!(run_frame(&mut world, &[breaks], 1), Err(FrameError::Lost)));
+/// let lost = run_frame(&mut world, &[breaks], 1);
+/// assert!(matches!(lost, Err(FrameError::Lost(Some("no road")))));
 /// // What it reserved has to be born before the next frame.
 /// assert!(matches!(run_frame(&mut world, &[breaks], 1), Err(FrameError::NeedsFlush)));
 /// world.flush()?;
@@ -25,7 +27,7 @@ use core::fmt;
 /// ```
 #[non_exhaustive]
 #[derive(Debug)]
-pub enum FrameError {
+pub enum FrameError<E = OutOfMemory> {
     /// Handles were requested since the last flush. No system ran, and the world is as it was.
     NeedsFlush,
     /// The number of workers isn't one from 1 to 64. No system ran, and the world is as it was.
@@ -34,19 +36,20 @@ pub enum FrameError {
     Systems,
     /// Memory ran out before any system ran. The world is as it was.
     Memory,
-    /// A system returned an error, or systems are left and no worker has memory for another one. No
-    /// command took effect. The handles that the systems reserved stay reserved, and no others: the
-    /// next flush brings them to life, without components.
-    Lost,
-    /// All systems ran, and there was no memory to begin the sync point. No command took effect.
-    /// [`World::apply`](crate::phases::World::apply) makes it.
+    /// A system returned an error, and this is the first one in the order of the systems. Without
+    /// one, some systems didn't run, since no worker has memory for another one. No command took
+    /// effect. The handles that the systems reserved stay reserved, and no others: the next flush
+    /// brings them to life, without components.
+    Lost(Option<E>),
+    /// All systems ran, and there wasn't enough memory to begin the sync point. No command took
+    /// effect. [`World::apply`](crate::phases::World::apply) does the sync point.
     Unapplied(Queues),
     /// All systems ran, and the sync point stopped because memory ran out at a command.
     /// [`Stopped::go_on`] does the rest.
     Stopped(Stopped),
 }
 
-impl fmt::Display for FrameError {
+impl<E: fmt::Display> fmt::Display for FrameError<E> {
     #[inline]
     fn fmt(&self, f: &mut fmt::Formatter<'_>) -> fmt::Result {
         match self {
@@ -54,11 +57,12 @@ impl fmt::Display for FrameError {
             FrameError::Workers => f.write_str("a frame has 1 to 64 workers"),
             FrameError::Systems => f.write_str("a frame has at most 65,536 systems"),
             FrameError::Memory => f.write_str("out of memory before any system ran"),
-            FrameError::Lost => f.write_str("out of memory while the systems ran"),
+            FrameError::Lost(None) => f.write_str("out of memory while the systems ran"),
+            FrameError::Lost(Some(error)) => write!(f, "a system stopped: {error}"),
             FrameError::Unapplied(_) => f.write_str("the sync point stopped: out of memory"),
             FrameError::Stopped(stopped) => write!(f, "the sync point stopped: {stopped}"),
         }
     }
 }
 
-impl Error for FrameError {}
+impl<E: fmt::Debug + fmt::Display> Error for FrameError<E> {}

@@ -20,9 +20,9 @@ const SYSTEMS: usize = 65_536;
 
 /// Runs each system once, on that many workers side by side, and then the sync point.
 ///
-/// A worker takes the next system that nobody has taken yet, until none is left. The commands of
-/// the systems take effect in the order of the systems, whatever the order in which they ended.
-/// If a thread can't be started, another one does its work. One worker starts no thread.
+/// Each worker takes the next system that isn't taken yet, until none is left. The commands of the
+/// systems take effect in the order of the systems, whatever the order in which they ended. If a
+/// thread can't be started, another one does its work. One worker starts no thread.
 ///
 /// # Errors
 ///
@@ -30,11 +30,12 @@ const SYSTEMS: usize = 65_536;
 ///
 /// - [`FrameError::NeedsFlush`], [`FrameError::Workers`], [`FrameError::Systems`],
 ///   [`FrameError::Memory`]: no system ran, and the world is as it was.
-/// - [`FrameError::Lost`]: a system returned an error, or systems are left and no worker has
-///   memory for another one. No command took effect. What the systems that ran had reserved stays
-///   reserved, and nothing else is: [`World::flush`] brings it to life, without components.
+/// - [`FrameError::Lost`]: a system returned an error, and this has the first one in the order of
+///   the systems. Or some systems didn't run, since no worker has memory for another one: then it
+///   has none. No command took effect. What the systems that ran had reserved stays reserved, and
+///   nothing else is: [`World::flush`] brings it to life, without components.
 /// - [`FrameError::Unapplied`], [`FrameError::Stopped`]: all systems ran, and the sync point ran
-///   out of memory. It may be made again, or go on.
+///   out of memory. It can be repeated or continued.
 ///
 /// <details><summary>Contract</summary>
 ///
@@ -57,16 +58,17 @@ const SYSTEMS: usize = 65_536;
 ///
 /// </details>
 #[inline]
-pub fn run_frame<R, S, G>(
+pub fn run_frame<R, S, E, G>(
     rt: &R,
     world: &mut World,
     systems: &[S],
     workers: usize,
     gate: &G,
-) -> Result<FrameReport, FrameError>
+) -> Result<FrameReport, FrameError<E>>
 where
     R: Join + Sync,
-    S: System<SharedSource> + Sync,
+    S: System<SharedSource, E> + Sync,
+    E: Send,
     G: Gate + Sync,
 {
     if world.world.needs_flush() {
@@ -84,7 +86,7 @@ where
             Ok(report)
         }
         Err(FrameFault::Memory) => Err(FrameError::Memory),
-        Err(FrameFault::Lost) => Err(FrameError::Lost),
+        Err(FrameFault::Lost(error)) => Err(FrameError::Lost(error)),
         Err(FrameFault::Sync { fault, queues }) => {
             let queues = Queues::new(world.number, queues);
             match fault {

@@ -4,7 +4,7 @@ use crate::phases::stopped::Stopped;
 use core::error::Error;
 use core::fmt;
 
-/// Why a sync point that went on wasn't completed.
+/// Why a sync point that was continued wasn't completed.
 ///
 /// ```
 /// use forgeni::{GoOnError, Report, Stopped, World};
@@ -25,12 +25,13 @@ pub enum GoOnError {
     /// Handles were requested in the world since it stopped, so the world needs a flush first.
     /// Nothing has changed.
     NeedsFlush(Stopped),
-    /// Memory ran out at a command, there or later. Its report has what was done since it went on.
+    /// Memory ran out at a command, there or later. Its report says what was done since it was
+    /// continued.
     Stopped(Stopped),
 }
 
 impl GoOnError {
-    /// The sync point, to go on from where it stopped.
+    /// Returns the sync point, which can be continued where it stopped.
     ///
     /// ```
     /// use forgeni::{Report, Stopped, World};

@@ -3,12 +3,12 @@
 //! A reserver reserves for logs of any commands.
 
 use crate::phases::reserver::Reserver;
-use crate::allocator::Refused;
+use crate::allocator::{Phased, Refused};
 use crate::handles::Handle;
 use crate::logs::Reserves;
 
 /// It [reserves](Reserver::reserve) the handle.
-impl Reserves for Reserver {
+impl<S: Phased> Reserves for Reserver<S> {
     #[inline]
     fn reserve_one(&mut self) -> Result<Handle, Refused> {
         self.reserve()

@@ -43,13 +43,213 @@ pub struct OpenWorld {
     number: u64,
 }
 
-/// What a phase of a world is made of, once nobody else has a part of it.
+/// What a phase of a world is made of, once no other owner has a part of it.
 pub(super) struct Parts {
     pub(super) of_world: u64,
     pub(super) spawned: u32,
     pub(super) world: crate::worlds::OpenWorld,
     pub(super) returned: Vec<SharedReserver>,
     pub(super) queues: Vec<crate::commands::IssuedCommands>,
+}
+
+/// # Looking at the world
+impl OpenWorld {
+    /// Returns the value of the entity's component, if the entity is alive and has it.
+    ///
+    /// ```
+    /// use forgeni::{ComponentId, World};
+    ///
+    /// const AGE: ComponentId = ComponentId(0);
+    ///
+    /// let mut world = World::new();
+    /// let oak = world.spawn(&[(AGE, 80)])?;
+    /// let (open, mut systems) = world.open(1)?;
+    /// systems[0].insert(oak, &[(AGE, 81)])?;
+    /// // It is 81 after the sync point.
+    /// assert_eq!(open.get(oak, AGE), Some(80));
+    /// # Ok::<(), Box<dyn std::error::Error>>(())
+    /// ```
+    ///
+    /// <details><summary>Contract</summary>
+    ///
+    /// <code style="display: block; tab-size: 4; white-space: pre-wrap">// In the words of [contracts](crate::contracts):
+    /// ensures { result ≡ [value_of](crate::contracts::ent_storage::entity_map#value_of) self.now.world.entities handle id }
+    /// </code>
+    ///
+    /// </details>
+    #[must_use]
+    #[inline]
+    pub fn get(&self, handle: Handle, id: ComponentId) -> Option<i64> {
+        self.world.view().get(handle, id)
+    }
+
+    /// Returns `true` if the entity is alive. What the systems spawn isn't alive yet.
+    ///
+    /// ```
+    /// use forgeni::World;
+    ///
+    /// let mut world = World::new();
+    /// let oak = world.spawn(&[])?;
+    /// let (open, mut systems) = world.open(1)?;
+    /// let new = systems[0].spawn(&[])?;
+    /// assert!(open.contains(oak) && !open.contains(new));
+    /// # Ok::<(), Box<dyn std::error::Error>>(())
+    /// ```
+    ///
+    /// <details><summary>Contract</summary>
+    ///
+    /// <code style="display: block; tab-size: 4; white-space: pre-wrap">// In the words of [contracts](crate::contracts):
+    /// ensures { result ≡ [map.contains_key](crate::contracts::logic#FinMap.contains_key) self.now.world.entities handle }
+    /// </code>
+    ///
+    /// </details>
+    #[must_use]
+    #[inline]
+    pub fn contains(&self, handle: Handle) -> bool {
+        self.world.view().contains(handle)
+    }
+
+    /// Returns the birth of the entity, if it is alive: when it came to life, and by which system.
+    ///
+    /// ```
+    /// use forgeni::World;
+    ///
+    /// let mut world = World::new();
+    /// let (oak, lime) = (world.spawn(&[])?, world.spawn(&[])?);
+    /// let (open, _systems) = world.open(1)?;
+    /// assert!(open.birth(oak) < open.birth(lime));
+    /// # Ok::<(), Box<dyn std::error::Error>>(())
+    /// ```
+    ///
+    /// <details><summary>Contract</summary>
+    ///
+    /// <code style="display: block; tab-size: 4; white-space: pre-wrap">// In the words of [contracts](crate::contracts):
+    /// ensures { result ≡ [birth_of](crate::contracts::ent_storage::entity_map#birth_of) self.now.world.entities handle }
+    /// </code>
+    ///
+    /// </details>
+    #[must_use]
+    #[inline]
+    pub fn birth(&self, handle: Handle) -> Option<Birth> {
+        self.world.view().birth(handle)
+    }
+
+    /// Returns the handles of all entities, ordered by birth and then by handle. It takes the time
+    /// of a sort.
+    ///
+    /// ```
+    /// use forgeni::World;
+    ///
+    /// let mut world = World::new();
+    /// let (oak, lime) = (world.spawn(&[])?, world.spawn(&[])?);
+    /// let (open, _systems) = world.open(4)?;
+    /// // Any thread may draw the world while systems run.
+    /// let drawn = std::thread::scope(|scope| scope.spawn(|| open.by_birth()).join());
+    /// assert_eq!(drawn.expect("no panic")?, [oak, lime]);
+    /// # Ok::<(), Box<dyn std::error::Error>>(())
+    /// ```
+    ///
+    /// # Errors
+    ///
+    /// `OutOfMemory`: there isn't enough memory for the list. It is never returned if there are no
+    /// entities.
+    ///
+    /// <details><summary>Contract</summary>
+    ///
+    /// <code style="display: block; tab-size: 4; white-space: pre-wrap">// In the words of [contracts](crate::contracts):
+    /// ensures ok { [IfOk](crate::contracts::logic#IfOk) result (λ handles. [ListsAll](crate::contracts::ent_storage::birth_order#ListsAll) self.now.world.entities handles.items) }
+    /// ensures memory { [OnErr](crate::contracts::logic#OnErr) result (self.now.world.entities ≢ [map.empty](crate::contracts::logic#FinMap.empty)) }
+    /// </code>
+    ///
+    /// </details>
+    #[inline]
+    pub fn by_birth(&self) -> Result<Vec<Handle>, OutOfMemory> {
+        self.world.view().by_birth()
+    }
+
+    /// Returns a view of the world, like the one that a system of a frame gets.
+    ///
+    /// ```
+    /// use forgeni::{ComponentId, World};
+    ///
+    /// const AGE: ComponentId = ComponentId(0);
+    ///
+    /// let mut world = World::new();
+    /// world.spawn(&[])?;
+    /// let oak = world.spawn(&[(AGE, 80)])?;
+    /// let (open, _systems) = world.open(1)?;
+    /// assert_eq!(open.view().with(AGE)?, [oak]);
+    /// # Ok::<(), Box<dyn std::error::Error>>(())
+    /// ```
+    ///
+    /// <details><summary>Contract</summary>
+    ///
+    /// <code style="display: block; tab-size: 4; white-space: pre-wrap">// In the words of [contracts](crate::contracts):
+    /// ensures phase { result.phase ≡ self.now.world.phase }
+    /// ensures entities { result.entities ≡ self.now.world.entities }
+    /// </code>
+    ///
+    /// </details>
+    #[must_use]
+    #[inline]
+    pub fn view(&self) -> View<'_> {
+        self.world.view()
+    }
+}
+
+/// # The phase
+impl OpenWorld {
+    /// Returns the number of systems.
+    ///
+    /// ```
+    /// use forgeni::World;
+    ///
+    /// let (open, systems) = World::new().open(4)?;
+    /// assert_eq!((open.count(), systems.len()), (4, 4));
+    /// # Ok::<(), Box<dyn std::error::Error>>(())
+    /// ```
+    ///
+    /// <details><summary>Contract</summary>
+    ///
+    /// <code style="display: block; tab-size: 4; white-space: pre-wrap">// In the words of [contracts](crate::contracts):
+    /// ensures { result ≡ self.now.world.shared.count }
+    /// </code>
+    ///
+    /// </details>
+    #[must_use]
+    #[inline]
+    pub fn count(&self) -> usize {
+        self.world.shared().count()
+    }
+
+    /// Returns the number of systems that have come back: those whose queues a refused close kept.
+    ///
+    /// ```
+    /// use forgeni::World;
+    ///
+    /// let (open, mut systems) = World::new().open(2)?;
+    /// let late = systems.pop();
+    /// let queues = systems.into_iter().map(|one| one.finish()).collect();
+    /// // A system is still at work. The phase keeps the queue of the other.
+    /// let refused = open.close_lost(queues).err().ok_or("it was closed")?;
+    /// let ((open, _), _) = refused.into_parts();
+    /// assert_eq!(open.returned(), 1);
+    /// drop(late);
+    /// # Ok::<(), Box<dyn std::error::Error>>(())
+    /// ```
+    ///
+    /// <details><summary>Contract</summary>
+    ///
+    /// <code style="display: block; tab-size: 4; white-space: pre-wrap">// In the words of [contracts](crate::contracts):
+    /// ensures { result ≡ [length](crate::contracts::logic#length) self.now.returned }
+    /// </code>
+    ///
+    /// </details>
+    #[must_use]
+    #[inline]
+    pub fn returned(&self) -> usize {
+        self.returned.len()
+    }
 }
 
 impl OpenWorld {
@@ -85,198 +285,6 @@ impl OpenWorld {
             queues,
             number,
         }
-    }
-
-    /// The value of the entity's component, if the entity is alive and has it.
-    ///
-    /// ```
-    /// use forgeni::{ComponentId, World};
-    ///
-    /// const AGE: ComponentId = ComponentId(0);
-    ///
-    /// let mut world = World::new();
-    /// let oak = world.spawn(&[(AGE, 80)])?;
-    /// let (open, mut systems) = world.open(1)?;
-    /// systems[0].insert(oak, &[(AGE, 81)])?;
-    /// // It is 81 after the sync point.
-    /// assert_eq!(open.get(oak, AGE), Some(80));
-    /// # Ok::<(), Box<dyn std::error::Error>>(())
-    /// ```
-    ///
-    /// <details><summary>Contract</summary>
-    ///
-    /// <code style="display: block; tab-size: 4; white-space: pre-wrap">// In the words of [contracts](crate::contracts):
-    /// ensures { result ≡ [value_of](crate::contracts::ent_storage::entity_map#value_of) self.now.world.entities handle id }
-    /// </code>
-    ///
-    /// </details>
-    #[must_use]
-    #[inline]
-    pub fn get(&self, handle: Handle, id: ComponentId) -> Option<i64> {
-        self.world.view().get(handle, id)
-    }
-
-    /// When and by whom the entity was brought to life, if it is alive.
-    ///
-    /// ```
-    /// use forgeni::World;
-    ///
-    /// let mut world = World::new();
-    /// let (oak, lime) = (world.spawn(&[])?, world.spawn(&[])?);
-    /// let (open, _systems) = world.open(1)?;
-    /// assert!(open.birth(oak) < open.birth(lime));
-    /// # Ok::<(), Box<dyn std::error::Error>>(())
-    /// ```
-    ///
-    /// <details><summary>Contract</summary>
-    ///
-    /// <code style="display: block; tab-size: 4; white-space: pre-wrap">// In the words of [contracts](crate::contracts):
-    /// ensures { result ≡ [birth_of](crate::contracts::ent_storage::entity_map#birth_of) self.now.world.entities handle }
-    /// </code>
-    ///
-    /// </details>
-    #[must_use]
-    #[inline]
-    pub fn birth(&self, handle: Handle) -> Option<Birth> {
-        self.world.view().birth(handle)
-    }
-
-    /// Whether the entity is alive. What the systems spawn isn't yet.
-    ///
-    /// ```
-    /// use forgeni::World;
-    ///
-    /// let mut world = World::new();
-    /// let oak = world.spawn(&[])?;
-    /// let (open, mut systems) = world.open(1)?;
-    /// let new = systems[0].spawn(&[])?;
-    /// assert!(open.contains(oak) && !open.contains(new));
-    /// # Ok::<(), Box<dyn std::error::Error>>(())
-    /// ```
-    ///
-    /// <details><summary>Contract</summary>
-    ///
-    /// <code style="display: block; tab-size: 4; white-space: pre-wrap">// In the words of [contracts](crate::contracts):
-    /// ensures { result ≡ [map.contains_key](crate::contracts::logic#FinMap.contains_key) self.now.world.entities handle }
-    /// </code>
-    ///
-    /// </details>
-    #[must_use]
-    #[inline]
-    pub fn contains(&self, handle: Handle) -> bool {
-        self.world.view().contains(handle)
-    }
-
-    /// The handles of all entities, by birth and then by handle. The time is that of a sort.
-    ///
-    /// ```
-    /// use forgeni::World;
-    ///
-    /// let mut world = World::new();
-    /// let (oak, lime) = (world.spawn(&[])?, world.spawn(&[])?);
-    /// let (open, _systems) = world.open(4)?;
-    /// // Any thread may draw the world while systems run.
-    /// let drawn = std::thread::scope(|scope| scope.spawn(|| open.by_birth()).join());
-    /// assert_eq!(drawn.expect("no panic")?, [oak, lime]);
-    /// # Ok::<(), Box<dyn std::error::Error>>(())
-    /// ```
-    ///
-    /// # Errors
-    ///
-    /// `OutOfMemory`: there is no memory for the list. It never comes if there are no entities.
-    ///
-    /// <details><summary>Contract</summary>
-    ///
-    /// <code style="display: block; tab-size: 4; white-space: pre-wrap">// In the words of [contracts](crate::contracts):
-    /// ensures ok { [IfOk](crate::contracts::logic#IfOk) result (λ handles. [ListsAll](crate::contracts::ent_storage::birth_order#ListsAll) self.now.world.entities handles.items) }
-    /// ensures memory { [OnErr](crate::contracts::logic#OnErr) result (self.now.world.entities ≢ [map.empty](crate::contracts::logic#FinMap.empty)) }
-    /// </code>
-    ///
-    /// </details>
-    #[inline]
-    pub fn by_birth(&self) -> Result<Vec<Handle>, OutOfMemory> {
-        self.world.view().by_birth()
-    }
-
-    /// All that can be read of the world, as a system of a frame reads it.
-    ///
-    /// ```
-    /// use forgeni::{ComponentId, World};
-    ///
-    /// const AGE: ComponentId = ComponentId(0);
-    ///
-    /// let mut world = World::new();
-    /// world.spawn(&[])?;
-    /// let oak = world.spawn(&[(AGE, 80)])?;
-    /// let (open, _systems) = world.open(1)?;
-    /// assert_eq!(open.view().with(AGE)?, [oak]);
-    /// # Ok::<(), Box<dyn std::error::Error>>(())
-    /// ```
-    ///
-    /// <details><summary>Contract</summary>
-    ///
-    /// <code style="display: block; tab-size: 4; white-space: pre-wrap">// In the words of [contracts](crate::contracts):
-    /// ensures phase { result.phase ≡ self.now.world.phase }
-    /// ensures entities { result.entities ≡ self.now.world.entities }
-    /// </code>
-    ///
-    /// </details>
-    #[must_use]
-    #[inline]
-    pub fn view(&self) -> View<'_> {
-        self.world.view()
-    }
-
-    /// How many systems the phase has.
-    ///
-    /// ```
-    /// use forgeni::World;
-    ///
-    /// let (open, systems) = World::new().open(4)?;
-    /// assert_eq!((open.count(), systems.len()), (4, 4));
-    /// # Ok::<(), Box<dyn std::error::Error>>(())
-    /// ```
-    ///
-    /// <details><summary>Contract</summary>
-    ///
-    /// <code style="display: block; tab-size: 4; white-space: pre-wrap">// In the words of [contracts](crate::contracts):
-    /// ensures { result ≡ self.now.world.shared.count }
-    /// </code>
-    ///
-    /// </details>
-    #[must_use]
-    #[inline]
-    pub fn count(&self) -> usize {
-        self.world.shared().count()
-    }
-
-    /// How many systems have come back: a close that was refused kept their queues.
-    ///
-    /// ```
-    /// use forgeni::World;
-    ///
-    /// let (open, mut systems) = World::new().open(2)?;
-    /// let late = systems.pop();
-    /// let queues = systems.into_iter().map(|one| one.finish()).collect();
-    /// // A system is still at work. The phase keeps the queue of the other.
-    /// let refused = open.close_lost(queues).err().ok_or("it was closed")?;
-    /// let ((open, _), _) = refused.into_parts();
-    /// assert_eq!(open.returned(), 1);
-    /// drop(late);
-    /// # Ok::<(), Box<dyn std::error::Error>>(())
-    /// ```
-    ///
-    /// <details><summary>Contract</summary>
-    ///
-    /// <code style="display: block; tab-size: 4; white-space: pre-wrap">// In the words of [contracts](crate::contracts):
-    /// ensures { result ≡ [length](crate::contracts::logic#length) self.now.returned }
-    /// </code>
-    ///
-    /// </details>
-    #[must_use]
-    #[inline]
-    pub fn returned(&self) -> usize {
-        self.returned.len()
     }
 
     #[inline]

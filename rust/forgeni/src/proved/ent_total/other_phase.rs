@@ -1,6 +1,6 @@
 // Made of crates/ent_total/src/other_phase.rt by rust/erase. It isn't edited by hand.
 
-/// The two are of two phases. Nothing has changed.
+/// The two belong to different phases. Nothing has changed.
 ///
 /// ```
 /// use forgeni::{Entities, OtherPhase};

@@ -32,7 +32,7 @@ impl Queues {
         Queues { world, queues }
     }
 
-    /// How many queues there are.
+    /// Returns the number of queues.
     ///
     /// ```
     /// use forgeni::World;
@@ -56,7 +56,7 @@ impl Queues {
         self.queues.len()
     }
 
-    /// Whether there is none.
+    /// Returns `true` if there are no queues.
     ///
     /// ```
     /// use forgeni::{Queues, Report, SyncError, World};

@@ -1,16 +1,16 @@
 // Made of crates/ent_total/src/reserver.rt by rust/erase. It isn't edited by hand.
 
-use crate::phases::other_phase::OtherPhase;
-use crate::phases::shared::Shared;
-use crate::allocator::Living;
+use crate::phases::phase::Phase;
+use crate::allocator::{Living, Phased};
 use crate::handles::Handle;
+use crate::reserving::SharedSource;
 use crate::kit::sync::Arc;
 
-/// The right of one caller to reserve from a shared allocator.
+/// One caller's right to reserve in a phase of an allocator. `S` is the source of its handles.
 ///
-/// It may go to a thread of its own. A reservation makes one atomic step and waits for nobody. The
-/// handle is what the allocator would have given to one caller at that moment, so no two callers
-/// are given the same one. It comes to life after the phase, by the next flush.
+/// It can go to a thread of its own. A reservation never waits, and in a shared allocator it is one
+/// atomic step: the handle is what the allocator would have given to one caller at that moment. No
+/// two callers are given the same one. It comes to life after the phase, by the next flush.
 ///
 /// ```
 /// use forgeni::Entities;
@@ -25,7 +25,7 @@ use crate::kit::sync::Arc;
 /// # Ok::<(), Box<dyn std::error::Error>>(())
 /// ```
 ///
-/// Two threads can't reserve by one reserver at once:
+/// Two threads can't use one reserver at the same time:
 ///
 /// ```compile_fail
 /// let (shared, mut reservers) = forgeni::Entities::new().share(1).unwrap();
@@ -36,15 +36,15 @@ use crate::kit::sync::Arc;
 /// });
 /// ```
 #[repr(align(128))]
-pub struct Reserver {
-    pub(super) shared: Arc<crate::reserving::SharedSource>,
-    pub(super) reserver: crate::reserving::SharedReserver,
+pub struct Reserver<S: Phased = SharedSource> {
+    pub(super) source: Arc<S>,
+    pub(super) reserver: S::Reserver,
     pub(super) number: u64,
 }
 
 /// # Looking at entities
-impl Reserver {
-    /// Whether the entity was alive when the phase was opened, as [`Shared::is_alive`] says it.
+impl<S: Phased> Reserver<S> {
+    /// Returns `true` if the entity was alive when the phase was opened, like [`Phase::is_alive`].
     ///
     /// ```
     /// use forgeni::Entities;
@@ -60,17 +60,18 @@ impl Reserver {
     /// <details><summary>Contract</summary>
     ///
     /// <code style="display: block; tab-size: 4; white-space: pre-wrap">// In the words of [contracts](crate::contracts):
-    /// ensures { result ≡ [set.contains](crate::contracts::logic#FinSet.contains) self.now.shared.start.live handle }
+    /// ensures { result ≡ [set.contains](crate::contracts::logic#FinSet.contains) (S.start self.now.source).live handle }
     /// </code>
     ///
     /// </details>
     #[must_use]
     #[inline]
     pub fn is_alive(&self, handle: Handle) -> bool {
-        self.shared.is_alive(handle)
+        self.source.as_opened().is_alive(handle)
     }
 
-    /// The entities that were alive when the phase was opened, as [`Shared::iter`] has them.
+    /// Returns an iterator over the entities that were alive when the phase was opened, like
+    /// [`Phase::iter`].
     ///
     /// ```
     /// use forgeni::Entities;
@@ -86,19 +87,19 @@ impl Reserver {
     /// <details><summary>Contract</summary>
     ///
     /// <code style="display: block; tab-size: 4; white-space: pre-wrap">// In the words of [contracts](crate::contracts):
-    /// ensures living { [set.from_list](crate::contracts::logic#FinSet.from_list) result ≡ self.now.shared.start.live }
+    /// ensures living { [set.from_list](crate::contracts::logic#FinSet.from_list) result ≡ (S.start self.now.source).live }
     /// ensures rising { [AllPairs](crate::contracts::logic#AllPairs) (λ g h. g.index \< h.index) result }
-    /// ensures count { [length](crate::contracts::logic#length) result ≡ [set.len](crate::contracts::logic#FinSet.len) self.now.shared.start.live }
+    /// ensures count { [length](crate::contracts::logic#length) result ≡ [set.len](crate::contracts::logic#FinSet.len) (S.start self.now.source).live }
     /// </code>
     ///
     /// </details>
     #[must_use]
     #[inline]
     pub fn iter(&self) -> Living<'_> {
-        self.shared.iter()
+        self.source.as_opened().iter()
     }
 
-    /// The row of the entity when the phase was opened, as [`Shared::row`] says it.
+    /// Returns the row that the entity had when the phase was opened, like [`Phase::row`].
     ///
     /// ```
     /// use forgeni::Entities;
@@ -114,74 +115,21 @@ impl Reserver {
     /// <details><summary>Contract</summary>
     ///
     /// <code style="display: block; tab-size: 4; white-space: pre-wrap">// In the words of [contracts](crate::contracts):
-    /// ensures value { result ≡ [map.get](crate::contracts::logic#FinMap.get) self.now.shared.rows handle }
-    /// ensures alive { [OnSome](crate::contracts::logic#OnSome) result ([set.contains](crate::contracts::logic#FinSet.contains) self.now.shared.start.live handle ≡ [true](crate::contracts::logic#true)) }
+    /// ensures value { result ≡ [map.get](crate::contracts::logic#FinMap.get) (S.rows self.now.source) handle }
+    /// ensures alive { [OnSome](crate::contracts::logic#OnSome) result ([set.contains](crate::contracts::logic#FinSet.contains) (S.start self.now.source).live handle ≡ [true](crate::contracts::logic#true)) }
     /// </code>
     ///
     /// </details>
     #[must_use]
     #[inline]
     pub fn row(&self, handle: Handle) -> Option<u32> {
-        self.shared.row(handle)
+        self.source.as_opened().row(handle)
     }
 }
 
 /// # Its phase
-impl Reserver {
-    /// Which of the reservers it is: its position in the list in which they were given out, from 0.
-    ///
-    /// ```
-    /// use forgeni::Entities;
-    ///
-    /// let (_shared, reservers) = Entities::new().share(3)?;
-    /// // Each thread writes into a list of its own.
-    /// let mut lists = vec![Vec::new(); 3];
-    /// for mut reserver in reservers.into_iter().rev() {
-    ///     lists[reserver.number()] = reserver.reserve_many(2)?;
-    /// }
-    /// assert_eq!(lists[2][0].index(), 0);
-    /// # Ok::<(), Box<dyn std::error::Error>>(())
-    /// ```
-    ///
-    /// <details><summary>Contract</summary>
-    ///
-    /// <code style="display: block; tab-size: 4; white-space: pre-wrap">// In the words of [contracts](crate::contracts):
-    /// ensures { result ≡ self.now.reserver.own.number }
-    /// </code>
-    ///
-    /// </details>
-    #[must_use]
-    #[inline]
-    pub fn number(&self) -> usize {
-        self.reserver.number()
-    }
-
-    /// How many handles it may still request in this phase: 2^40 less what it has requested, served
-    /// or not.
-    ///
-    /// ```
-    /// use forgeni::Entities;
-    ///
-    /// let (_shared, mut reservers) = Entities::new().share(1)?;
-    /// reservers[0].reserve_many(1_000)?;
-    /// assert_eq!(reservers[0].quota_left(), (1 << 40) - 1_000);
-    /// # Ok::<(), Box<dyn std::error::Error>>(())
-    /// ```
-    ///
-    /// <details><summary>Contract</summary>
-    ///
-    /// <code style="display: block; tab-size: 4; white-space: pre-wrap">// In the words of [contracts](crate::contracts):
-    /// ensures { result ≡ self.now.reserver.own.left }
-    /// </code>
-    ///
-    /// </details>
-    #[must_use]
-    #[inline]
-    pub fn quota_left(&self) -> u64 {
-        self.reserver.left()
-    }
-
-    /// How many reservers the phase has.
+impl<S: Phased> Reserver<S> {
+    /// Returns the number of reservers of the phase.
     ///
     /// ```
     /// use forgeni::Entities;
@@ -196,17 +144,17 @@ impl Reserver {
     /// <details><summary>Contract</summary>
     ///
     /// <code style="display: block; tab-size: 4; white-space: pre-wrap">// In the words of [contracts](crate::contracts):
-    /// ensures { result ≡ self.now.shared.count }
+    /// ensures { result ≡ S.count self.now.source }
     /// </code>
     ///
     /// </details>
     #[must_use]
     #[inline]
     pub fn count(&self) -> usize {
-        self.shared.count()
+        self.source.callers()
     }
 
-    /// Whether it is of this phase.
+    /// Returns `true` if it belongs to this phase.
     ///
     /// ```
     /// use forgeni::Entities;
@@ -220,64 +168,14 @@ impl Reserver {
     /// <details><summary>Contract</summary>
     ///
     /// <code style="display: block; tab-size: 4; white-space: pre-wrap">// In the words of [contracts](crate::contracts):
-    /// ensures number { [IsTrue](crate::contracts::logic#IsTrue) result ↔ (self.now.number ≡ shared.now.number) }
-    /// ensures shared { [IsTrue](crate::contracts::logic#IsTrue) result → self.now.shared ≡ shared.now.shared }
+    /// ensures number { [IsTrue](crate::contracts::logic#IsTrue) result ↔ (self.now.number ≡ phase.now.number) }
+    /// ensures source { [IsTrue](crate::contracts::logic#IsTrue) result → self.now.source ≡ phase.now.source }
     /// </code>
     ///
     /// </details>
     #[must_use]
     #[inline]
-    pub fn is_of(&self, shared: &Shared) -> bool {
-        self.number == shared.number()
-    }
-
-    /// Each later reservation of this one comes after everything that the other one has reserved or
-    /// learned of so far. Without a meeting nothing is promised on the order of two reservers. It
-    /// takes no memory and waits for nobody.
-    ///
-    /// ```
-    /// use forgeni::Entities;
-    ///
-    /// let (shared, mut reservers) = Entities::new().share(2)?;
-    /// let [one, other] = &mut reservers[..] else { unreachable!() };
-    /// let first = other.reserve()?;
-    /// one.meet(other)?;
-    /// let second = one.reserve()?;
-    /// assert_eq!((first.index(), second.index()), (0, 1));
-    /// let _entities = shared.close(reservers)?;
-    /// # Ok::<(), Box<dyn std::error::Error + Send + Sync>>(())
-    /// ```
-    ///
-    /// # Errors
-    ///
-    /// [`OtherPhase`] if they are not of one phase. Nothing has changed then.
-    ///
-    /// <details><summary>Contract</summary>
-    ///
-    /// <code style="display: block; tab-size: 4; white-space: pre-wrap">// In the words of [contracts](crate::contracts):
-    /// ensures same_phase { [OnOk](crate::contracts::logic#OnOk) result (self.old.number ≡ other.old.number) }
-    /// ensures other_phase { [OnErr](crate::contracts::logic#OnErr) result (self.old.number ≢ other.old.number) }
-    /// ensures meets { [OnOk](crate::contracts::logic#OnOk) result (self.new ≡ record self.old {
-    /// &#32;&#32;reserver = record self.old.reserver {
-    /// &#9;own = [after_meeting](crate::contracts::ent_shared::moves#after_meeting) self.old.reserver.own other.old.reserver.own;
-    /// &#32;&#32;};
-    /// }) }
-    /// ensures met { other.new ≡ other.old }
-    /// ensures unchanged { [OnErr](crate::contracts::logic#OnErr) result (self.new ≡ self.old) }
-    /// &#32;
-    /// // Every reservation that the other one has made or learned of ends above where the next
-    /// // one of this one may begin.
-    /// ensures mark { [OnOk](crate::contracts::logic#OnOk) result
-    /// &#9;([IsBelow](crate::contracts::ent_shared::phase#IsBelow) self.new.reserver.own.mark other.old.reserver.own.entries) }
-    /// </code>
-    ///
-    /// </details>
-    #[inline]
-    pub fn meet(&mut self, other: &mut Reserver) -> Result<(), OtherPhase> {
-        if self.number != other.number {
-            return Err(OtherPhase);
-        }
-        self.shared.meet(&mut self.reserver, &mut other.reserver);
-        Ok(())
+    pub fn is_of(&self, phase: &Phase<S>) -> bool {
+        self.number == phase.number()
     }
 }

@@ -4,12 +4,13 @@
 use alloc::vec::Vec;
 use crate::kit::vec::FallibleVec;
 use crate::phases::reserver::Reserver;
-use crate::allocator::{Refused, ReserveError, Reserved};
+use crate::allocator::{Phased, Refused, ReserveError, Reserved};
 use crate::handles::Handle;
 
 /// # Reserving
-impl Reserver {
-    /// Reserves one handle, by one atomic step. It takes no memory.
+impl<S: Phased> Reserver<S> {
+    /// Reserves one handle, in a shared allocator by one atomic step. It neither allocates nor
+    /// waits.
     ///
     /// ```
     /// use forgeni::Entities;
@@ -29,27 +30,18 @@ impl Reserver {
     /// <details><summary>Contract</summary>
     ///
     /// <code style="display: block; tab-size: 4; white-space: pre-wrap">// In the words of [contracts](crate::contracts):
-    /// ensures quota { self.old.reserver.own.left ≡ 0
-    /// &#9;→ (result ≡ [Err](crate::contracts::logic#Err) (refused.Quota 0)) × (self.new ≡ self.old) }
-    /// ensures gains { 0 \< self.old.reserver.own.left
-    /// &#9;→ [MakesReservation](crate::contracts::ent_total::sharing#MakesReservation) self.old self.new 1 ([listed_alone](crate::contracts::ent_alloc::sequential#listed_alone) result) }
-    /// &#32;
-    /// // What was given is recorded.
-    /// ensures given { [IfOk](crate::contracts::logic#IfOk) result (λ handle. [handles_given](crate::contracts::ent_shared::order#handles_given) self.new.reserver.own
-    /// &#9;≡ [handles_given](crate::contracts::ent_shared::order#handles_given) self.old.reserver.own ++ handle ∷ \[\]) }
-    /// ensures refused { [OnErr](crate::contracts::logic#OnErr) result
-    /// &#9;([handles_given](crate::contracts::ent_shared::order#handles_given) self.new.reserver.own ≡ [handles_given](crate::contracts::ent_shared::order#handles_given) self.old.reserver.own) }
+    /// ensures replies { [Replies](crate::contracts::ent_total::reserving#Replies) S.may_reply self.old self.new 1 ([listed_alone](crate::contracts::ent_alloc::sequential#listed_alone) result) }
     /// </code>
     ///
     /// </details>
     #[inline]
     pub fn reserve(&mut self) -> Result<Handle, Refused> {
-        self.shared.reserve(&mut self.reserver)
+        self.source.serve_one(&mut self.reserver)
     }
 
-    /// Reserves `n` handles at once, by one atomic step: all of them or none. They are in the order
-    /// in which the allocator would have given them to one caller. A request of 0 makes no step,
-    /// and is always served.
+    /// Reserves `n` handles at once, in a shared allocator by one atomic step: all of them or none.
+    /// They are in the order in which the allocator would have given them to one caller. A request of
+    /// 0 makes no step, and is always served.
     ///
     /// ```
     /// use forgeni::{Entities, Limits, ReserveError};
@@ -68,30 +60,23 @@ impl Reserver {
     /// - [`ReserveError::Quota`] if `n` is above what is left of the quota. Nothing has changed.
     /// - [`ReserveError::Space`] if the pool has fewer than `n` handles. `n` is taken from the
     ///   quota all the same, and the pool gives no more until the next flush.
-    /// - [`ReserveError::Memory`] if there is no memory for the list. Nothing has changed.
+    /// - [`ReserveError::Memory`] if there isn't enough memory for the list. Nothing has changed.
     ///
-    /// The list is allocated before the atomic step, and only that step tells what the pool has. So
+    /// The list is allocated before the atomic step, and only that step shows what the pool has. So
     /// if others have left too few handles, the error may be `Memory`. A request for more than the
-    /// pool had when the phase was opened takes no memory, and returns `Space`.
+    /// pool had when the phase was opened doesn't allocate, and returns `Space`.
     ///
     /// <details><summary>Contract</summary>
     ///
     /// <code style="display: block; tab-size: 4; white-space: pre-wrap">// In the words of [contracts](crate::contracts):
-    /// ensures gains { [IfOk](crate::contracts::logic#IfOk) result (λ handles.
-    /// &#9;0 \< n → [MakesReservation](crate::contracts::ent_total::sharing#MakesReservation) self.old self.new n ([Ok](crate::contracts::logic#Ok) handles.items)) }
+    /// ensures served { [IfOk](crate::contracts::logic#IfOk) result (λ handles.
+    /// &#9;[Replies](crate::contracts::ent_total::reserving#Replies) S.may_reply self.old self.new n ([Ok](crate::contracts::logic#Ok) handles.items)) }
     /// ensures length { [IfOk](crate::contracts::logic#IfOk) result (λ handles. [length](crate::contracts::logic#length) handles.items ≡ n) }
-    /// ensures nothing { n ≡ 0 → [IsOk](crate::contracts::logic#IsOk) result × (self.new ≡ self.old) }
-    /// &#32;
-    /// // The first that holds: the quota has too few, there is no memory, the pool has too few.
-    /// ensures quota { [IsErrOf](crate::contracts::logic#IsErrOf) result (failed.Quota self.old.reserver.own.left)
-    /// &#9;↔ (self.old.reserver.own.left \< n) }
-    /// ensures short { n ≤ self.old.reserver.own.left
-    /// &#9;→ [length](crate::contracts::logic#length) self.old.shared.start.pool \< n → [IsErrAnd](crate::contracts::logic#IsErrAnd) result [IsSpace](crate::contracts::ent_total::faults#IsSpace) }
-    /// ensures refused { [IfErr](crate::contracts::logic#IfErr) result ([IsUnserved](crate::contracts::ent_total::sharing#IsUnserved) self.old self.new n) }
-    /// &#32;
-    /// // What was given is recorded.
-    /// ensures given { [IfOk](crate::contracts::logic#IfOk) result (λ handles. [handles_given](crate::contracts::ent_shared::order#handles_given) self.new.reserver.own
-    /// &#9;≡ [handles_given](crate::contracts::ent_shared::order#handles_given) self.old.reserver.own ++ handles.items) }
+    /// ensures memory { [IsErrOf](crate::contracts::logic#IsErrOf) result failed.Memory
+    /// &#9;→ S.may_give self.old.source self.old.reserver n
+    /// &#9;× (self.new ≡ self.old) × (0 \< n) }
+    /// ensures refused { [IfErr](crate::contracts::logic#IfErr) result (λ error. (error ≡ failed.Memory)
+    /// &#9;⊎ [IfRefusal](crate::contracts::ent_total::reserving#IfRefusal) error (λ why. [Replies](crate::contracts::ent_total::reserving#Replies) S.may_reply self.old self.new n ([Err](crate::contracts::logic#Err) why))) }
     /// </code>
     ///
     /// </details>
@@ -102,8 +87,8 @@ impl Reserver {
         Ok(handles)
     }
 
-    /// [`reserve_many`](Self::reserve_many), which appends the handles to a list. It takes no
-    /// memory if the list has room for them.
+    /// [`reserve_many`](Self::reserve_many), which appends the handles to a list. It doesn't
+    /// allocate if the list has room for them.
     ///
     /// ```
     /// use forgeni::Entities;
@@ -119,29 +104,22 @@ impl Reserver {
     ///
     /// # Errors
     ///
-    /// As [`reserve_many`](Self::reserve_many), and then the list has the same handles as before.
+    /// The same as for [`reserve_many`](Self::reserve_many). The list is unchanged.
     ///
     /// <details><summary>Contract</summary>
     ///
     /// <code style="display: block; tab-size: 4; white-space: pre-wrap">// In the words of [contracts](crate::contracts):
-    /// ensures given { [OnOk](crate::contracts::logic#OnOk) result (0 \< n
-    /// &#9;→ [GivesReply](crate::contracts::ent_total::sharing#GivesReply) self.old self.new n handles.old.items handles.new.items) }
-    /// ensures nothing { n ≡ 0 → [IsOk](crate::contracts::logic#IsOk) result × (self.new ≡ self.old)
-    /// &#9;× (handles.new.items ≡ handles.old.items) }
+    /// ensures served { [OnOk](crate::contracts::logic#OnOk) result
+    /// &#9;([Lists](crate::contracts::ent_total::reserving#Lists) S.may_reply self.old self.new n handles.old.items handles.new.items) }
     /// ensures kept { [OnErr](crate::contracts::logic#OnErr) result (handles.new.items ≡ handles.old.items) }
-    /// &#32;
-    /// // The first that holds: the quota has too few, there is no memory, the pool has too few.
-    /// ensures quota { [IsErrOf](crate::contracts::logic#IsErrOf) result (failed.Quota self.old.reserver.own.left)
-    /// &#9;↔ (self.old.reserver.own.left \< n) }
-    /// ensures short { n ≤ self.old.reserver.own.left
-    /// &#9;→ [length](crate::contracts::logic#length) self.old.shared.start.pool \< n → [IsErrAnd](crate::contracts::logic#IsErrAnd) result [IsSpace](crate::contracts::ent_total::faults#IsSpace) }
-    /// ensures refused { [IfErr](crate::contracts::logic#IfErr) result ([IsUnserved](crate::contracts::ent_total::sharing#IsUnserved) self.old self.new n) }
-    /// &#32;
-    /// // It takes memory only if the list has no room, and if so many may be served.
+    /// ensures refused { [IfErr](crate::contracts::logic#IfErr) result (λ error. (error ≡ failed.Memory)
+    /// &#9;⊎ [IfRefusal](crate::contracts::ent_total::reserving#IfRefusal) error (λ why. [Replies](crate::contracts::ent_total::reserving#Replies) S.may_reply self.old self.new n ([Err](crate::contracts::logic#Err) why))) }
     /// ensures memory { [IsErrOf](crate::contracts::logic#IsErrOf) result failed.Memory
-    /// &#9;→ [vec_capacity](crate::contracts::logic#vec_capacity) handles.old \< [vec_len](crate::contracts::logic#vec_len) handles.old + n }
+    /// &#9;→ S.may_give self.old.source self.old.reserver n
+    /// &#9;× (self.new ≡ self.old) × ([vec_capacity](crate::contracts::logic#vec_capacity) handles.old \< [vec_len](crate::contracts::logic#vec_len) handles.old + n) }
     /// ensures room { ([vec_len](crate::contracts::logic#vec_len) handles.old + n ≤ [vec_capacity](crate::contracts::logic#vec_capacity) handles.old)
-    /// &#9;⊎ ¬ ([MayBeServed](crate::contracts::ent_total::sharing#MayBeServed) self.old n) → [vec_capacity](crate::contracts::logic#vec_capacity) handles.new ≡ [vec_capacity](crate::contracts::logic#vec_capacity) handles.old }
+    /// &#9;⊎ ¬ (S.may_give self.old.source self.old.reserver n)
+    /// &#9;→ [vec_capacity](crate::contracts::logic#vec_capacity) handles.new ≡ [vec_capacity](crate::contracts::logic#vec_capacity) handles.old }
     /// </code>
     ///
     /// </details>
@@ -150,20 +128,19 @@ impl Reserver {
         if handles.sized_capacity() - handles.len() < n as usize && self.may_be_served(n) {
             handles.reserve_fallibly(n as usize)?;
         }
-        let given = self.shared.reserve_many(&mut self.reserver, n)?;
+        let given = self.source.serve_many(&mut self.reserver, n)?;
         append(handles, given);
         Ok(())
     }
 }
 
-impl Reserver {
+impl<S: Phased> Reserver<S> {
     /// Whether a request for `n` may be served. If not, no memory is taken for it.
     #[inline]
     fn may_be_served(&self, n: u32) -> bool
-        // ensures { IsTrue result ↔ MayBeServed self.now n }
+        // ensures { IsTrue result ↔ S.may_give self.now.source self.now.reserver n }
     {
-        let n = u64::from(n);
-        n <= self.reserver.left() && n <= self.shared.pool()
+        self.source.may_serve(&self.reserver, n)
     }
 }
 

@@ -8,7 +8,7 @@ use core::fmt;
 /// A sync point that stopped because memory ran out at a command: where, what was done so far, and
 /// the queues, which [`go_on`](Stopped::go_on) takes up from there.
 ///
-/// All births have taken effect, and of the commands just those before the one that is named.
+/// All births have taken effect, and exactly the commands before the one that is named.
 ///
 /// ```
 /// use forgeni::{Queues, SyncError, World};
@@ -46,7 +46,7 @@ impl Stopped {
         }
     }
 
-    /// Where it stopped.
+    /// Returns where it stopped.
     ///
     /// ```
     /// use forgeni::Stopped;
@@ -70,7 +70,7 @@ impl Stopped {
         self.stop
     }
 
-    /// What was done before it stopped, since the sync point began or went on.
+    /// Returns what was done before it stopped, since the sync point began or was last continued.
     ///
     /// ```
     /// use forgeni::{Queues, Report, SyncError, World};

@@ -6,12 +6,12 @@ use crate::phases::stopped::Stopped;
 use crate::phases::world::World;
 use crate::phases::world_in_blocks::WorldInBlocks;
 use crate::in_blocks::{BlockReserver, EndError};
-use crate::handles::HandedBack;
+use crate::handles::{HandedBack, OutOfMemory};
 use crate::running::RunError;
 use core::error::Error;
 use core::fmt;
 
-/// A frame in blocks that didn't end. It hands everything back.
+/// Why a frame in blocks wasn't completed. It hands everything back.
 ///
 /// ```
 /// # #[cfg(feature = "std")] {
@@ -32,27 +32,28 @@ use core::fmt;
 /// # }
 /// # Ok::<(), Box<dyn std::error::Error>>(())
 /// ```
-pub enum Unframed {
-    /// The systems filled no queues. The world is as it was opened, and no command was applied.
+pub enum Unframed<E = OutOfMemory> {
+    /// The systems filled no queues. The world is as it was when it was opened, and no command was
+    /// applied.
     Unrun {
-        /// The world as it was opened.
+        /// The world as it was when it was opened.
         world: WorldInBlocks,
         /// The reservers that were handed in, as they were. None, if systems ran
         /// ([`RunError::Lost`]): [`WorldInBlocks::close_lost`] ends the phase without them.
         reservers: Vec<BlockReserver>,
         /// Why there are no queues.
-        error: RunError,
+        error: RunError<E>,
     },
     /// All systems ran, and the world was not closed. [`WorldInBlocks::close`] closes it, and
     /// [`World::apply`] does the sync point.
     Unended {
-        /// The world as it was opened, the reservers, and why it wasn't closed.
+        /// The world as it was when it was opened, the reservers, and why it wasn't closed.
         unended: HandedBack<(WorldInBlocks, Vec<BlockReserver>), EndError>,
         /// What the systems issued.
         queues: Queues,
     },
-    /// All systems ran, and there was no memory to begin the sync point. No command took effect.
-    /// [`World::apply`] makes it.
+    /// All systems ran, and there wasn't enough memory to begin the sync point. No command took
+    /// effect. [`World::apply`] does the sync point.
     Unapplied {
         /// The world, in which all that the systems spawned is reserved.
         world: World,
@@ -70,7 +71,7 @@ pub enum Unframed {
 }
 
 /// It says why.
-impl fmt::Display for Unframed {
+impl<E: fmt::Display> fmt::Display for Unframed<E> {
     #[inline]
     fn fmt(&self, f: &mut fmt::Formatter<'_>) -> fmt::Result {
         match self {
@@ -83,7 +84,7 @@ impl fmt::Display for Unframed {
 }
 
 /// It shows why, and says that there is more.
-impl fmt::Debug for Unframed {
+impl<E: fmt::Debug> fmt::Debug for Unframed<E> {
     #[inline]
     fn fmt(&self, f: &mut fmt::Formatter<'_>) -> fmt::Result {
         match self {
@@ -101,4 +102,4 @@ impl fmt::Debug for Unframed {
     }
 }
 
-impl Error for Unframed {}
+impl<E: fmt::Debug + fmt::Display> Error for Unframed<E> {}

@@ -13,9 +13,9 @@ const NO_SYSTEM: u32 = 0xffff_ffff;
 ///
 /// A component is a number ([`ComponentId`]) and a value of 64 bits. Systems that run side by side
 /// don't touch the world: `open` gives each its [`Commands`](crate::phases::Commands), and
-/// [`apply`](World::apply) lets their queues take effect. Outside of phases entities come and go at
-/// once ([`spawn`](World::spawn), [`despawn`](World::despawn)), and the components of a living one
-/// change by commands alone.
+/// [`apply`](World::apply) lets their queues take effect. Outside of phases, entities come and go
+/// at once ([`spawn`](World::spawn), [`despawn`](World::despawn)), and the components of a living
+/// entity change only by commands.
 ///
 /// Queues take effect in their order, whichever system issued first. So births, components and
 /// faults are the same on any number of threads, if no request is refused, no allocation fails, and
@@ -53,8 +53,8 @@ pub struct World {
     pub(super) spawned: u32,
 }
 
-/// A world without entities, with these limits. It takes no memory. The number is its own: by it
-/// queues know their world.
+/// Creates a world without entities, with these limits. It doesn't allocate. The number is its own:
+/// by it queues know their world.
 ///
 /// <details><summary>Contract</summary>
 ///
@@ -135,7 +135,7 @@ impl World {
         Ok(handle)
     }
 
-    /// Takes a living entity out, with all its components.
+    /// Removes a living entity, with all its components.
     ///
     /// ```
     /// use forgeni::{FreeError, World};
@@ -177,7 +177,8 @@ impl World {
         self.world.despawn(handle)
     }
 
-    /// As [`spawn`](World::spawn), with this birth. It may be any, even that of another entity.
+    /// Like [`spawn`](World::spawn), but with this birth. It can be any birth, even that of another
+    /// entity.
     ///
     /// ```
     /// use forgeni::{Birth, ComponentId, World};
@@ -194,7 +195,7 @@ impl World {
     ///
     /// # Errors
     ///
-    /// As of `spawn`.
+    /// The same as for `spawn`.
     ///
     /// <details><summary>Contract</summary>
     ///
@@ -231,8 +232,9 @@ impl World {
         self.world.spawn(birth, &bundle)
     }
 
-    /// Brings to life what is reserved, without components: what the systems of a phase had spawned
-    /// whose queues are not to take effect. [`apply`](World::apply) brings entities to life too.
+    /// Brings to life what is reserved, without components. Use it after a phase whose systems have
+    /// spawned and whose queues won't be applied. [`apply`](World::apply) brings entities to life
+    /// too.
     ///
     /// The birth of each entity names the phase that ends, no system, and the entity's number among
     /// those that are born. So an entity that [`spawn`](World::spawn) made in that phase may have
@@ -277,7 +279,7 @@ impl World {
 
 /// # Looking at entities
 impl World {
-    /// The value of the entity's component, if the entity is alive and has it.
+    /// Returns the value of the entity's component, if the entity is alive and has it.
     ///
     /// ```
     /// use forgeni::{ComponentId, World};
@@ -304,8 +306,9 @@ impl World {
         self.world.get(handle, id)
     }
 
-    /// Whether the entity is alive. It takes constant time. It is false for a handle that is only
-    /// reserved, for which [`Entities::contains`](crate::Entities::contains) is true.
+    /// Returns `true` if the entity is alive. It takes constant time. It returns `false` for a
+    /// handle that is only reserved, for which [`Entities::contains`](crate::Entities::contains)
+    /// returns `true`.
     ///
     /// ```
     /// use forgeni::World;
@@ -332,7 +335,8 @@ impl World {
         self.world.contains(handle)
     }
 
-    /// The entity's components and their values, by rising number, if it is alive.
+    /// Returns the entity's components and their values, in ascending order of number, if it is
+    /// alive.
     ///
     /// ```
     /// use forgeni::{ComponentId, World};
@@ -357,7 +361,7 @@ impl World {
         self.world.items(handle)
     }
 
-    /// When and by whom the entity was brought to life, if it is alive.
+    /// Returns the birth of the entity, if it is alive: when it came to life, and by which system.
     ///
     /// ```
     /// use forgeni::World;
@@ -383,7 +387,8 @@ impl World {
         self.world.birth(handle)
     }
 
-    /// The handles of all entities, by birth and then by handle. The time is that of a sort.
+    /// Returns the handles of all entities, ordered by birth and then by handle. It takes the time
+    /// of a sort.
     ///
     /// ```
     /// use forgeni::World;
@@ -396,7 +401,8 @@ impl World {
     ///
     /// # Errors
     ///
-    /// `OutOfMemory`: there is no memory for the list. It never comes if there are no entities.
+    /// `OutOfMemory`: there isn't enough memory for the list. It is never returned if there are no
+    /// entities.
     ///
     /// <details><summary>Contract</summary>
     ///
@@ -414,7 +420,7 @@ impl World {
 
 /// # Counts
 impl World {
-    /// How many entities are alive.
+    /// Returns the number of living entities.
     ///
     /// ```
     /// use forgeni::World;
@@ -440,7 +446,7 @@ impl World {
         self.world.len()
     }
 
-    /// Whether no entity is alive.
+    /// Returns `true` if no entity is alive.
     ///
     /// ```
     /// use forgeni::World;
@@ -465,8 +471,8 @@ impl World {
         self.world.is_empty()
     }
 
-    /// How often the world was flushed, which is the `frame` in the births of what comes to life
-    /// next. It stays at 2^64 - 1.
+    /// Returns how many times the world was flushed, which is the `frame` in the births of what
+    /// comes to life next. It stays at 2^64 - 1.
     ///
     /// ```
     /// use forgeni::World;
@@ -493,7 +499,7 @@ impl World {
         self.world.phase()
     }
 
-    /// Whether any handle was requested since the last flush. It is so between
+    /// Returns `true` if any handle was requested since the last flush. That is the case between
     /// [`OpenWorld::close`](crate::phases::OpenWorld::close) and [`apply`](World::apply), if a system has
     /// spawned.
     ///
@@ -521,7 +527,7 @@ impl World {
         self.world.needs_flush()
     }
 
-    /// How many slots are retired: they give no handle any more. It takes constant time.
+    /// Returns the number of retired slots, which give no more handles. It takes constant time.
     ///
     /// ```
     /// use forgeni::{Limits, World};
@@ -551,7 +557,7 @@ impl World {
 }
 
 impl World {
-    /// Why nothing was spawned, when there is no memory for the components.
+    /// Why nothing was spawned, when there isn't enough memory for the components.
     #[cold]
     fn no_bundle(&self) -> AllocError
         // ensures needs_flush { result ≡ AllocError.NeedsFlush ↔ (0 < self.now.world.allocator.asked) }

@@ -31,8 +31,9 @@ pub struct WorldInBlocks {
     pub(super) spawned: u32,
 }
 
+/// # The blocks and the world
 impl WorldInBlocks {
-    /// The blocks from which callers reserve, each with a [`BlockReserver`] of its own.
+    /// Returns the blocks from which callers reserve, each with a [`BlockReserver`] of its own.
     ///
     /// ```
     /// use forgeni::World;
@@ -58,7 +59,7 @@ impl WorldInBlocks {
         self.world.blocks()
     }
 
-    /// All that can be read of the world, as a system of a frame reads it.
+    /// Returns a view of the world, like the one that a system of a frame gets.
     ///
     /// ```
     /// use forgeni::{ComponentId, World};
@@ -85,7 +86,10 @@ impl WorldInBlocks {
     pub fn view(&self) -> View<'_> {
         self.world.view()
     }
+}
 
+/// # Closing
+impl WorldInBlocks {
     /// Ends the phase with all its reservers, in their order. What they reserved is reserved in the
     /// world, and what is left of their blocks is given next, in the same order.
     ///
@@ -104,7 +108,7 @@ impl WorldInBlocks {
     /// # Errors
     ///
     /// [`HandedBack`] has the world and the reservers as they were, and the first of these errors
-    /// that holds.
+    /// that applies.
     ///
     /// - [`EndError::OtherPhase`]: a reserver is of another phase.
     /// - [`EndError::Order`]: the reservers aren't in their order.
@@ -167,7 +171,7 @@ impl WorldInBlocks {
     /// use forgeni::World;
     ///
     /// let (open, mut reservers) = World::new().open_in_blocks(&[3, 4])?;
-    /// // A thread has panicked, and nobody knows what its reserver gave.
+    /// // A thread has panicked, and what its reserver gave isn't known.
     /// drop(reservers.pop());
     /// let mut world = open.close_lost(reservers)?;
     /// world.flush()?;
@@ -177,7 +181,8 @@ impl WorldInBlocks {
     ///
     /// # Errors
     ///
-    /// As of [`close`](WorldInBlocks::close), but for the missing ones.
+    /// The same as for [`close`](WorldInBlocks::close), except for
+    /// [`EndError::Missing`](crate::in_blocks::EndError::Missing).
     ///
     /// <details><summary>Contract</summary>
     ///
@@ -221,7 +226,9 @@ impl WorldInBlocks {
             Err(unended) => Err(Self::handed_back(unended, of_world, spawned)),
         }
     }
+}
 
+impl WorldInBlocks {
     /// What the world below hands back, with the number of its world and how many entities were
     /// spawned in it.
     #[inline]

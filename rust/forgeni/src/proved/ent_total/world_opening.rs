@@ -6,8 +6,8 @@ use alloc::vec::Vec;
 use crate::kit::vec::FallibleVec;
 use crate::phases::commands::Commands;
 use crate::phases::open_world::OpenWorld;
-use crate::phases::opening::CALLERS;
 use crate::phases::share_error::ShareError;
+use crate::phases::sharing::CALLERS;
 use crate::phases::world::World;
 use crate::handles::HandedBack;
 use crate::reserving::SharedReserver;
@@ -28,7 +28,7 @@ pub struct WorldOpening {
 ///
 /// # Errors
 ///
-/// [`HandedBack`] has the world as it was, and the first of these errors that holds:
+/// [`HandedBack`] has the world as it was, and the first of these errors that applies:
 /// [`ShareError::NeedsFlush`], [`ShareError::Count`], [`ShareError::Memory`].
 ///
 /// <details><summary>Contract</summary>
@@ -125,7 +125,7 @@ impl WorldOpening {
     }
 
     /// The phase under this number, which no other phase has, and all its systems, in the order of
-    /// their numbers. It takes no memory.
+    /// their numbers. It doesn't allocate.
     ///
     /// # Errors
     ///

@@ -9,12 +9,12 @@ use crate::components::Storage;
 use core::mem;
 
 impl World {
-    /// Another world in the same state: the same entities live, with the same births and
+    /// Returns another world in the same state: the same entities live, with the same births and
     /// components, the same handles are reserved, and the next ones are the same.
     ///
     /// # Errors
     ///
-    /// `Memory`. It never comes if no slot was made and there are no entities.
+    /// `Memory`. It is never returned if no slot was made and there are no entities.
     ///
     /// <details><summary>Contract</summary>
     ///
@@ -43,8 +43,8 @@ impl World {
     ///
     /// # Errors
     ///
-    /// `Memory`, with the world as it was: all memory is taken before anything changes. It never
-    /// comes if the source has no slots and no entities.
+    /// `Memory`, with the world as it was: all memory is taken before anything changes. It is never
+    /// returned if the source has no slots and no entities.
     ///
     /// <details><summary>Contract</summary>
     ///
@@ -123,7 +123,7 @@ fn copied(storage: &Storage, slots: u32) -> Result<Storage, OutOfMemory>
 }
 
 /// Lets a storage take over the entities of another one, with as much room. Without slots and
-/// entities it takes no memory.
+/// entities it doesn't allocate.
 #[inline]
 fn copy_into(
     storage: &mut Storage,

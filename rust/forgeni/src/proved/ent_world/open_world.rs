@@ -44,7 +44,7 @@ impl OpenWorld {
         &self.shared
     }
 
-    /// The world as it was opened.
+    /// The world as it was when it was opened.
     ///
     /// <details><summary>Contract</summary>
     ///
@@ -60,7 +60,7 @@ impl OpenWorld {
     }
 
     /// Ends the phase with all its reservers, as [`SharedSource::close`] does. Nothing of the world but
-    /// its allocator changes. It takes no memory.
+    /// its allocator changes. It doesn't allocate.
     #[inline]
     pub(crate) fn close(self, reservers: Vec<SharedReserver>) -> World
         // requires all { length reservers.items ≡ self.shared.count }
@@ -105,7 +105,7 @@ impl OpenWorld {
     }
 
     /// Ends the phase although some reservers may be lost, as [`SharedSource::close_lost`] does. Nothing
-    /// of the world but its allocator changes. It takes no memory.
+    /// of the world but its allocator changes. It doesn't allocate.
     #[inline]
     pub(crate) fn close_lost(self, reservers: Vec<SharedReserver>) -> World
         // requires { All (IsOf self.shared) reservers.items }

@@ -4,7 +4,7 @@ use alloc::vec::Vec;
 use crate::handles::{Birth, ComponentId, Handle, OutOfMemory};
 use crate::components::Storage;
 
-/// What a system may read of a world while others reserve: the world as it was opened.
+/// What a system can read of a world while others reserve: the world as it was when it was opened.
 ///
 /// ```
 /// use forgeni::{run_frame, ComponentId, OutOfMemory, SystemCommands, View, World};
@@ -37,7 +37,7 @@ impl<'a> View<'a> {
         View { storage, phase }
     }
 
-    /// Whether the entity is alive.
+    /// Returns `true` if the entity is alive.
     ///
     /// ```
     /// use forgeni::World;
@@ -62,7 +62,7 @@ impl<'a> View<'a> {
         self.storage.contains(handle)
     }
 
-    /// The value of the entity's component, if the entity is alive and has it.
+    /// Returns the value of the entity's component, if the entity is alive and has it.
     ///
     /// ```
     /// use forgeni::{ComponentId, World};
@@ -89,7 +89,7 @@ impl<'a> View<'a> {
         self.storage.get(handle, id)
     }
 
-    /// When and by whom the entity was brought to life, if it is alive.
+    /// Returns the birth of the entity, if it is alive: when it came to life, and by which system.
     ///
     /// ```
     /// use forgeni::World;
@@ -116,7 +116,8 @@ impl<'a> View<'a> {
         self.storage.birth(handle)
     }
 
-    /// The handles of the entities that have the component, by birth and then by handle.
+    /// Returns the handles of the entities that have the component, ordered by birth and then by
+    /// handle.
     ///
     /// ```
     /// use forgeni::{run_frame, ComponentId, OutOfMemory, SystemCommands, View, World};
@@ -137,7 +138,8 @@ impl<'a> View<'a> {
     ///
     /// # Errors
     ///
-    /// `Memory`: there is no memory for the list. It never comes if no entity has the component.
+    /// `Memory`: there isn't enough memory for the list. It is never returned if no entity has the
+    /// component.
     ///
     /// <details><summary>Contract</summary>
     ///
@@ -153,7 +155,8 @@ impl<'a> View<'a> {
         self.storage.with(id)
     }
 
-    /// The handles of all entities, by birth and then by handle. The time is that of a sort.
+    /// Returns the handles of all entities, ordered by birth and then by handle. It takes the time
+    /// of a sort.
     ///
     /// ```
     /// use forgeni::World;
@@ -170,7 +173,8 @@ impl<'a> View<'a> {
     ///
     /// # Errors
     ///
-    /// `Memory`: there is no memory for the list. It never comes if there are no entities.
+    /// `Memory`: there isn't enough memory for the list. It is never returned if there are no
+    /// entities.
     ///
     /// <details><summary>Contract</summary>
     ///
@@ -185,10 +189,10 @@ impl<'a> View<'a> {
         self.storage.by_birth()
     }
 
-    /// The handle of the entity with that birth, if there is one. If several entities have the
-    /// birth, it is the least of their handles.
+    /// Returns the handle of the entity with that birth, if there is one. If several entities have
+    /// the birth, it returns the least of their handles.
     ///
-    /// It takes no memory. The time is that of a look at each entity.
+    /// It doesn't allocate, and takes time for each entity.
     ///
     /// ```
     /// use forgeni::{Birth, World};
@@ -220,7 +224,7 @@ impl<'a> View<'a> {
         self.storage.of_birth(birth)
     }
 
-    /// How often the world was flushed before it was opened.
+    /// Returns how many times the world was flushed before it was opened.
     ///
     /// ```
     /// use forgeni::World;

@@ -23,7 +23,7 @@ pub struct World {
 }
 
 impl World {
-    /// A world without entities. It takes no memory, whatever the limits are.
+    /// Creates a world without entities. It doesn't allocate, whatever the limits are.
     ///
     /// <details><summary>Contract</summary>
     ///
@@ -45,7 +45,7 @@ impl World {
         }
     }
 
-    /// How many entities are alive.
+    /// Returns the number of living entities.
     ///
     /// <details><summary>Contract</summary>
     ///
@@ -62,7 +62,7 @@ impl World {
         self.storage.len()
     }
 
-    /// Whether no entity is alive.
+    /// Returns `true` if no entity is alive.
     ///
     /// <details><summary>Contract</summary>
     ///
@@ -76,7 +76,7 @@ impl World {
         self.storage.is_empty()
     }
 
-    /// How many slots are retired: they give no handle any more. It takes constant time.
+    /// Returns the number of retired slots, which give no more handles. It takes constant time.
     ///
     /// <details><summary>Contract</summary>
     ///
@@ -90,7 +90,7 @@ impl World {
         self.entities.retired()
     }
 
-    /// Whether the entity is alive. It takes constant time.
+    /// Returns `true` if the entity is alive. It takes constant time.
     ///
     /// <details><summary>Contract</summary>
     ///
@@ -107,7 +107,7 @@ impl World {
         }
     }
 
-    /// The value of the entity's component, if the entity is alive and has it.
+    /// Returns the value of the entity's component, if the entity is alive and has it.
     ///
     /// <details><summary>Contract</summary>
     ///
@@ -122,7 +122,7 @@ impl World {
         self.storage.get_at(place, handle, id)
     }
 
-    /// When and by whom the entity was brought to life, if it is alive.
+    /// Returns the birth of the entity, if it is alive: when it came to life, and by which system.
     ///
     /// <details><summary>Contract</summary>
     ///
@@ -137,7 +137,8 @@ impl World {
         Some(self.storage.birth_at(place, handle))
     }
 
-    /// The entity's components and their values, by rising number, if it is alive.
+    /// Returns the entity's components and their values, in ascending order of number, if it is
+    /// alive.
     ///
     /// <details><summary>Contract</summary>
     ///
@@ -152,11 +153,12 @@ impl World {
         Some(self.storage.items_at(place, handle))
     }
 
-    /// The handles of all entities, by birth and then by handle.
+    /// Returns the handles of all entities, ordered by birth and then by handle.
     ///
     /// # Errors
     ///
-    /// `Memory`: there is no memory for the list. It never comes if there are no entities.
+    /// `Memory`: there isn't enough memory for the list. It is never returned if there are no
+    /// entities.
     ///
     /// <details><summary>Contract</summary>
     ///
@@ -171,7 +173,7 @@ impl World {
         self.storage.by_birth()
     }
 
-    /// How often the world was flushed. It stays at 2^64 - 1.
+    /// Returns how many times the world was flushed. It stays at 2^64 - 1.
     ///
     /// <details><summary>Contract</summary>
     ///
@@ -185,7 +187,7 @@ impl World {
         self.phase
     }
 
-    /// Whether any handle was requested since the last flush.
+    /// Returns `true` if any handle was requested since the last flush.
     ///
     /// <details><summary>Contract</summary>
     ///
@@ -234,8 +236,8 @@ impl World {
     /// - `NeedsFlush` if handles were requested since the last flush, even if the request was
     ///   refused.
     /// - `Space` if every slot has a living occupant or is retired.
-    /// - `Memory` if there is no memory for a component, or for a new slot and its entity. It
-    ///   never comes if a slot waits and the bundle is empty.
+    /// - `Memory` if there isn't enough memory for a component, or for a new slot and its entity.
+    ///   It is never returned if a slot waits and the bundle is empty.
     ///
     /// <details><summary>Contract</summary>
     ///
@@ -278,8 +280,8 @@ impl World {
     /// - `NeedsFlush` if handles were requested since the last flush, even if the request was
     ///   refused.
     /// - `NotAlive` if the handle names no living entity.
-    /// - `Memory` if there is no memory for the slot to wait in. The slot of the last generation
-    ///   never waits, so its entity is never refused for that.
+    /// - `Memory` if there isn't enough memory for the slot to wait in. The slot of the last
+    ///   generation never waits, so its entity is never refused for that.
     // Not inlined, its result goes through memory, as that of `free`.
     #[inline(always)]
     pub fn despawn(&mut self, handle: Handle) -> Result<Freed, FreeError>

@@ -9,7 +9,7 @@ use crate::handles::HandedBack;
 use crate::components::Storage;
 
 /// A world of which contracts also see the rows: the numbers that its allocator keeps with its
-/// living handles. A phase in blocks has them too, so they are in what its number stands for.
+/// living handles. A phase in blocks has them too, so they are part of what its number means.
 pub struct PlacedWorld {
     entities: Entities,
     storage: Storage,
@@ -32,7 +32,7 @@ pub struct WorldInBlocks {
 }
 
 impl World {
-    /// The same world, of which contracts also see the rows. It takes no memory.
+    /// The same world, of which contracts also see the rows. It doesn't allocate.
     ///
     /// <details><summary>Contract</summary>
     ///
@@ -60,8 +60,8 @@ impl World {
     ///
     /// # Errors
     ///
-    /// The world as it was, and [`DealError::NeedsFlush`] or [`DealError::Memory`]. No sizes take
-    /// no memory.
+    /// The world as it was, and [`DealError::NeedsFlush`] or [`DealError::Memory`]. With no sizes,
+    /// it doesn't allocate.
     ///
     /// <details><summary>Contract</summary>
     ///
@@ -93,8 +93,8 @@ impl PlacedWorld {
     ///
     /// # Errors
     ///
-    /// The world as it was, and [`DealError::NeedsFlush`] or [`DealError::Memory`]. No sizes take
-    /// no memory.
+    /// The world as it was, and [`DealError::NeedsFlush`] or [`DealError::Memory`]. With no sizes,
+    /// it doesn't allocate.
     ///
     /// <details><summary>Contract</summary>
     ///
@@ -164,7 +164,7 @@ fn wanted(sizes: &[u32]) -> u32
 
 impl WorldDeal {
     /// The world under this number, which no other phase has, and a reserver of each block, in the
-    /// order of the sizes. It takes no memory.
+    /// order of the sizes. It doesn't allocate.
     #[inline]
     pub(crate) fn numbered(self, number: u64) -> (WorldInBlocks, Vec<BlockReserver>)
         // requires stands_for { J.blocks_of number ≡ self.blocks }
@@ -191,7 +191,7 @@ impl WorldDeal {
 }
 
 impl WorldInBlocks {
-    /// The blocks from which callers reserve, each with a [`BlockReserver`] of its own.
+    /// Returns the blocks from which callers reserve, each with a [`BlockReserver`] of its own.
     ///
     /// <details><summary>Contract</summary>
     ///
@@ -205,7 +205,7 @@ impl WorldInBlocks {
         &self.blocks
     }
 
-    /// The world as it was opened.
+    /// The world as it was when it was opened.
     ///
     /// <details><summary>Contract</summary>
     ///
@@ -225,7 +225,7 @@ impl WorldInBlocks {
     ///
     /// # Errors
     ///
-    /// As of [`Blocks::close`], with the world and the reservers as they were.
+    /// The same as for [`Blocks::close`], with the world and the reservers as they were.
     ///
     /// <details><summary>Contract</summary>
     ///
@@ -303,7 +303,7 @@ impl WorldInBlocks {
     ///
     /// # Errors
     ///
-    /// As of [`Blocks::close_lost`], with the world and the reservers as they were.
+    /// The same as for [`Blocks::close_lost`], with the world and the reservers as they were.
     ///
     /// <details><summary>Contract</summary>
     ///

@@ -10,7 +10,7 @@ pub(super) struct Bindings {
 }
 
 impl Bindings {
-    /// No name is bound. It takes no memory.
+    /// No name is bound. It doesn't allocate.
     #[inline]
     pub(super) fn new() -> Self
         // ensures { result ≡ [] }

@@ -32,7 +32,7 @@ fn sizes(size: u32, systems: &[System]) -> Result<Vec<u32>, OutOfMemory>
     Ok(sizes)
 }
 
-/// Runs the frame in the blocks for which the number 0 stands.
+/// Runs the frame in the blocks that the number 0 means.
 #[inline]
 fn run_dealt<R>(
     rt: &R,
@@ -64,7 +64,7 @@ where
         Ok((world, report)) => Ok((world, report.sync)),
         Err(
             Unframed::Unrun {
-                error: RunError::Lost,
+                error: RunError::Lost(_),
                 ..
             },
         ) => Err(Undone::Lost),

@@ -22,7 +22,7 @@ const STEP: usize = 65_536;
 ///
 /// # Errors
 ///
-/// [`OutOfMemory`], if there is no memory for it.
+/// [`OutOfMemory`], if there isn't enough memory for it.
 #[inline]
 pub(super) fn replay<P: Progress>(
     input: Vec<u8>,

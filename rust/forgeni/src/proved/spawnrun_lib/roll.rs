@@ -15,7 +15,7 @@ pub(super) struct Roll {
 }
 
 impl Roll {
-    /// No entity is listed. It takes no memory.
+    /// No entity is listed. It doesn't allocate.
     #[inline]
     pub(super) fn new() -> Self
         // ensures { result ≡ [] }

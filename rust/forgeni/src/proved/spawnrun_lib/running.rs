@@ -20,7 +20,7 @@ use crate::kit::thread::Join;
 ///
 /// # Errors
 ///
-/// [`OutOfMemory`], if there is no memory for it.
+/// [`OutOfMemory`], if there isn't enough memory for it.
 #[inline]
 pub(super) fn run<R, P: Progress>(
     rt: &R,
@@ -51,7 +51,7 @@ where
 ///
 /// # Errors
 ///
-/// [`OutOfMemory`], if there is no memory for it.
+/// [`OutOfMemory`], if there isn't enough memory for it.
 #[inline]
 pub(super) fn run_in_blocks<R, P: Progress>(
     rt: &R,

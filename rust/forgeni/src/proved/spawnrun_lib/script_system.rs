@@ -15,7 +15,7 @@ pub struct ScriptSystem<'a> {
 }
 
 impl<'a> ScriptSystem<'a> {
-    /// The system of these operations. It takes no memory.
+    /// The system of these operations. It doesn't allocate.
     ///
     /// <details><summary>Contract</summary>
     ///
@@ -30,7 +30,7 @@ impl<'a> ScriptSystem<'a> {
     }
 }
 
-impl<S: Source> System<S> for ScriptSystem<'_> {
+impl<S: Source> System<S, OutOfMemory> for ScriptSystem<'_> {
     /// # Errors
     ///
     /// `Memory`, if one of the operations ran out of memory, and for no other reason. A spawn

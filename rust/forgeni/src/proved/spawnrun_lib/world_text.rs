@@ -191,9 +191,9 @@ fn append_world(
 ///
 /// # Errors
 ///
-/// `Memory` if there is no memory for the list of the entities, or no room for all of the text.
-/// `out` keeps its items then. It is never returned if no entity lives and `out` has room for the
-/// text.
+/// `Memory` if there isn't enough memory for the list of the entities, or no room for all of the
+/// text. `out` keeps its items then. It is never returned if no entity lives and `out` has room for
+/// the text.
 ///
 /// <details><summary>Contract</summary>
 ///

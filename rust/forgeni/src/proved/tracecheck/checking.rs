@@ -34,7 +34,7 @@ pub struct Checking {
 
 impl Checking {
     /// One that has taken no line. The trace begins in the state of this allocator, with its
-    /// requests. It takes no memory.
+    /// requests. It doesn't allocate.
     ///
     /// <details><summary>Contract</summary>
     ///

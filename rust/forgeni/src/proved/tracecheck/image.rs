@@ -78,7 +78,7 @@ pub fn read_entities<M: Source>(image: &mut M) -> Result<Entities, Unread> {
 ///
 /// # Errors
 ///
-/// `Memory`: there is no memory for the text.
+/// `Memory`: there isn't enough memory for the text.
 ///
 /// <details><summary>Contract</summary>
 ///

@@ -35,8 +35,8 @@ fn end_line(checking: Checking, pending: &mut Vec<u8>, bytes: &[u8]) -> Result<C
     Ok(checking)
 }
 
-/// Takes all lines that end in a piece of the text. What stands after the last line's end is
-/// pending, before and afterwards.
+/// Takes all lines that end in a piece of the text. What follows the last line's end is pending,
+/// before and afterwards.
 ///
 /// <details><summary>Contract</summary>
 ///

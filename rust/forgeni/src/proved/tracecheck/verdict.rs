@@ -64,7 +64,7 @@ impl Verdict {
     ///
     /// # Errors
     ///
-    /// `Memory`: there is no memory for the text.
+    /// `Memory`: there isn't enough memory for the text.
     ///
     /// <details><summary>Contract</summary>
     ///

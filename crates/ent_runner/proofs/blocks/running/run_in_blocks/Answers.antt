@@ -12,21 +12,21 @@ ready g c = search rules
 pub returns-clause-ok : goal.returns-clause-ok
 returns-clause-ok g c =
     rw (c.split.ensures.first, c.split.ensures.second, sym c.deref-2.ensures.value)
-    ((filled_done g.S.LogSystem.may_log g.S.LogSystem.may_leave c.args.systems.now c.args.blocks.now
-    _ (ready g (goal.at.returns-clause-ok g c).After-work) _ _ c.in-Ok-work.ensures.count
+    ((filled_done g.S.LogSystem.may_log c.args.systems.now c.args.blocks.now _
+    (ready g (goal.at.returns-clause-ok g c).After-work) _ _ c.in-Ok-work.ensures.count
     c.in-Ok-work.done.items (rw c.in-Ok.ensures.crew.0 at c.in-Ok-work.ensures.done)).0)
 
 pub returns-clause-of : goal.returns-clause-of
 returns-clause-of g c =
     rw c.split.ensures.second
-    ((filled_done g.S.LogSystem.may_log g.S.LogSystem.may_leave c.args.systems.now c.args.blocks.now
-    _ (ready g (goal.at.returns-clause-of g c).After-work) _ _ c.in-Ok-work.ensures.count
+    ((filled_done g.S.LogSystem.may_log c.args.systems.now c.args.blocks.now _
+    (ready g (goal.at.returns-clause-of g c).After-work) _ _ c.in-Ok-work.ensures.count
     c.in-Ok-work.done.items (rw c.in-Ok.ensures.crew.0 at c.in-Ok-work.ensures.done)).1)
 
-pub returns-in_default-work-clause-lost : goal.returns-in_default-work-clause-lost
-returns-in_default-work-clause-lost g c lost =
-    rw (sym c.deref-2.ensures.value)
-    (lost_off g.S.LogSystem.may_log g.S.LogSystem.may_leave c.args.systems.now c.args.blocks.now _
-    (ready g (goal.at.returns-in_default-work-clause-lost g c).After-work) _ _
-    c.in_default-work.ensures.count c.args.workers (search rules) _
-    (rw c.in-Ok.ensures.crew.0 at c.in_default-work.ensures.broken_off))
+pub returns-in-Err-work-clause-lost : goal.returns-in-Err-work-clause-lost
+returns-in-Err-work-clause-lost g c =
+    rw (sym c.deref-2.ensures.value, c.new-in-Err-work.ensures, c.first_error.ensures)
+    (lost_off g.S.LogSystem.may_log c.args.systems.now c.args.blocks.now _
+    (ready g (goal.at.returns-in-Err-work-clause-lost g c).After-work) _ _
+    c.in-Err-work.ensures.count g.S.LogSystem.may_leave c.args.workers (search rules) _
+    (rw c.in-Ok.ensures.crew.0 at c.in-Err-work.ensures.broken_off))

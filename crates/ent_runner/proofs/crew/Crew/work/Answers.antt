@@ -1,9 +1,11 @@
 use Rattle.ent_runner.proofs.Common.{◌≡◌, ◌<◌, ◌⊎◌, ◌∙◌, ap, true, length, arith, take, drop, ◌++◌}
-use Rattle.ent_runner.proofs.Common.{◌-◌, inl, inr, length-replicate, replicate, None, Crew}
-use Rattle.ent_runner.proofs.Common.{HaveDoneFirst, IsLostFor, all_done, outputs_put}
+use Rattle.ent_runner.proofs.Common.{◌-◌, inl, inr, length-replicate, replicate, map, Some, sym}
+use Rattle.ent_runner.proofs.Common.{append-nil, None, Crew, HaveDoneFirst, IsLostFor, all_done}
+use Rattle.ent_runner.proofs.Common.{outputs_put}
 use Rattle.ent_runner.proofs.Conducting.{written_back, outputs_back, all_claimed, numbers_below}
 use Rattle.ent_runner.proofs.Conducting.{claimers_own, first_closed, stay, are_broken_off, are_done}
 use Rattle.ent_runner.proofs.Conducting.{all_there, some_jobs}
+use Rattle.ent_runner.proofs.EachOutput.{done_made}
 use Rattle.ent_runner.proofs.crew.Crew.work.Given as given
 use Rattle.ent_runner.proofs.crew.Crew.work.Goals.{After-close, then-stopped-via-then-stopped}
 use Rattle.ent_runner.proofs.crew.Crew.work.Goals.{then-stopped-via-else-stopped+then-lacking-gt0}
@@ -114,7 +116,10 @@ collect-requires-clause-all g c =
 pub returns-clause-done : goal.returns-clause-done
 returns-clause-done g c =
     let b = (goal.at.returns-clause-done g c).After-close in
-    rw (jobs_end g b) (are_done _ _ _ _ _ _ _ c.run_all.ensures (first g b)
+    let collected = c.collect.ensures in
+    rw (jobs_end g b, collected.outputs_are)
+    (done_made (g.J.Jobs.may_do c.args.jobs.now) _ _ _ _
+    (are_done _ _ _ _ _ _ _ c.run_all.ensures (first g b)
     (rw (c.deref.ensures.value, team_end g b) at
     (c.some_stopped-stopped.ensures.going c.if-stopped.false)) _
-    (c.collect.ensures ∙ put g b))
+    (sym (append-nil (map Some collected.made)) ∙ (collected.all ∙ put g b))))

@@ -9,6 +9,6 @@ returns-clause-may g c empty =
 
 pub returns-clause-leaves : goal.returns-clause-leaves
 returns-clause-leaves g c empty =
-    may_err (λ s queue. g.T.System.may_leave s c.args.self.now.view queue)
+    may_err (λ s queue error. g.T.System.may_leave s c.args.self.now.view queue error)
     c.args.self.now.systems.now c.args.number c.index-self-number.result _ c.run.result
     (c.run.ensures.leaves empty)

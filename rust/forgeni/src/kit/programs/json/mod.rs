@@ -49,7 +49,7 @@ pub struct Scratch {
 }
 
 impl Scratch {
-    /// It takes no memory.
+    /// It doesn't allocate.
     pub fn new() -> Self {
         Scratch { text: Vec::new() }
     }

@@ -9,7 +9,7 @@ type Written = Result<(), AllocError>;
 
 impl ToStringIn for Value {
     /// The contract: the text without blanks that reads as the value, its members in the order of
-    /// their keys, or an `Err` if there is no memory for it.
+    /// their keys, or an `Err` if there isn't enough memory for it.
     fn to_string_in(&self) -> Result<String, AllocError> {
         let mut text = String::new();
         write_value(&mut text, self)?;

@@ -15,7 +15,7 @@ pub struct Counted<T> {
 }
 
 impl<T> Counted<T> {
-    /// Makes a device that hasn't failed yet. It takes no memory.
+    /// Makes a device that hasn't failed yet. It doesn't allocate.
     ///
     /// <details><summary>Contract</summary>
     ///

@@ -36,6 +36,10 @@ pub(crate) fn open_with_overflow(
     //     ≡ blocks_from 0 (length entities.allocator.pool) sizes.now) }
     // ensures reservers { IfOk result (λ made. own_blocks made.1.items ≡ made.0.blocks) }
     // ensures own { IfOk result (λ made. All (IsCallerOf made.0) made.1.items) }
+    // ensures count { IfOk result (λ made. length made.1.items ≡ length made.0.blocks) }
+    // ensures many { IfOk result (λ made. length made.1.items ≡ length sizes.now) }
+    // ensures among { IfOk result (λ made.
+    //     IsTrue (are_among made.0.blocks (own_blocks made.1.items))) }
     // Nobody has gone past its block yet, and each has its whole quota for it.
     // ensures nothing { IfOk result (λ made. past_history made.1.items ≡ []) }
     // ensures quota { IfOk result (λ made. All (λ c. c.past.own.left ≡ quota) made.1.items) }

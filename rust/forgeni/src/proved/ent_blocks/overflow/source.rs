@@ -1,12 +1,14 @@
 // Made of crates/ent_blocks/src/overflow/source.rt by rust/erase. It isn't edited by hand.
 
+use alloc::vec::Vec;
+use crate::in_blocks::overflow::ended::Ended;
 use crate::in_blocks::overflow::phase::Overflow;
 use crate::in_blocks::overflow::reserver::OverflowReserver;
-use crate::allocator::{Refused, Reserved, Source};
+use crate::allocator::{Entities, Phased, Refused, Reserved, Source};
 use crate::handles::Handle;
 
-/// Each reservation is of the next handles of the reserver's own block, as long as that lasts, and
-/// past it an [atomic step](Overflow::reserve) of the cursor that all share.
+/// A reservation takes the next handles of the reserver's own block as long as it lasts. Past it,
+/// it is one atomic step of the cursor that all reservers share.
 impl Source for Overflow {
     type Reserver = OverflowReserver;
 
@@ -20,6 +22,11 @@ impl Source for Overflow {
         self.row(handle)
     }
 
+    #[inline]
+    fn may_serve(&self, caller: &OverflowReserver, n: u32) -> bool {
+        n <= caller.left() || self.may_be_served_past(caller, n)
+    }
+
     #[inline(always)]
     fn serve_one(&self, caller: &mut OverflowReserver) -> Result<Handle, Refused> {
         self.reserve(caller)
@@ -28,5 +35,44 @@ impl Source for Overflow {
     #[inline(always)]
     fn serve_many(&self, caller: &mut OverflowReserver, n: u32) -> Result<Reserved<'_>, Refused> {
         self.reserve_many(caller, n)
+    }
+}
+
+/// It [ends](Ended) without memory, and takes its callers back in the order in which they were made.
+impl Phased for Overflow {
+    type Closed = Ended;
+
+    #[inline]
+    fn callers(&self) -> usize {
+        self.count()
+    }
+
+    #[inline]
+    fn as_opened(&self) -> &Entities {
+        self.opened()
+    }
+
+    #[inline]
+    fn may_take(&self, callers: &[OverflowReserver]) -> bool {
+        self.has_in_order(callers)
+    }
+
+    #[inline]
+    fn end_with_all(self, callers: Vec<OverflowReserver>) -> Ended
+        // requires own { All (IsCallerOf self) callers.items }
+        // requires among { IsTrue (are_among self.blocks (own_blocks callers.items)) }
+        // requires all { length callers.items ≡ length self.blocks }
+        // ensures { EndsWithAll self callers.items result }
+    {
+        self.close(callers)
+    }
+
+    #[inline]
+    fn end_with_some(self, callers: Vec<OverflowReserver>) -> Ended
+        // requires own { All (IsCallerOf self) callers.items }
+        // requires among { IsTrue (are_among self.blocks (own_blocks callers.items)) }
+        // ensures { EndsWithSome self callers.items result }
+    {
+        self.close_lost(callers)
     }
 }

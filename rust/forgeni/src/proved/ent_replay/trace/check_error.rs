@@ -33,7 +33,7 @@ pub enum CheckError {
 }
 
 impl CheckError {
-    /// The difference, if it is one.
+    /// Returns the difference, if it is one.
     ///
     /// ```
     /// use forgeni::{trace, Limits};
@@ -61,7 +61,7 @@ impl CheckError {
         }
     }
 
-    /// A copy, or `Memory` if there is no memory for one.
+    /// A copy, or `Memory` if there isn't enough memory for one.
     #[inline]
     pub(super) fn copied(&self) -> Self
         // ensures { IsCopyOf self.now result }

@@ -16,9 +16,9 @@ use core::mem;
 /// Takes the calls of an allocator one after the other, and compares each answer with the proved
 /// allocator's.
 ///
-/// It holds the allocator and the reservations since the last other call, and nothing else. A call
-/// that fails is the last one: each later call returns the same error. So the first difference
-/// stays, and no call is compared after it.
+/// It holds the allocator and the reservations since the last call of another kind, and nothing
+/// else. A call that fails is the last one: each later call returns the same error. So the first
+/// difference stays, and no call is compared after it.
 ///
 /// ```
 /// use forgeni::trace::Checker;
@@ -42,8 +42,9 @@ pub struct Checker {
     calls: u64,
 }
 
+/// # Making one
 impl Checker {
-    /// A checker of an allocator that has given nothing. It takes no memory.
+    /// Creates a checker for an allocator that has given no handles. It doesn't allocate.
     ///
     /// The limits are those of the allocator that is checked: how many slots it may make, and after
     /// which generation it retires a slot. The greatest limits allow every handle, including
@@ -78,8 +79,8 @@ impl Checker {
         }
     }
 
-    /// A checker that begins in the middle: the allocator that is checked is in the same state as
-    /// this one, with its limits and its requests. It takes no memory.
+    /// Creates a checker that begins in the middle: the allocator that is checked is in the same
+    /// state as this one, including its limits and its requests. It doesn't allocate.
     ///
     /// ```
     /// use forgeni::Entities;
@@ -110,105 +111,10 @@ impl Checker {
             calls: 0,
         }
     }
+}
 
-    /// How many calls it has taken, up to the first that failed. It is the number of the last one.
-    ///
-    /// It counts to 2^64 − 1, and stays there.
-    ///
-    /// ```
-    /// use forgeni::{trace, Limits};
-    ///
-    /// let mut checker = trace::Checker::new(Limits::GREATEST);
-    /// for _ in 0..10 {
-    ///     checker.len(0)?;
-    /// }
-    /// assert_eq!(checker.calls(), 10);
-    /// # Ok::<(), Box<dyn std::error::Error>>(())
-    /// ```
-    ///
-    /// <details><summary>Contract</summary>
-    ///
-    /// <code style="display: block; tab-size: 4; white-space: pre-wrap">// In the words of [contracts](crate::contracts):
-    /// ensures { result ≡ self.now.calls }
-    /// </code>
-    ///
-    /// </details>
-    #[must_use]
-    #[inline]
-    pub fn calls(&self) -> u64 {
-        self.calls
-    }
-
-    /// Why it has stopped, if it has.
-    ///
-    /// ```
-    /// use forgeni::{trace, Limits};
-    ///
-    /// let mut checker = trace::Checker::new(Limits::GREATEST);
-    /// // A game may go on, and look once a frame.
-    /// let _first = checker.len(1);
-    /// let _later = checker.len(0);
-    /// assert!(checker.error().is_some_and(|it| it.to_string().starts_with("differs line 1")));
-    /// ```
-    ///
-    /// <details><summary>Contract</summary>
-    ///
-    /// <code style="display: block; tab-size: 4; white-space: pre-wrap">// In the words of [contracts](crate::contracts):
-    /// ensures { [option_copied](crate::contracts::logic#option_copied) result ≡ [error_in](crate::contracts::ent_replay::recording#error_in) self.now.comparer }
-    /// </code>
-    ///
-    /// </details>
-    #[must_use]
-    #[inline]
-    pub fn error(&self) -> Option<&CheckError> {
-        match &self.comparer {
-            Ok(_) => None,
-            Err(error) => Some(error),
-        }
-    }
-
-    /// Takes the next call. Its number is that of the calls so far.
-    ///
-    /// A reservation is compared together with those before and after it, at the next other call or
-    /// at the end.
-    ///
-    /// # Errors
-    ///
-    /// - `Differs`: an answer isn't the allocator's, of this call or of a reservation before it.
-    /// - `TooMany`: it is a reservation, and with it more than 2^50 handles were requested since
-    ///   the last flush.
-    /// - `Memory`: out of memory.
-    ///
-    /// The first error is kept, and each later call returns a copy of it, or `Memory` if there is
-    /// no memory for a copy. [`error`](Self::error) returns the one that is kept.
-    ///
-    /// ```
-    /// use forgeni::trace::{Call, CheckError, Checker};
-    /// use forgeni::Limits;
-    ///
-    /// let mut checker = Checker::new(Limits::GREATEST);
-    /// checker.call(Call::Alloc(None))?; // its answer isn't known
-    /// let wrong = checker.call(Call::Len(Some(2))).unwrap_err();
-    /// assert_eq!(wrong.to_string(), "differs line 2: len => 2, expected 1");
-    /// assert_eq!(checker.call(Call::Len(Some(1))), Err(wrong));
-    /// assert_eq!(checker.calls(), 2);
-    /// # Ok::<(), CheckError>(())
-    /// ```
-    ///
-    /// <details><summary>Contract</summary>
-    ///
-    /// <code style="display: block; tab-size: 4; white-space: pre-wrap">// In the words of [contracts](crate::contracts):
-    /// ensures takes { [Takes](crate::contracts::ent_replay::recording#Takes) self.old call self.new }
-    /// ensures answers { [Answers](crate::contracts::ent_replay::recording#Answers) self.new.comparer result }
-    /// </code>
-    ///
-    /// </details>
-    #[inline]
-    pub fn call(&mut self, call: Call) -> Result<(), CheckError> {
-        self.take(call);
-        self.answer()
-    }
-
+/// # Calls
+impl Checker {
     /// Takes a call for a handle that is alive at once.
     ///
     /// ```
@@ -223,7 +129,7 @@ impl Checker {
     ///
     /// # Errors
     ///
-    /// As of [`call`](Self::call).
+    /// The same as for [`call`](Self::call).
     ///
     /// <details><summary>Contract</summary>
     ///
@@ -255,7 +161,7 @@ impl Checker {
     ///
     /// # Errors
     ///
-    /// As of [`call`](Self::call).
+    /// The same as for [`call`](Self::call).
     ///
     /// <details><summary>Contract</summary>
     ///
@@ -270,7 +176,7 @@ impl Checker {
         self.call(Call::Free(handle, Some(reply)))
     }
 
-    /// Takes a flush. The answer is the handles that came to life, or how many they were.
+    /// Takes a flush. The answer is the handles that came to life, or their number.
     ///
     /// ```
     /// use forgeni::trace::{Checker, FlushReply};
@@ -286,7 +192,7 @@ impl Checker {
     ///
     /// # Errors
     ///
-    /// As of [`call`](Self::call).
+    /// The same as for [`call`](Self::call).
     ///
     /// <details><summary>Contract</summary>
     ///
@@ -300,6 +206,46 @@ impl Checker {
     #[inline]
     pub fn flush<R: Into<FlushReply>>(&mut self, reply: R) -> Result<(), CheckError> {
         self.call(Call::Flush(Some(reply.into())))
+    }
+
+    /// Takes a reservation of handles, which the next flush brings to life. Other reservations may
+    /// overlap this one: it may come before or after those of other callers.
+    ///
+    /// ```
+    /// use forgeni::trace::{Checker, ReserveReply};
+    /// use forgeni::{Handle, Limits};
+    ///
+    /// let mut checker = Checker::new(Limits::new(3, 10).expect("in range"));
+    /// // Caller 5 reserved before caller 2.
+    /// checker.reserve(2, 1, "2v1".parse::<Handle>()?)?;
+    /// checker.reserve(5, 2, ["0v1".parse::<Handle>()?, "1v1".parse()?])?;
+    /// checker.reserve(5, 1, ReserveReply::SpaceLeft(0))?;
+    /// checker.finish()?;
+    /// # Ok::<(), Box<dyn std::error::Error>>(())
+    /// ```
+    ///
+    /// # Errors
+    ///
+    /// The same as for [`call`](Self::call). The answer is compared at the next call of another
+    /// kind, or at the end.
+    ///
+    /// <details><summary>Contract</summary>
+    ///
+    /// <code style="display: block; tab-size: 4; white-space: pre-wrap">// In the words of [contracts](crate::contracts):
+    /// ensures takes { (told : ReserveReply) × R.converts reply told
+    /// &#9;× [Takes](crate::contracts::ent_replay::recording#Takes) self.old (Call.Reserve ([reservation_of](crate::contracts::ent_replay::recording#reservation_of) caller requested told)) self.new }
+    /// ensures answers { [Answers](crate::contracts::ent_replay::recording#Answers) self.new.comparer result }
+    /// </code>
+    ///
+    /// </details>
+    #[inline]
+    pub fn reserve<R: Into<ReserveReply>>(
+        &mut self,
+        caller: u32,
+        requested: u32,
+        reply: R,
+    ) -> Result<(), CheckError> {
+        self.call(Call::Reserve(Reservation::new(caller, requested, reply)))
     }
 
     /// Takes a call for the state of a handle.
@@ -317,7 +263,7 @@ impl Checker {
     ///
     /// # Errors
     ///
-    /// As of [`call`](Self::call).
+    /// The same as for [`call`](Self::call).
     ///
     /// <details><summary>Contract</summary>
     ///
@@ -347,7 +293,7 @@ impl Checker {
     ///
     /// # Errors
     ///
-    /// As of [`call`](Self::call).
+    /// The same as for [`call`](Self::call).
     ///
     /// <details><summary>Contract</summary>
     ///
@@ -362,47 +308,53 @@ impl Checker {
         self.call(Call::Len(Some(reply)))
     }
 
-    /// Takes a reservation of handles, which the next flush brings to life. Other reservations may
-    /// overlap this one: it may come before or after those of other callers.
+    /// Takes the next call. Calls are numbered in the order in which they are taken.
     ///
-    /// ```
-    /// use forgeni::trace::{Checker, ReserveReply};
-    /// use forgeni::{Handle, Limits};
-    ///
-    /// let mut checker = Checker::new(Limits::new(3, 10).expect("in range"));
-    /// // Caller 5 reserved before caller 2.
-    /// checker.reserve(2, 1, "2v1".parse::<Handle>()?)?;
-    /// checker.reserve(5, 2, ["0v1".parse::<Handle>()?, "1v1".parse()?])?;
-    /// checker.reserve(5, 1, ReserveReply::SpaceLeft(0))?;
-    /// checker.finish()?;
-    /// # Ok::<(), Box<dyn std::error::Error>>(())
-    /// ```
+    /// A reservation is compared together with those before and after it, at the next call of
+    /// another kind, or at the end.
     ///
     /// # Errors
     ///
-    /// As of [`call`](Self::call). The answer is compared at the next other call, or at the end.
+    /// - `Differs`: an answer isn't the allocator's, of this call or of a reservation before it.
+    /// - `TooMany`: it is a reservation, and with it more than 2^50 handles were requested since
+    ///   the last flush.
+    /// - `Memory`: out of memory.
+    ///
+    /// The first error is kept, and each later call returns a copy of it, or `Memory` if there
+    /// isn't enough memory for a copy. [`error`](Self::error) returns the one that is kept.
+    ///
+    /// ```
+    /// use forgeni::trace::{Call, CheckError, Checker};
+    /// use forgeni::Limits;
+    ///
+    /// let mut checker = Checker::new(Limits::GREATEST);
+    /// checker.call(Call::Alloc(None))?; // its answer isn't known
+    /// let wrong = checker.call(Call::Len(Some(2))).unwrap_err();
+    /// assert_eq!(wrong.to_string(), "differs line 2: len => 2, expected 1");
+    /// assert_eq!(checker.call(Call::Len(Some(1))), Err(wrong));
+    /// assert_eq!(checker.calls(), 2);
+    /// # Ok::<(), CheckError>(())
+    /// ```
     ///
     /// <details><summary>Contract</summary>
     ///
     /// <code style="display: block; tab-size: 4; white-space: pre-wrap">// In the words of [contracts](crate::contracts):
-    /// ensures takes { (told : ReserveReply) × R.converts reply told
-    /// &#9;× [Takes](crate::contracts::ent_replay::recording#Takes) self.old (Call.Reserve ([reservation_of](crate::contracts::ent_replay::recording#reservation_of) caller requested told)) self.new }
+    /// ensures takes { [Takes](crate::contracts::ent_replay::recording#Takes) self.old call self.new }
     /// ensures answers { [Answers](crate::contracts::ent_replay::recording#Answers) self.new.comparer result }
     /// </code>
     ///
     /// </details>
     #[inline]
-    pub fn reserve<R: Into<ReserveReply>>(
-        &mut self,
-        caller: u32,
-        requested: u32,
-        reply: R,
-    ) -> Result<(), CheckError> {
-        self.call(Call::Reserve(Reservation::new(caller, requested, reply)))
+    pub fn call(&mut self, call: Call) -> Result<(), CheckError> {
+        self.take(call);
+        self.answer()
     }
+}
 
+/// # Reservations of threads
+impl Checker {
     /// Takes all reservations of a log, in its order, and leaves the log empty. They may overlap
-    /// all that was reserved since the last other call.
+    /// with all that was reserved since the last call of another kind.
     ///
     /// ```
     /// use forgeni::trace::{Checker, Log};
@@ -419,7 +371,7 @@ impl Checker {
     ///
     /// # Errors
     ///
-    /// As of [`call`](Self::call). The log is emptied in any case.
+    /// The same as for [`call`](Self::call). The log is emptied in any case.
     ///
     /// <details><summary>Contract</summary>
     ///
@@ -437,9 +389,9 @@ impl Checker {
     }
 
     /// Takes reservations that overlapped, with one another and with those that were taken since
-    /// the last other call. They are compared now: what is reserved later came later.
+    /// the last call of another kind. They are compared now: what is reserved later came later.
     ///
-    /// Those of one caller are in its order. Those of different callers have no order.
+    /// Those of one caller are in that caller's order. Those of different callers have no order.
     ///
     /// ```
     /// use forgeni::trace::{Checker, Reservation};
@@ -456,7 +408,7 @@ impl Checker {
     ///
     /// # Errors
     ///
-    /// As of [`call`](Self::call).
+    /// The same as for [`call`](Self::call).
     ///
     /// <details><summary>Contract</summary>
     ///
@@ -473,7 +425,10 @@ impl Checker {
         self.end_run();
         self.answer()
     }
+}
 
+/// # The verdict
+impl Checker {
     /// Ends the trace, and compares the last reservations.
     ///
     /// ```
@@ -488,7 +443,7 @@ impl Checker {
     ///
     /// # Errors
     ///
-    /// `Differs` or `Memory`, as of [`call`](Self::call), or the error that was kept.
+    /// `Differs` or `Memory`, as for [`call`](Self::call), or the error that was kept.
     ///
     /// <details><summary>Contract</summary>
     ///
@@ -513,6 +468,65 @@ impl Checker {
         }
     }
 
+    /// Returns the error that stopped it, if there was one.
+    ///
+    /// ```
+    /// use forgeni::{trace, Limits};
+    ///
+    /// let mut checker = trace::Checker::new(Limits::GREATEST);
+    /// // A game may go on, and look once a frame.
+    /// let _first = checker.len(1);
+    /// let _later = checker.len(0);
+    /// assert!(checker.error().is_some_and(|it| it.to_string().starts_with("differs line 1")));
+    /// ```
+    ///
+    /// <details><summary>Contract</summary>
+    ///
+    /// <code style="display: block; tab-size: 4; white-space: pre-wrap">// In the words of [contracts](crate::contracts):
+    /// ensures { [option_copied](crate::contracts::logic#option_copied) result ≡ [error_in](crate::contracts::ent_replay::recording#error_in) self.now.comparer }
+    /// </code>
+    ///
+    /// </details>
+    #[must_use]
+    #[inline]
+    pub fn error(&self) -> Option<&CheckError> {
+        match &self.comparer {
+            Ok(_) => None,
+            Err(error) => Some(error),
+        }
+    }
+
+    /// Returns the number of calls that it has taken, up to the first that failed. It is also the
+    /// number of the last call.
+    ///
+    /// It counts to 2^64 − 1, and stays there.
+    ///
+    /// ```
+    /// use forgeni::{trace, Limits};
+    ///
+    /// let mut checker = trace::Checker::new(Limits::GREATEST);
+    /// for _ in 0..10 {
+    ///     checker.len(0)?;
+    /// }
+    /// assert_eq!(checker.calls(), 10);
+    /// # Ok::<(), Box<dyn std::error::Error>>(())
+    /// ```
+    ///
+    /// <details><summary>Contract</summary>
+    ///
+    /// <code style="display: block; tab-size: 4; white-space: pre-wrap">// In the words of [contracts](crate::contracts):
+    /// ensures { result ≡ self.now.calls }
+    /// </code>
+    ///
+    /// </details>
+    #[must_use]
+    #[inline]
+    pub fn calls(&self) -> u64 {
+        self.calls
+    }
+}
+
+impl Checker {
     // Counts a call and compares it, unless the checker has stopped.
     #[inline]
     fn take(&mut self, call: Call)

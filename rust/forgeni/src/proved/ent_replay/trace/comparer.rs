@@ -34,7 +34,7 @@ pub struct Comparer {
 }
 
 impl Comparer {
-    /// One that has taken no line. It takes no memory.
+    /// One that has taken no line. It doesn't allocate.
     ///
     /// <details><summary>Contract</summary>
     ///
@@ -48,8 +48,8 @@ impl Comparer {
         Comparer::from_entities(Entities::with_exact_limits(limits))
     }
 
-    /// One whose trace begins in the state of this allocator, with its requests. It takes no
-    /// memory.
+    /// One whose trace begins in the state of this allocator, with its requests. It doesn't
+    /// allocate.
     ///
     /// <details><summary>Contract</summary>
     ///

@@ -39,7 +39,7 @@ pub struct Log {
 }
 
 impl Log {
-    /// The empty log of this caller. It takes no memory.
+    /// Creates an empty log for this caller. It doesn't allocate.
     ///
     /// ```
     /// use forgeni::trace;
@@ -65,7 +65,13 @@ impl Log {
         }
     }
 
-    /// The caller whose log it is.
+    /// Returns the caller whose log it is.
+    ///
+    /// ```
+    /// use forgeni::trace;
+    ///
+    /// assert_eq!(trace::Log::new(3).caller(), 3);
+    /// ```
     ///
     /// <details><summary>Contract</summary>
     ///
@@ -80,7 +86,7 @@ impl Log {
         self.caller
     }
 
-    /// The reservations that aren't joined yet.
+    /// Returns the reservations that haven't been joined yet.
     ///
     /// ```
     /// use forgeni::{trace, Handle};

@@ -14,9 +14,9 @@ use crate::handles::{Handle, OutOfMemory};
 
 /// Records the calls of an allocator that threads share, and checks them as they come.
 ///
-/// While threads reserve, each has one of the [`logs`](Self::logs). The next other call joins the
-/// logs, in the order of the callers, and leaves them empty. The borrow of the logs has ended by
-/// then, so no thread still appends.
+/// While threads reserve, each has one of the [`logs`](Self::logs). The next call of another kind
+/// joins the logs, in the order of the callers, and leaves them empty. The borrow of the logs has
+/// ended by then, so no thread still appends.
 ///
 /// ```
 /// use forgeni::trace::Recorder;
@@ -50,9 +50,10 @@ pub struct Recorder {
     logs: Vec<Log>,
 }
 
+/// # Making one
 impl Recorder {
-    /// A recorder of an allocator that has given nothing, with a log for each of so many callers.
-    /// They are numbered from 0.
+    /// Creates a recorder for an allocator that has given no handles, with a log for each caller.
+    /// The callers are numbered from 0.
     ///
     /// ```
     /// use forgeni::{trace, Limits};
@@ -87,8 +88,11 @@ impl Recorder {
             logs,
         })
     }
+}
 
-    /// A log for each caller.
+/// # Reservations of threads
+impl Recorder {
+    /// Returns the log of each caller.
     ///
     /// ```
     /// use forgeni::{trace, Handle, Limits};
@@ -113,65 +117,10 @@ impl Recorder {
     pub fn logs(&mut self) -> &mut [Log] {
         self.logs.as_mut_slice()
     }
+}
 
-    /// How many calls were taken, with those of the logs that were joined.
-    ///
-    /// ```
-    /// use forgeni::{trace, Handle, Limits};
-    ///
-    /// let mut recorder = trace::Recorder::new(Limits::GREATEST, 2)?;
-    /// recorder.logs()[0].push(1, "0v1".parse::<Handle>()?)?;
-    /// assert_eq!(recorder.calls(), 0);
-    /// recorder.len(0)?;
-    /// assert_eq!(recorder.calls(), 2);
-    /// # Ok::<(), Box<dyn std::error::Error>>(())
-    /// ```
-    ///
-    /// <details><summary>Contract</summary>
-    ///
-    /// <code style="display: block; tab-size: 4; white-space: pre-wrap">// In the words of [contracts](crate::contracts):
-    /// ensures { result ≡ self.now.checker.calls }
-    /// </code>
-    ///
-    /// </details>
-    #[must_use]
-    #[inline]
-    pub fn calls(&self) -> u64 {
-        self.checker.calls()
-    }
-
-    /// Joins the logs, and takes this call.
-    ///
-    /// ```
-    /// use forgeni::trace::{Call, Recorder};
-    /// use forgeni::Limits;
-    ///
-    /// let mut recorder = Recorder::new(Limits::GREATEST, 1)?;
-    /// recorder.call(Call::Alloc(None))?; // its answer isn't known
-    /// recorder.call(Call::Len(Some(1)))?;
-    /// # Ok::<(), Box<dyn std::error::Error>>(())
-    /// ```
-    ///
-    /// # Errors
-    ///
-    /// As of [`Checker::call`]. The logs are emptied in any case.
-    ///
-    /// <details><summary>Contract</summary>
-    ///
-    /// <code style="display: block; tab-size: 4; white-space: pre-wrap">// In the words of [contracts](crate::contracts):
-    /// ensures takes { [TakesAll](crate::contracts::ent_replay::recording#TakesAll) self.old.checker ([lines_in_all](crate::contracts::ent_replay::recording#lines_in_all) self.old.logs.items ++ call ∷ \[\])
-    /// &#9;self.new.checker }
-    /// ensures emptied { self.new.logs.items ≡ [map](crate::contracts::logic#map) [emptied](crate::contracts::ent_replay::logs#emptied) self.old.logs.items }
-    /// ensures answers { [Answers](crate::contracts::ent_replay::recording#Answers) self.new.checker.comparer result }
-    /// </code>
-    ///
-    /// </details>
-    #[inline]
-    pub fn call(&mut self, call: Call) -> Result<(), CheckError> {
-        join_all(&mut self.checker, &mut self.logs);
-        self.checker.call(call)
-    }
-
+/// # Calls
+impl Recorder {
     /// Takes a call for a handle that is alive at once.
     ///
     /// ```
@@ -185,7 +134,7 @@ impl Recorder {
     ///
     /// # Errors
     ///
-    /// As of [`call`](Self::call).
+    /// The same as for [`call`](Self::call).
     ///
     /// <details><summary>Contract</summary>
     ///
@@ -216,7 +165,7 @@ impl Recorder {
     ///
     /// # Errors
     ///
-    /// As of [`call`](Self::call).
+    /// The same as for [`call`](Self::call).
     ///
     /// <details><summary>Contract</summary>
     ///
@@ -234,7 +183,7 @@ impl Recorder {
         self.call(Call::Free(handle, Some(reply)))
     }
 
-    /// Takes a flush. The answer is the handles that came to life, or how many they were.
+    /// Takes a flush. The answer is the handles that came to life, or their number.
     ///
     /// ```
     /// use forgeni::{trace, Handle, Limits};
@@ -248,7 +197,7 @@ impl Recorder {
     ///
     /// # Errors
     ///
-    /// As of [`call`](Self::call).
+    /// The same as for [`call`](Self::call).
     ///
     /// <details><summary>Contract</summary>
     ///
@@ -280,7 +229,7 @@ impl Recorder {
     ///
     /// # Errors
     ///
-    /// As of [`call`](Self::call).
+    /// The same as for [`call`](Self::call).
     ///
     /// <details><summary>Contract</summary>
     ///
@@ -312,7 +261,7 @@ impl Recorder {
     ///
     /// # Errors
     ///
-    /// As of [`call`](Self::call).
+    /// The same as for [`call`](Self::call).
     ///
     /// <details><summary>Contract</summary>
     ///
@@ -329,6 +278,41 @@ impl Recorder {
         self.call(Call::Len(Some(reply)))
     }
 
+    /// Joins the logs, and takes this call.
+    ///
+    /// ```
+    /// use forgeni::trace::{Call, Recorder};
+    /// use forgeni::Limits;
+    ///
+    /// let mut recorder = Recorder::new(Limits::GREATEST, 1)?;
+    /// recorder.call(Call::Alloc(None))?; // its answer isn't known
+    /// recorder.call(Call::Len(Some(1)))?;
+    /// # Ok::<(), Box<dyn std::error::Error>>(())
+    /// ```
+    ///
+    /// # Errors
+    ///
+    /// The same as for [`Checker::call`]. The logs are emptied in any case.
+    ///
+    /// <details><summary>Contract</summary>
+    ///
+    /// <code style="display: block; tab-size: 4; white-space: pre-wrap">// In the words of [contracts](crate::contracts):
+    /// ensures takes { [TakesAll](crate::contracts::ent_replay::recording#TakesAll) self.old.checker ([lines_in_all](crate::contracts::ent_replay::recording#lines_in_all) self.old.logs.items ++ call ∷ \[\])
+    /// &#9;self.new.checker }
+    /// ensures emptied { self.new.logs.items ≡ [map](crate::contracts::logic#map) [emptied](crate::contracts::ent_replay::logs#emptied) self.old.logs.items }
+    /// ensures answers { [Answers](crate::contracts::ent_replay::recording#Answers) self.new.checker.comparer result }
+    /// </code>
+    ///
+    /// </details>
+    #[inline]
+    pub fn call(&mut self, call: Call) -> Result<(), CheckError> {
+        join_all(&mut self.checker, &mut self.logs);
+        self.checker.call(call)
+    }
+}
+
+/// # The verdict
+impl Recorder {
     /// Joins the logs, ends the trace, and compares the last reservations.
     ///
     /// ```
@@ -343,7 +327,7 @@ impl Recorder {
     ///
     /// # Errors
     ///
-    /// As of [`Checker::finish`].
+    /// The same as for [`Checker::finish`].
     ///
     /// <details><summary>Contract</summary>
     ///
@@ -360,6 +344,32 @@ impl Recorder {
         } = self;
         join_all(&mut checker, &mut logs);
         checker.finish()
+    }
+
+    /// Returns the number of calls that were taken, including those of the logs that were joined.
+    ///
+    /// ```
+    /// use forgeni::{trace, Handle, Limits};
+    ///
+    /// let mut recorder = trace::Recorder::new(Limits::GREATEST, 2)?;
+    /// recorder.logs()[0].push(1, "0v1".parse::<Handle>()?)?;
+    /// assert_eq!(recorder.calls(), 0);
+    /// recorder.len(0)?;
+    /// assert_eq!(recorder.calls(), 2);
+    /// # Ok::<(), Box<dyn std::error::Error>>(())
+    /// ```
+    ///
+    /// <details><summary>Contract</summary>
+    ///
+    /// <code style="display: block; tab-size: 4; white-space: pre-wrap">// In the words of [contracts](crate::contracts):
+    /// ensures { result ≡ self.now.checker.calls }
+    /// </code>
+    ///
+    /// </details>
+    #[must_use]
+    #[inline]
+    pub fn calls(&self) -> u64 {
+        self.checker.calls()
     }
 }
 

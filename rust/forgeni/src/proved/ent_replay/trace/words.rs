@@ -5,7 +5,7 @@
 use crate::traces::trace::read_fault::Cause;
 use crate::handles::split_once;
 
-/// What stands before a comment.
+/// What comes before a comment.
 #[inline]
 pub(super) fn before_comment(line: &[u8]) -> &[u8]
     // ensures { result.now ≡ before_comment line.now }
@@ -36,7 +36,7 @@ fn front(text: &[u8], blanks: bool) -> (&[u8], &[u8])
     }
 }
 
-/// The first word of a text, and what stands after it.
+/// The first word of a text, and what follows it.
 #[inline]
 pub(super) fn first_word(text: &[u8]) -> Option<(&[u8], &[u8])>
     // ensures found { IfSome result (λ parts.
@@ -81,7 +81,7 @@ pub(super) fn few_words(text: &[u8]) -> Few<'_>
     }
 }
 
-/// One more word before `=>`, and what stands after the word.
+/// One more word before `=>`, and what follows the word.
 #[inline]
 fn argument(text: &[u8]) -> Result<(&[u8], &[u8]), Cause>
     // ensures found { IfOk result (λ parts.
@@ -96,7 +96,7 @@ fn argument(text: &[u8]) -> Result<(&[u8], &[u8]), Cause>
     }
 }
 
-/// A call has no more words: what stands after `=>`, if it is there.
+/// A call has no more words: what follows `=>`, if it is there.
 #[inline]
 pub(super) fn no_argument(text: &[u8]) -> Result<Option<&[u8]>, Cause>
     // ensures { ReadsAsView words_told result (no_argument (words_in text.now)) }
@@ -108,7 +108,7 @@ pub(super) fn no_argument(text: &[u8]) -> Result<Option<&[u8]>, Cause>
     }
 }
 
-/// A call has one more word: the word, and what stands after `=>`, if it is there.
+/// A call has one more word: the word, and what follows `=>`, if it is there.
 #[inline]
 pub(super) fn one_argument(text: &[u8]) -> Result<(&[u8], Option<&[u8]>), Cause>
     // ensures { ReadsAsView (λ call. (call.0.now, words_told call.1)) result
@@ -118,7 +118,7 @@ pub(super) fn one_argument(text: &[u8]) -> Result<(&[u8], Option<&[u8]>), Cause>
     Ok((word, no_argument(others)?))
 }
 
-/// A call has two more words: both, and what stands after `=>`, if it is there.
+/// A call has two more words: both, and what follows `=>`, if it is there.
 #[inline]
 pub(super) fn two_arguments(text: &[u8]) -> Result<(&[u8], &[u8], Option<&[u8]>), Cause>
     // ensures { ReadsAsView (λ call. (call.0.now, call.1.now, words_told call.2)) result

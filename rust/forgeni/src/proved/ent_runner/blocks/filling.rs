@@ -4,6 +4,7 @@ use alloc::vec::Vec;
 use crate::running::blocks::room::{Room, WORKERS, check, prepare};
 use crate::running::blocks::run_error::RunError;
 use crate::running::blocks::splitting::split;
+use crate::running::crew::first_error;
 use crate::running::frame::gate::NoGate;
 use crate::running::frame::system::System;
 use crate::running::stage::BlockStage;
@@ -20,19 +21,20 @@ use crate::kit::thread::Join;
 /// The handles of a system's spawns are the next ones of its block, in the pool's order, whatever
 /// the others do, whichever worker runs it, and however many workers there are.
 ///
-/// A worker takes the next system that nobody has taken yet, until none is left. If a thread can't
-/// be started, another one does its work. One worker starts no thread.
+/// Each worker takes the next system that isn't taken yet, until none is left. If a thread can't be
+/// started, another one does its work. One worker starts no thread.
 ///
 /// # Errors
 ///
-/// [`HandedBack`] has the reservers that are handed back, and the first of these errors that holds.
+/// [`HandedBack`] has the reservers that are handed back, and the first of these errors that
+/// applies.
 ///
 /// - [`RunError::Workers`], [`RunError::Systems`], [`RunError::Reservers`],
-///   [`RunError::OtherPhase`],
-///   [`RunError::Memory`]: no system ran, and the reservers are handed back as they were. No systems
-///   take no memory.
-/// - [`RunError::Lost`]: a system returned an error, or systems are left and no worker has memory
-///   for another one. All queues and reservers are dropped: [`Blocks::close_lost`] ends the phase.
+///   [`RunError::OtherPhase`], [`RunError::Memory`]: no system ran, and the reservers are handed
+///   back as they were. With no systems, it doesn't allocate.
+/// - [`RunError::Lost`]: a system returned an error, and this has the first one in the order of the
+///   systems. Or some systems didn't run, since no worker has memory for another one: then it has
+///   none. All queues and reservers are dropped: [`Blocks::close_lost`] ends the phase.
 ///
 /// <details><summary>Contract</summary>
 ///
@@ -53,30 +55,33 @@ use crate::kit::thread::Join;
 /// &#9;× ¬ ([All](crate::contracts::logic#All) (λ r. r.number ≡ blocks.now.number) reservers.items)) }
 /// ensures memory_some { [IsErrWith](crate::contracts::ent_blocks::faults#IsErrWith) result (λ h. h.error ≡ failed.Memory)
 /// &#9;→ 0 \< [length](crate::contracts::logic#length) systems.now }
-/// ensures handed_back { [IfErr](crate::contracts::logic#IfErr) result (λ h. h.error ≢ failed.Lost
-/// &#9;→ h.value.items ≡ reservers.items) }
+/// ensures handed_back { [IfErr](crate::contracts::logic#IfErr) result (λ h.
+/// &#9;[IfNotLost](crate::contracts::ent_runner::blocks_refusing#IfNotLost) (h.value.items ≡ reservers.items) h.error) }
 /// &#32;
 /// // What is left if the systems were broken off.
-/// ensures lost { [IsErrWith](crate::contracts::ent_blocks::faults#IsErrWith) result (λ h. h.error ≡ failed.Lost) → [HaveStopped](crate::contracts::ent_runner::blocks_queues#HaveStopped) S.may_issue
-/// &#9;S.may_leave systems.now workers view.entry blocks.now.phase.start
-/// &#9;([blocks_of](crate::contracts::ent_blocks::blocks#blocks_of) reservers.items) }
-/// ensures lost_some { [IsErrWith](crate::contracts::ent_blocks::faults#IsErrWith) result (λ h. h.error ≡ failed.Lost) → 0 \< [length](crate::contracts::logic#length) systems.now }
-/// ensures lost_reservers { [IfErr](crate::contracts::logic#IfErr) result (λ h. h.error ≡ failed.Lost → h.value.items ≡ \[\]) }
+/// ensures lost { [IfErr](crate::contracts::logic#IfErr) result (λ h. [IfLost](crate::contracts::ent_runner::blocks_refusing#IfLost) ([HaveStopped](crate::contracts::ent_runner::blocks_queues#HaveStopped) S.may_issue S.may_leave systems.now workers
+/// &#9;view.entry blocks.now.phase.start ([blocks_of](crate::contracts::ent_blocks::blocks#blocks_of) reservers.items)) h.error) }
+/// ensures lost_some { [IfErr](crate::contracts::logic#IfErr) result (λ h. [IfLost](crate::contracts::ent_runner::blocks_refusing#IfLost) (λ \_. 0 \< [length](crate::contracts::logic#length) systems.now) h.error) }
+/// ensures lost_reservers { [IfErr](crate::contracts::logic#IfErr) result (λ h. [IfLost](crate::contracts::ent_runner::blocks_refusing#IfLost) (λ \_. h.value.items ≡ \[\]) h.error) }
 /// </code>
 ///
 /// </details>
 #[inline]
-pub fn fill_in_blocks<R, S>(
+pub fn fill_in_blocks<R, S, E>(
     rt: &R,
     blocks: &Blocks,
     reservers: Vec<BlockReserver>,
     view: View<'_>,
     systems: &[S],
     workers: usize,
-) -> Result<(Vec<IssuedCommands>, Vec<BlockReserver>), HandedBack<Vec<BlockReserver>, RunError>>
+) -> Result<
+    (Vec<IssuedCommands>, Vec<BlockReserver>),
+    HandedBack<Vec<BlockReserver>, RunError<E>>,
+>
 where
     R: Join + Sync,
-    S: System<Blocks> + Sync,
+    S: System<Blocks, E> + Sync,
+    E: Send,
 {
     if let Err(error) = check(blocks, &reservers, systems.len(), workers) {
         return Err(HandedBack::new(reservers, error));
@@ -103,8 +108,9 @@ where
         systems: &issuers,
     };
     let mut nothing = [(); WORKERS];
-    let Ok(done) = crew.work(rt, &mut nothing[..workers], &stage) else {
-        return Err(HandedBack::new(returned, RunError::Lost));
+    let done = match crew.work(rt, &mut nothing[..workers], &stage) {
+        Ok(done) => done,
+        Err(left) => return Err(HandedBack::new(returned, RunError::Lost(first_error(left)))),
     };
     split(done, &mut queues, &mut returned);
     Ok((queues, returned))

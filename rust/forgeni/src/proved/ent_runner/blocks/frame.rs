@@ -12,21 +12,22 @@ use crate::worlds::{SyncFault, World, WorldInBlocks};
 use crate::kit::thread::Join;
 
 /// A frame in blocks that didn't end.
-pub enum Unframed {
-    /// The systems filled no queues. The world is as it was opened, and no command was applied.
+pub enum Unframed<E> {
+    /// The systems filled no queues. The world is as it was when it was opened, and no command was
+    /// applied.
     Unrun {
-        /// The world as it was opened.
+        /// The world as it was when it was opened.
         world: WorldInBlocks,
         /// The reservers that were handed in, as they were. None, if systems ran:
         /// [`WorldInBlocks::close_lost`] ends the phase without them.
         reservers: Vec<BlockReserver>,
         /// Why there are no queues.
-        error: RunError,
+        error: RunError<E>,
     },
     /// All systems ran, and the world was not closed. [`WorldInBlocks::close`] closes it, and
     /// [`World::apply`] does the sync point.
     Unended {
-        /// The world as it was opened, the reservers, and why it wasn't closed.
+        /// The world as it was when it was opened, the reservers, and why it wasn't closed.
         unended: HandedBack<(WorldInBlocks, Vec<BlockReserver>), EndError>,
         /// The queue of each system, in the order of the systems.
         queues: Vec<IssuedCommands>,
@@ -52,8 +53,8 @@ pub enum Unframed {
 ///
 /// # Errors
 ///
-/// - [`Unframed::Unrun`] as of [`fill_in_blocks`]: no command was applied.
-/// - [`Unframed::Unended`] if all systems ran, and the world was not closed, as of
+/// - [`Unframed::Unrun`] in the cases of [`fill_in_blocks`]: no command was applied.
+/// - [`Unframed::Unended`] if all systems ran, and the world was not closed, in the cases of
 ///   [`WorldInBlocks::close`].
 /// - [`Unframed::Sync`] if all systems ran and memory ran out in the sync point. [`World::apply`]
 ///   or [`World::apply_from`] goes on, as after a frame that isn't in blocks.
@@ -82,16 +83,16 @@ pub enum Unframed {
 /// ensures memory_some { [IsErrWith](crate::contracts::ent_blocks::faults#IsErrWith) result ([IsUnrun](crate::contracts::ent_runner::blocks_unframed#IsUnrun) failed.Memory) → 0 \< [length](crate::contracts::logic#length) systems.now }
 /// ensures unrun { [IfErr](crate::contracts::logic#IfErr) result ([IfUnrun](crate::contracts::ent_runner::blocks_unframed#IfUnrun) (λ world \_ \_. world ≡ opened)) }
 /// ensures handed_back { [IfErr](crate::contracts::logic#IfErr) result ([IfUnrun](crate::contracts::ent_runner::blocks_unframed#IfUnrun) (λ \_ left error.
-/// &#9;error ≢ failed.Lost → left ≡ reservers.items)) }
+/// &#9;[IfNotLost](crate::contracts::ent_runner::blocks_refusing#IfNotLost) (left ≡ reservers.items) error)) }
 /// &#32;
 /// // What is left if the systems were broken off.
-/// ensures lost { [IfErr](crate::contracts::logic#IfErr) result ([IfUnrun](crate::contracts::ent_runner::blocks_unframed#IfUnrun) (λ \_ \_ error. error ≡ failed.Lost
-/// &#9;→ [HaveStopped](crate::contracts::ent_runner::blocks_queues#HaveStopped) S.may_issue S.may_leave systems.now workers ([view_in_blocks](crate::contracts::ent_runner::blocks_frame#view_in_blocks) opened)
-/// &#9;opened.blocks.phase.start ([blocks_of](crate::contracts::ent_blocks::blocks#blocks_of) reservers.items))) }
-/// ensures lost_some { [IfErr](crate::contracts::logic#IfErr) result ([IfUnrun](crate::contracts::ent_runner::blocks_unframed#IfUnrun) (λ \_ \_ error. error ≡ failed.Lost
-/// &#9;→ 0 \< [length](crate::contracts::logic#length) systems.now)) }
-/// ensures lost_reservers { [IfErr](crate::contracts::logic#IfErr) result ([IfUnrun](crate::contracts::ent_runner::blocks_unframed#IfUnrun) (λ \_ left error. error ≡ failed.Lost
-/// &#9;→ left ≡ \[\])) }
+/// ensures lost { [IfErr](crate::contracts::logic#IfErr) result ([IfUnrun](crate::contracts::ent_runner::blocks_unframed#IfUnrun) (λ \_ \_ error. [IfLost](crate::contracts::ent_runner::blocks_refusing#IfLost) ([HaveStopped](crate::contracts::ent_runner::blocks_queues#HaveStopped) S.may_issue S.may_leave
+/// &#9;systems.now workers ([view_in_blocks](crate::contracts::ent_runner::blocks_frame#view_in_blocks) opened) opened.blocks.phase.start
+/// &#9;([blocks_of](crate::contracts::ent_blocks::blocks#blocks_of) reservers.items)) error)) }
+/// ensures lost_some { [IfErr](crate::contracts::logic#IfErr) result ([IfUnrun](crate::contracts::ent_runner::blocks_unframed#IfUnrun) (λ \_ \_ error.
+/// &#9;[IfLost](crate::contracts::ent_runner::blocks_refusing#IfLost) (λ \_. 0 \< [length](crate::contracts::logic#length) systems.now) error)) }
+/// ensures lost_reservers { [IfErr](crate::contracts::logic#IfErr) result ([IfUnrun](crate::contracts::ent_runner::blocks_unframed#IfUnrun) (λ \_ left error.
+/// &#9;[IfLost](crate::contracts::ent_runner::blocks_refusing#IfLost) (λ \_. left ≡ \[\]) error)) }
 /// &#32;
 /// // All systems ran, and the world was not closed.
 /// ensures unended { [IfErr](crate::contracts::logic#IfErr) result ([IfUnended](crate::contracts::ent_runner::blocks_unframed#IfUnended) (λ world \_ \_ \_. world ≡ opened)) }
@@ -122,16 +123,17 @@ pub enum Unframed {
 ///
 /// </details>
 #[inline]
-pub fn run_frame_in_blocks<R, S>(
+pub fn run_frame_in_blocks<R, S, E>(
     rt: &R,
     opened: WorldInBlocks,
     reservers: Vec<BlockReserver>,
     systems: &[S],
     workers: usize,
-) -> Result<(World, FrameReport), Unframed>
+) -> Result<(World, FrameReport), Unframed<E>>
 where
     R: Join + Sync,
-    S: System<Blocks> + Sync,
+    S: System<Blocks, E> + Sync,
+    E: Send,
 {
     let view = opened.view();
     let filled = fill_in_blocks(

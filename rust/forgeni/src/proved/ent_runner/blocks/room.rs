@@ -16,8 +16,8 @@ pub(super) const WORKERS: usize = 64;
 const SYSTEMS: usize = 65_536;
 
 /// A crew whose jobs hand back an `O` each, and a reserver, and a list for all of either.
-pub(super) struct Room<O> {
-    pub(super) crew: Crew<(O, BlockReserver)>,
+pub(super) struct Room<O, E> {
+    pub(super) crew: Crew<(O, BlockReserver), E>,
     pub(super) outputs: Vec<O>,
     pub(super) reservers: Vec<BlockReserver>,
 }
@@ -29,12 +29,12 @@ pub(super) struct Room<O> {
 /// Any [`RunError`] but [`RunError::Memory`] and [`RunError::Lost`]. Of those, the first that
 /// holds.
 #[inline]
-pub(super) fn check(
+pub(super) fn check<E>(
     blocks: &Blocks,
     reservers: &[BlockReserver],
     systems: usize,
     workers: usize,
-) -> Result<(), RunError>
+) -> Result<(), RunError<E>>
     // ensures some { OnOk result (0 < workers) }
     // ensures few { OnOk result (workers ≤ 64) }
     // ensures within { OnOk result (systems ≤ 2 ^ 16) }
@@ -50,7 +50,7 @@ pub(super) fn check(
     //     × (length reservers.now ≡ systems)
     //     × ¬ (All (λ r. r.number ≡ blocks.now.number) reservers.now)) }
     // ensures not_memory { ¬ (IsErrOf result failed.Memory) }
-    // ensures not_lost { ¬ (IsErrOf result failed.Lost) }
+    // ensures not_lost { IfErr result (IfLost (λ _. ⊥)) }
 {
     if workers == 0 || workers > WORKERS {
         return Err(RunError::Workers);
@@ -71,12 +71,12 @@ pub(super) fn check(
 ///
 /// # Errors
 ///
-/// `Memory`, if there is no memory for it.
+/// `Memory`, if there isn't enough memory for it.
 #[inline]
-pub(super) fn prepare<O>(
+pub(super) fn prepare<O, E>(
     systems: usize,
     workers: usize,
-) -> Result<Room<O>, OutOfMemory>
+) -> Result<Room<O, E>, OutOfMemory>
     // requires some { 0 < workers }
     // requires few { workers ≤ 64 }
     // requires within { systems ≤ 2 ^ 16 }

@@ -1,6 +1,10 @@
 // Made of crates/ent_runner/src/blocks/run_error.rt by rust/erase. It isn't edited by hand.
 
-/// Why systems filled no logs.
+use crate::handles::OutOfMemory;
+use core::error::Error;
+use core::fmt;
+
+/// Why a run of systems returned no logs.
 ///
 /// ```
 /// # #[cfg(feature = "std")] {
@@ -19,7 +23,7 @@
 /// ```
 #[derive(Clone, Copy, Debug, PartialEq, Eq, Hash)]
 #[non_exhaustive]
-pub enum RunError {
+pub enum RunError<E = OutOfMemory> {
     /// The number of workers isn't one from 1 to 64.
     Workers,
     /// There are more than 65,536 systems.
@@ -30,22 +34,25 @@ pub enum RunError {
     OtherPhase,
     /// Memory ran out before any system ran.
     Memory,
-    /// A system returned `Memory`, or systems are left and no worker has memory for the log of
-    /// another one. The logs and the reservers are dropped.
-    Lost,
+    /// A system returned an error, and this is the first one in the order of the systems. Without
+    /// one, some systems didn't run, since no worker has memory for another one. The logs or
+    /// queues and the reservers are dropped.
+    Lost(Option<E>),
 }
 
-impl core::fmt::Display for RunError {
-    fn fmt(&self, f: &mut core::fmt::Formatter<'_>) -> core::fmt::Result {
+impl<E: fmt::Display> fmt::Display for RunError<E> {
+    #[inline]
+    fn fmt(&self, f: &mut fmt::Formatter<'_>) -> fmt::Result {
         match self {
-            RunError::Workers => write!(f, "a frame has 1 to 64 workers"),
-            RunError::Systems => write!(f, "a frame has at most 65,536 systems"),
-            RunError::Reservers => write!(f, "each system has one reserver"),
-            RunError::OtherPhase => write!(f, "a reserver is of another phase"),
-            RunError::Memory => write!(f, "out of memory before any system ran"),
-            RunError::Lost => write!(f, "out of memory while the systems ran"),
+            RunError::Workers => f.write_str("a frame has 1 to 64 workers"),
+            RunError::Systems => f.write_str("a frame has at most 65,536 systems"),
+            RunError::Reservers => f.write_str("each system has one reserver"),
+            RunError::OtherPhase => f.write_str("a reserver is of another phase"),
+            RunError::Memory => f.write_str("out of memory before any system ran"),
+            RunError::Lost(None) => f.write_str("out of memory while the systems ran"),
+            RunError::Lost(Some(error)) => write!(f, "a system stopped: {error}"),
         }
     }
 }
 
-impl core::error::Error for RunError {}
+impl<E: fmt::Debug + fmt::Display> Error for RunError<E> {}

@@ -4,6 +4,7 @@ use alloc::vec::Vec;
 use crate::running::blocks::room::{Room, WORKERS, check, prepare};
 use crate::running::blocks::run_error::RunError;
 use crate::running::blocks::splitting::split;
+use crate::running::crew::first_error;
 use crate::running::logs::system::LogSystem;
 use crate::running::stage::BlockStage;
 use crate::running::systems::Loggers;
@@ -19,8 +20,8 @@ use crate::kit::thread::Join;
 /// the others do, whichever worker runs it, and however many workers there are. So if what a system
 /// does follows from what it sees, all logs are the same each time, handles included.
 ///
-/// A worker takes the next system that nobody has taken yet, until none is left. If a thread can't
-/// be started, another one does its work. One worker starts no thread.
+/// Each worker takes the next system that isn't taken yet, until none is left. If a thread can't be
+/// started, another one does its work. One worker starts no thread.
 ///
 /// ```
 /// # #[cfg(feature = "std")] {
@@ -41,21 +42,46 @@ use crate::kit::thread::Join;
 /// # Ok::<(), Box<dyn std::error::Error + Send + Sync>>(())
 /// ```
 ///
+/// If a system returns an error, the reservers are lost, and `close_lost` ends the phase:
+///
+/// ```
+/// # #[cfg(feature = "std")] {
+/// use forgeni::{run_in_blocks, BlockCommands, Entities, OutOfMemory, RunError, StdThreads};
+///
+/// fn fails(commands: &mut BlockCommands<'_, ()>) -> Result<(), OutOfMemory> {
+///     let _reserved = commands.spawn();
+///     Err(OutOfMemory)
+/// }
+///
+/// let (blocks, reservers) = Entities::new().open_in_blocks(&[2, 2])?;
+/// let run = run_in_blocks(&StdThreads, &blocks, reservers, &[fails; 2], 1);
+/// let (reservers, error) = run.err().ok_or("it ran")?.into_parts();
+/// assert_eq!((reservers.len(), error), (0, RunError::Lost(Some(OutOfMemory))));
+///
+/// // The blocks count as used up, so a flush brings all of their handles to life.
+/// let mut entities = blocks.close_lost(reservers)?;
+/// entities.flush(&mut Vec::new())?;
+/// assert_eq!(entities.len(), 4);
+/// # }
+/// # Ok::<(), Box<dyn std::error::Error + Send + Sync>>(())
+/// ```
+///
 /// # Errors
 ///
-/// [`HandedBack`] has the reservers that are handed back, and the first of these errors that holds.
+/// [`HandedBack`] has the reservers that are handed back, and the first of these errors that
+/// applies.
 ///
 /// - [`RunError::Workers`], [`RunError::Systems`], [`RunError::Reservers`],
-///   [`RunError::OtherPhase`],
-///   [`RunError::Memory`]: no system ran, and the reservers are handed back as they were. No systems
-///   take no memory.
-/// - [`RunError::Lost`]: a system returned an error, or systems are left and no worker has memory
-///   for another one. All logs and reservers are dropped: [`Blocks::close_lost`] ends the phase.
+///   [`RunError::OtherPhase`], [`RunError::Memory`]: no system ran, and the reservers are handed
+///   back as they were. With no systems, it doesn't allocate.
+/// - [`RunError::Lost`]: a system returned an error, and this has the first one in the order of the
+///   systems. Or some systems didn't run, since no worker has memory for another one: then it has
+///   none. All logs and reservers are dropped: [`Blocks::close_lost`] ends the phase.
 ///
 /// # Panics
 ///
-/// A panic of a system is handed on when all workers have ended. Logs and reservers are dropped
-/// then too.
+/// If a system panics, the panic is propagated when all workers have ended. Logs and reservers are
+/// dropped then too.
 ///
 /// <details><summary>Contract</summary>
 ///
@@ -76,29 +102,30 @@ use crate::kit::thread::Join;
 /// &#9;× ¬ ([All](crate::contracts::logic#All) (λ r. r.number ≡ blocks.now.number) reservers.items)) }
 /// ensures memory_some { [IsErrWith](crate::contracts::ent_blocks::faults#IsErrWith) result (λ h. h.error ≡ failed.Memory)
 /// &#9;→ 0 \< [length](crate::contracts::logic#length) systems.now }
-/// ensures handed_back { [IfErr](crate::contracts::logic#IfErr) result (λ h. h.error ≢ failed.Lost
-/// &#9;→ h.value.items ≡ reservers.items) }
+/// ensures handed_back { [IfErr](crate::contracts::logic#IfErr) result (λ h.
+/// &#9;[IfNotLost](crate::contracts::ent_runner::blocks_refusing#IfNotLost) (h.value.items ≡ reservers.items) h.error) }
 /// &#32;
 /// // What is left if the systems were broken off.
-/// ensures lost { [IsErrWith](crate::contracts::ent_blocks::faults#IsErrWith) result (λ h. h.error ≡ failed.Lost) → [IsBrokenOff](crate::contracts::ent_runner::blocks#IsBrokenOff) S.may_log S.may_leave
-/// &#9;systems.now workers blocks.now.phase.start.pool ([blocks_of](crate::contracts::ent_blocks::blocks#blocks_of) reservers.items) }
-/// ensures lost_some { [IsErrWith](crate::contracts::ent_blocks::faults#IsErrWith) result (λ h. h.error ≡ failed.Lost) → 0 \< [length](crate::contracts::logic#length) systems.now }
-/// ensures lost_reservers { [IfErr](crate::contracts::logic#IfErr) result (λ h. h.error ≡ failed.Lost → h.value.items ≡ \[\]) }
+/// ensures lost { [IfErr](crate::contracts::logic#IfErr) result (λ h. [IfLost](crate::contracts::ent_runner::blocks_refusing#IfLost) ([IsBrokenOff](crate::contracts::ent_runner::blocks#IsBrokenOff) S.may_log S.may_leave systems.now workers
+/// &#9;blocks.now.phase.start.pool ([blocks_of](crate::contracts::ent_blocks::blocks#blocks_of) reservers.items)) h.error) }
+/// ensures lost_some { [IfErr](crate::contracts::logic#IfErr) result (λ h. [IfLost](crate::contracts::ent_runner::blocks_refusing#IfLost) (λ \_. 0 \< [length](crate::contracts::logic#length) systems.now) h.error) }
+/// ensures lost_reservers { [IfErr](crate::contracts::logic#IfErr) result (λ h. [IfLost](crate::contracts::ent_runner::blocks_refusing#IfLost) (λ \_. h.value.items ≡ \[\]) h.error) }
 /// </code>
 ///
 /// </details>
 #[inline]
-pub fn run_in_blocks<R, C, S>(
+pub fn run_in_blocks<R, C, S, E>(
     rt: &R,
     blocks: &Blocks,
     reservers: Vec<BlockReserver>,
     systems: &[S],
     workers: usize,
-) -> Result<(Vec<Log<C>>, Vec<BlockReserver>), HandedBack<Vec<BlockReserver>, RunError>>
+) -> Result<(Vec<Log<C>>, Vec<BlockReserver>), HandedBack<Vec<BlockReserver>, RunError<E>>>
 where
     R: Join + Sync,
     C: Send,
-    S: LogSystem<C, Blocks> + Sync,
+    S: LogSystem<C, Blocks, E> + Sync,
+    E: Send,
 {
     if let Err(error) = check(blocks, &reservers, systems.len(), workers) {
         return Err(HandedBack::new(reservers, error));
@@ -121,8 +148,9 @@ where
         systems: &loggers,
     };
     let mut nothing = [(); WORKERS];
-    let Ok(done) = crew.work(rt, &mut nothing[..workers], &stage) else {
-        return Err(HandedBack::new(returned, RunError::Lost));
+    let done = match crew.work(rt, &mut nothing[..workers], &stage) {
+        Ok(done) => done,
+        Err(left) => return Err(HandedBack::new(returned, RunError::Lost(first_error(left)))),
     };
     split(done, &mut logs, &mut returned);
     Ok((logs, returned))

@@ -22,7 +22,7 @@ impl Claims {
     ///
     /// # Errors
     ///
-    /// [`OutOfMemory`] if there is no memory for them. Nothing is left of them then.
+    /// [`OutOfMemory`] if there isn't enough memory for them. Nothing is left of them then.
     #[inline]
     pub(crate) fn open(
         numbers: usize,
@@ -47,9 +47,9 @@ impl Claims {
         Ok((Claims { word, numbers }, claimers))
     }
 
-    /// Claims the next number that nobody has claimed yet, by one atomic step. `None` means that
-    /// no number is left, and the claimer has ended: from then on it returns `None` without a step.
-    /// It takes no memory and waits for nobody.
+    /// Claims the next number that isn't claimed yet, by one atomic step. `None` means that no
+    /// number is left, and the claimer has ended: from then on it returns `None` without a step. It
+    /// neither allocates nor waits.
     #[inline]
     pub(crate) fn next(&self, claimer: &mut Claimer) -> Option<usize>
         // requires { IsClaimerOf self.now claimer.old }
@@ -78,7 +78,7 @@ impl Claims {
         }
     }
 
-    /// Ends the claiming, with all its claimers. It takes no memory.
+    /// Ends the claiming, with all its claimers. It doesn't allocate.
     #[inline]
     pub(crate) fn close(self, claimers: Vec<Claimer>)
         // requires all { length claimers.items ≡ self.workers }

@@ -28,14 +28,18 @@ fn put<O>(done: Done<O>, by_number: &mut [Option<O>])
 
 /// Moves the outputs into this list, which has room for them, in the order of the jobs.
 #[inline]
-pub(super) fn collect<O>(by_number: Vec<Option<O>>, mut outputs: Vec<O>) -> Vec<O>
+pub(super) fn collect<O, E>(
+    by_number: Vec<Option<(O, Option<E>)>>,
+    mut outputs: Vec<O>,
+) -> Vec<O>
     // requires all { All IsSome by_number.items }
     // requires empty { outputs.items ≡ [] }
     // requires room { length by_number.items ≤ vec_capacity outputs }
-    // ensures { map Some result.items ≡ by_number.items }
+    // ensures { AreCollected by_number.items [] result.items }
 {
-    for output in by_number {
-        outputs.push_reserved(output.unwrap());
+    for made in by_number {
+        let (output, _) = made.unwrap();
+        outputs.push_reserved(output);
     }
     outputs
 }

@@ -1,8 +1,11 @@
 // Made of crates/ent_runner/src/frame/report.rt by rust/erase. It isn't edited by hand.
 
 use alloc::vec::Vec;
+use crate::handles::OutOfMemory;
 use crate::commands::IssuedCommands;
 use crate::worlds::{SyncFault, Report};
+use core::error::Error;
+use core::fmt;
 
 /// What a frame has done.
 ///
@@ -31,13 +34,14 @@ pub struct FrameReport {
 
 /// Why a frame stopped.
 #[derive(Debug)]
-pub enum FrameFault {
+pub enum FrameFault<E = OutOfMemory> {
     /// Memory ran out before any system ran. The world is as it was.
     Memory,
-    /// A system returned `Memory`, or systems are left and no worker has memory for the queue of
-    /// another one. No command was applied. The handles that the systems reserved stay reserved,
-    /// and no others: the next flush brings them to life, without components.
-    Lost,
+    /// A system returned an error, and this is the first one in the order of the systems. Without
+    /// one, some systems didn't run, since no worker has memory for the queue of another one. No
+    /// command was applied. The handles that the systems reserved stay reserved, and no others:
+    /// the next flush brings them to life, without components.
+    Lost(Option<E>),
     /// All systems ran, and the sync point stopped.
     Sync {
         /// What came of the sync point.
@@ -47,14 +51,16 @@ pub enum FrameFault {
     },
 }
 
-impl core::fmt::Display for FrameFault {
-    fn fmt(&self, f: &mut core::fmt::Formatter<'_>) -> core::fmt::Result {
+impl<E: fmt::Display> fmt::Display for FrameFault<E> {
+    #[inline]
+    fn fmt(&self, f: &mut fmt::Formatter<'_>) -> fmt::Result {
         match self {
-            FrameFault::Memory => write!(f, "out of memory before any system ran"),
-            FrameFault::Lost => write!(f, "out of memory while the systems ran"),
+            FrameFault::Memory => f.write_str("out of memory before any system ran"),
+            FrameFault::Lost(None) => f.write_str("out of memory while the systems ran"),
+            FrameFault::Lost(Some(error)) => write!(f, "a system stopped: {error}"),
             FrameFault::Sync { fault, .. } => write!(f, "the sync point stopped: {fault}"),
         }
     }
 }
 
-impl core::error::Error for FrameFault {}
+impl<E: fmt::Debug + fmt::Display> Error for FrameFault<E> {}

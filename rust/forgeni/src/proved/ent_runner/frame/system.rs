@@ -1,16 +1,19 @@
 // Made of crates/ent_runner/src/frame/system.rt by rust/erase. It isn't edited by hand.
 
 use crate::allocator::Source;
-use crate::handles::OutOfMemory;
 use crate::commands::{IssuedCommands, SystemCommands};
 use crate::worlds::View;
 
-/// A system: it reads the world as the frame began, and issues commands that take effect at the
-/// frame's sync point. `S` is the source of its handles: a shared allocator, or blocks.
+/// A system: it reads the world as it was when the frame began, and issues commands that take
+/// effect at the frame's sync point. `S` is the source of its handles: a shared allocator, or
+/// blocks. `E` is its error.
 ///
-/// One value of it may run on any worker, so what it knows of the world is what the view says. In
+/// One value may run on any worker, so all that it knows of the world is what the view says. In
 /// plain Rust a function is a system, and so is a closure: `system` tells Rust the types of its
-/// parameters. Systems of several types go into one list in boxes, or behind `&dyn System<S>`.
+/// parameters. Systems of several types go into one list in boxes, or behind `&dyn System<S, E>`.
+///
+/// `S` is the source of its handles, and `E` is its error. If `E` is `From<OutOfMemory>` and
+/// `From<ReserveError>`, `?` converts what the calls of `commands` return.
 ///
 /// ```
 /// use forgeni::{run_frame, Handle, OutOfMemory, System, SystemCommands, View, World};
@@ -29,7 +32,7 @@ use crate::worlds::View;
 /// assert!(world.is_empty());
 /// # Ok::<(), Box<dyn std::error::Error>>(())
 /// ```
-pub trait System<S: Source = crate::reserving::SharedSource> {
+pub trait System<S: Source = crate::reserving::SharedSource, E = crate::handles::OutOfMemory> {
     /// Runs it once.
     ///
     /// ```
@@ -54,8 +57,8 @@ pub trait System<S: Source = crate::reserving::SharedSource> {
     ///
     /// # Errors
     ///
-    /// `Memory`, if the system ran out of memory. The whole frame is then lost. Of a shared
-    /// allocator, what the system had reserved stays reserved; in blocks all reservers are dropped.
+    /// The error of the system. The whole frame is then lost. In a shared allocator, what the
+    /// system had reserved stays reserved; in blocks, all reservers are dropped.
     ///
     /// <details><summary>Contract</summary>
     ///
@@ -65,7 +68,8 @@ pub trait System<S: Source = crate::reserving::SharedSource> {
     /// ensures may { [output_of](crate::contracts::ent_queue::commands#output_of) commands.old ≡ \[\]
     /// &#9;→ [OnOk](crate::contracts::logic#OnOk) result (may_issue self.now view.now ([output_of](crate::contracts::ent_queue::commands#output_of) commands.new)) }
     /// ensures leaves { [output_of](crate::contracts::ent_queue::commands#output_of) commands.old ≡ \[\]
-    /// &#9;→ [OnErr](crate::contracts::logic#OnErr) result (may_leave self.now view.now ([output_of](crate::contracts::ent_queue::commands#output_of) commands.new)) }
+    /// &#9;→ [IfErr](crate::contracts::logic#IfErr) result (λ error.
+    /// &#9;may_leave self.now view.now ([output_of](crate::contracts::ent_queue::commands#output_of) commands.new) error) }
     /// </code>
     ///
     /// </details>
@@ -73,5 +77,5 @@ pub trait System<S: Source = crate::reserving::SharedSource> {
         &self,
         view: &View<'_>,
         commands: &mut SystemCommands<'_, IssuedCommands, S>,
-    ) -> Result<(), OutOfMemory>;
+    ) -> Result<(), E>;
 }

@@ -22,11 +22,12 @@ use crate::kit::thread::Join;
 /// # Errors
 ///
 /// [`HandedBack`] has the logs that the sync point did not take, and the first of these errors that
-/// holds. The list is as it was.
+/// applies. The list is as it was.
 ///
 /// - Those of [`run_logs`]. There are no logs.
-/// - [`LogError::Unborn`]: all systems ran, and there is no memory for what is born. The logs are
-///   those of all systems, for [`SyncPoint::begin`]. What the systems reserved stays reserved.
+/// - [`LogError::Unborn`]: all systems ran, and there isn't enough memory for what is born. The
+///   logs are those of all systems, for [`SyncPoint::begin`]. What the systems reserved stays
+///   reserved.
 ///
 /// <details><summary>Contract</summary>
 ///
@@ -44,15 +45,15 @@ use crate::kit::thread::Join;
 /// &#9;× (2 ^ 16 \< [length](crate::contracts::logic#length) systems.now)) }
 /// ensures memory_some { [IsErrAnd](crate::contracts::logic#IsErrAnd) result (λ h. h.error ≡ failed.Memory)
 /// &#9;→ 0 \< [length](crate::contracts::logic#length) systems.now }
-/// ensures nothing { [IfErr](crate::contracts::logic#IfErr) result (λ h. h.error ≢ failed.Lost → h.error ≢ failed.Unborn
-/// &#9;→ entities.new ≡ entities.old) }
+/// ensures nothing { [IfErr](crate::contracts::logic#IfErr) result (λ h. h.error ≢ failed.Unborn
+/// &#9;→ [IfNotLost](crate::contracts::ent_runner::logs#IfNotLost) (entities.new ≡ entities.old) h.error) }
 /// ensures none { [IfErr](crate::contracts::logic#IfErr) result (λ h. h.error ≢ failed.Unborn → h.value.items ≡ \[\]) }
 /// ensures unlisted { [OnErr](crate::contracts::logic#OnErr) result (out.new.items ≡ out.old.items) }
 /// &#32;
 /// // What is left of a run that was broken off.
-/// ensures lost { [IsErrAnd](crate::contracts::logic#IsErrAnd) result (λ h. h.error ≡ failed.Lost) → [IsBrokenOff](crate::contracts::ent_runner::logs#IsBrokenOff) S.may_log S.may_leave
-/// &#9;systems.now workers entities.old.allocator entities.new.allocator }
-/// ensures lost_some { [IsErrAnd](crate::contracts::logic#IsErrAnd) result (λ h. h.error ≡ failed.Lost) → 0 \< [length](crate::contracts::logic#length) systems.now }
+/// ensures lost { [IfErr](crate::contracts::logic#IfErr) result (λ h. [IfLost](crate::contracts::ent_runner::logs#IfLost) ([IsBrokenOff](crate::contracts::ent_runner::logs#IsBrokenOff) S.may_log S.may_leave systems.now workers
+/// &#9;entities.old.allocator entities.new.allocator) h.error) }
+/// ensures lost_some { [IfErr](crate::contracts::logic#IfErr) result (λ h. [IfLost](crate::contracts::ent_runner::logs#IfLost) (λ \_. 0 \< [length](crate::contracts::logic#length) systems.now) h.error) }
 /// &#32;
 /// // What holds if only what was reserved isn\'t born.
 /// ensures unborn { [IfErr](crate::contracts::logic#IfErr) result (λ h. h.error ≡ failed.Unborn → [HaveLogged](crate::contracts::ent_runner::logs#HaveLogged) S.may_log systems.now
@@ -66,17 +67,18 @@ use crate::kit::thread::Join;
 ///
 /// </details>
 #[inline]
-pub fn run_to_sync_point<R, C, S>(
+pub fn run_to_sync_point<R, C, S, E>(
     rt: &R,
     entities: &mut Entities,
     systems: &[S],
     workers: usize,
     out: &mut Vec<Handle>,
-) -> Result<SyncPoint<C>, HandedBack<Vec<Log<C>>, LogError>>
+) -> Result<SyncPoint<C>, HandedBack<Vec<Log<C>>, LogError<E>>>
 where
     R: Join + Sync,
     C: Send,
-    S: LogSystem<C, SharedSource> + Sync,
+    S: LogSystem<C, SharedSource, E> + Sync,
+    E: Send,
 {
     let mut logs = match run_logs(rt, entities, systems, workers) {
         Ok(logs) => logs,

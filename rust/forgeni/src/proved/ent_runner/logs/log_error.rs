@@ -1,6 +1,10 @@
 // Made of crates/ent_runner/src/logs/log_error.rt by rust/erase. It isn't edited by hand.
 
-/// Why systems filled no logs. The allocator is in its place again.
+use crate::handles::OutOfMemory;
+use core::error::Error;
+use core::fmt;
+
+/// Why a run of systems returned no logs. The allocator is back in its place.
 ///
 /// ```
 /// use forgeni::{run_logs, Entities, LogCommands, LogError, OutOfMemory};
@@ -19,7 +23,7 @@
 /// ```
 #[non_exhaustive]
 #[derive(Clone, Copy, Debug, PartialEq, Eq, Hash)]
-pub enum LogError {
+pub enum LogError<E = OutOfMemory> {
     /// Handles were requested since the last flush. No system ran, and the allocator is as it was.
     NeedsFlush,
     /// The number of workers isn't one from 1 to 64. No system ran, and the allocator is as it was.
@@ -28,26 +32,29 @@ pub enum LogError {
     Systems,
     /// Memory ran out before any system ran. The allocator is as it was.
     Memory,
-    /// A system returned an error, or systems are left and no worker has memory for the log of
-    /// another one. The logs are dropped. The handles that the systems reserved stay reserved, and
-    /// no others: the next flush brings them to life.
-    Lost,
-    /// All systems ran, and there is no memory for what is born. The handles that they reserved
-    /// stay reserved, and no others. `run_logs` never returns it.
+    /// A system returned an error, and this is the first one in the order of the systems. Without
+    /// one, some systems didn't run, since no worker has memory for the log of another one. The
+    /// logs are dropped. The handles that the systems reserved stay reserved, and no others: the
+    /// next flush brings them to life.
+    Lost(Option<E>),
+    /// All systems ran, and there isn't enough memory for what is born. The handles that they
+    /// reserved stay reserved, and no others. `run_logs` never returns it.
     Unborn,
 }
 
-impl core::fmt::Display for LogError {
-    fn fmt(&self, f: &mut core::fmt::Formatter<'_>) -> core::fmt::Result {
+impl<E: fmt::Display> fmt::Display for LogError<E> {
+    #[inline]
+    fn fmt(&self, f: &mut fmt::Formatter<'_>) -> fmt::Result {
         match self {
-            LogError::NeedsFlush => write!(f, "a flush is needed first"),
-            LogError::Workers => write!(f, "systems have 1 to 64 workers"),
-            LogError::Systems => write!(f, "at most 65,536 systems run together"),
-            LogError::Memory => write!(f, "out of memory before any system ran"),
-            LogError::Lost => write!(f, "out of memory while the systems ran"),
-            LogError::Unborn => write!(f, "out of memory for what is born"),
+            LogError::NeedsFlush => f.write_str("a flush is needed first"),
+            LogError::Workers => f.write_str("systems have 1 to 64 workers"),
+            LogError::Systems => f.write_str("at most 65,536 systems run together"),
+            LogError::Memory => f.write_str("out of memory before any system ran"),
+            LogError::Lost(None) => f.write_str("out of memory while the systems ran"),
+            LogError::Lost(Some(error)) => write!(f, "a system stopped: {error}"),
+            LogError::Unborn => f.write_str("out of memory for what is born"),
         }
     }
 }
 
-impl core::error::Error for LogError {}
+impl<E: fmt::Debug + fmt::Display> Error for LogError<E> {}

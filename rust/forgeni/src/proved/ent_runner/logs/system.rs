@@ -1,14 +1,14 @@
 // Made of crates/ent_runner/src/logs/system.rt by rust/erase. It isn't edited by hand.
 
 use crate::allocator::Source;
-use crate::handles::OutOfMemory;
 use crate::logs::Log;
 use crate::commands::SystemCommands;
 
-/// A system that fills a log. `C` is the caller's type of commands, and `S` the source of the
-/// handles: a shared allocator, or blocks.
+/// A system that fills a log. `C` is the caller's type of commands, `S` is the source of the
+/// handles, a shared allocator or blocks, and `E` is the system's error. If `E` is
+/// `From<OutOfMemory>` and `From<ReserveError>`, `?` converts what the calls of `commands` return.
 ///
-/// One value of it may run on any worker.
+/// One value may run on any worker.
 ///
 /// ```
 /// use forgeni::{run_logs, Entities, Entry, LogCommands, LogSystem, OutOfMemory};
@@ -25,7 +25,7 @@ use crate::commands::SystemCommands;
 /// assert_eq!(logs[1].entries(), [Entry::Command("two")]);
 /// # Ok::<(), Box<dyn std::error::Error>>(())
 /// ```
-pub trait LogSystem<C, S: Source = crate::reserving::SharedSource> {
+pub trait LogSystem<C, S: Source = crate::reserving::SharedSource, E = crate::handles::OutOfMemory> {
     /// Runs it once.
     ///
     /// ```
@@ -45,8 +45,8 @@ pub trait LogSystem<C, S: Source = crate::reserving::SharedSource> {
     ///
     /// # Errors
     ///
-    /// `Memory`, if the system ran out of memory. All logs are then dropped. Of a shared allocator,
-    /// what the systems had reserved stays reserved; in blocks all reservers are dropped.
+    /// The error of the system. All logs are then dropped. In a shared allocator, what the systems
+    /// had reserved stays reserved; in blocks, all reservers are dropped.
     ///
     /// <details><summary>Contract</summary>
     ///
@@ -56,9 +56,9 @@ pub trait LogSystem<C, S: Source = crate::reserving::SharedSource> {
     /// ensures may { [output_of](crate::contracts::ent_queue::commands#output_of) commands.old ≡ \[\]
     /// &#9;→ [OnOk](crate::contracts::logic#OnOk) result (may_log self.now ([output_of](crate::contracts::ent_queue::commands#output_of) commands.new)) }
     /// ensures leaves { [output_of](crate::contracts::ent_queue::commands#output_of) commands.old ≡ \[\]
-    /// &#9;→ [OnErr](crate::contracts::logic#OnErr) result (may_leave self.now ([output_of](crate::contracts::ent_queue::commands#output_of) commands.new)) }
+    /// &#9;→ [IfErr](crate::contracts::logic#IfErr) result (λ error. may_leave self.now ([output_of](crate::contracts::ent_queue::commands#output_of) commands.new) error) }
     /// </code>
     ///
     /// </details>
-    fn run(&self, commands: &mut SystemCommands<'_, Log<C>, S>) -> Result<(), OutOfMemory>;
+    fn run(&self, commands: &mut SystemCommands<'_, Log<C>, S>) -> Result<(), E>;
 }

@@ -5,7 +5,7 @@ use crate::kit::vec::FallibleVec;
 use crate::components::handle_map::slot::Slot;
 use crate::handles::Handle;
 
-/// Moves all values to the end of a list that has room for them, by rising slot. There are so many.
+/// Moves all values to the end of a list that has room for them, in slot order. There are so many.
 #[inline]
 pub(super) fn move_values<T>(slots: Vec<Slot<T>>, len: usize, out: &mut Vec<(Handle, T)>)
     // requires counted { AreCounted 0 slots.items len }

@@ -4,9 +4,9 @@ use crate::components::handle_map::{HandleMap, InsertError};
 use crate::handles::{HandedBack, Handle};
 use core::mem;
 
-/// What a map has for one handle: a value, or none.
+/// A view into the entry of one handle in a map, which is occupied or vacant.
 ///
-/// [`HandleMap::entry`](super::HandleMap::entry) makes it, and an example is there.
+/// It is created by [`HandleMap::entry`](super::HandleMap::entry), which has an example.
 ///
 /// ```
 /// use forgeni::handle_map::{Entry, HandleMap};
@@ -26,7 +26,7 @@ pub enum Entry<'a, T> {
     Vacant(VacantEntry<'a, T>),
 }
 
-/// A handle that has a value, with its map.
+/// A view into an occupied entry: a handle that has a value, and its map.
 ///
 /// ```
 /// use forgeni::handle_map::{Entry, HandleMap};
@@ -48,7 +48,7 @@ pub struct OccupiedEntry<'a, T> {
     pub(super) handle: Handle,
 }
 
-/// A handle that has no value, with its map.
+/// A view into a vacant entry: a handle that has no value, and its map.
 ///
 /// ```
 /// use forgeni::handle_map::{Entry, HandleMap};
@@ -67,14 +67,14 @@ pub struct VacantEntry<'a, T> {
 }
 
 impl<'a, T> Entry<'a, T> {
-    /// The handle.
+    /// Returns the handle.
     ///
     /// ```
     /// use forgeni::HandleMap;
     ///
     /// let mut names: HandleMap<String> = HandleMap::new();
     /// let entry = names.entry("3v2".parse()?);
-    /// // A name for whoever has none.
+    /// // A name for an entity that has none.
     /// let name = format!("entity {}", entry.handle());
     /// assert_eq!(entry.or_insert(name)?, "entity 3v2");
     /// # Ok::<(), Box<dyn std::error::Error>>(())
@@ -96,7 +96,8 @@ impl<'a, T> Entry<'a, T> {
         }
     }
 
-    /// The value of the handle. If it has none, it is given this one.
+    /// Returns a mutable reference to the handle's value. If the handle has none, it gets this one
+    /// first.
     ///
     /// ```
     /// use forgeni::HandleMap;
@@ -134,7 +135,8 @@ impl<'a, T> Entry<'a, T> {
         }
     }
 
-    /// The value of the handle. If it has none, it is given the one that `make` returns.
+    /// Returns a mutable reference to the handle's value. If the handle has none, it first gets the
+    /// one that `make` returns.
     ///
     /// ```
     /// use forgeni::HandleMap;
@@ -154,7 +156,7 @@ impl<'a, T> Entry<'a, T> {
     ///
     /// # Panics
     ///
-    /// A panic of `make` is handed on. Nothing has changed.
+    /// A panic in `make` is propagated. Nothing has changed.
     ///
     /// <details><summary>Contract</summary>
     ///
@@ -198,7 +200,8 @@ impl<'a, T> Entry<'a, T> {
     ///
     /// # Panics
     ///
-    /// A panic of `change` is handed on. The value stays, as far as `change` had changed it.
+    /// A panic in `change` is propagated. The value stays, with the changes that `change` had made
+    /// to it.
     ///
     /// <details><summary>Contract</summary>
     ///
@@ -225,7 +228,18 @@ impl<'a, T> Entry<'a, T> {
 }
 
 impl<'a, T> OccupiedEntry<'a, T> {
-    /// The handle.
+    /// Returns the handle.
+    ///
+    /// ```
+    /// use forgeni::handle_map::{Entry, HandleMap};
+    ///
+    /// let cart = "3v2".parse()?;
+    /// let mut names = HandleMap::from([(cart, "cart")]);
+    /// if let Entry::Occupied(entry) = names.entry(cart) {
+    ///     assert_eq!(entry.handle(), cart);
+    /// }
+    /// # Ok::<(), forgeni::ParseHandleError>(())
+    /// ```
     ///
     /// <details><summary>Contract</summary>
     ///
@@ -240,7 +254,18 @@ impl<'a, T> OccupiedEntry<'a, T> {
         self.handle
     }
 
-    /// The value.
+    /// Returns a reference to the value.
+    ///
+    /// ```
+    /// use forgeni::handle_map::{Entry, HandleMap};
+    ///
+    /// let cart = "3v2".parse()?;
+    /// let mut names = HandleMap::from([(cart, "cart")]);
+    /// if let Entry::Occupied(entry) = names.entry(cart) {
+    ///     assert_eq!(entry.get(), &"cart");
+    /// }
+    /// # Ok::<(), forgeni::ParseHandleError>(())
+    /// ```
     ///
     /// <details><summary>Contract</summary>
     ///
@@ -258,7 +283,19 @@ impl<'a, T> OccupiedEntry<'a, T> {
         value
     }
 
-    /// The value, to be changed.
+    /// Returns a mutable reference to the value.
+    ///
+    /// ```
+    /// use forgeni::handle_map::{Entry, HandleMap};
+    ///
+    /// let cart = "3v2".parse()?;
+    /// let mut hits = HandleMap::from([(cart, 3)]);
+    /// if let Entry::Occupied(mut entry) = hits.entry(cart) {
+    ///     *entry.get_mut() += 1;
+    /// }
+    /// assert_eq!(hits[cart], 4);
+    /// # Ok::<(), forgeni::ParseHandleError>(())
+    /// ```
     ///
     /// <details><summary>Contract</summary>
     ///
@@ -276,7 +313,8 @@ impl<'a, T> OccupiedEntry<'a, T> {
         self.map.value_mut(handle)
     }
 
-    /// The value, to be changed for as long as the map is lent.
+    /// Converts the entry into a mutable reference to the value, which lives as long as the borrow
+    /// of the map.
     ///
     /// ```
     /// use forgeni::handle_map::{Entry, HandleMap};
@@ -375,7 +413,17 @@ impl<'a, T> OccupiedEntry<'a, T> {
 }
 
 impl<'a, T> VacantEntry<'a, T> {
-    /// The handle.
+    /// Returns the handle.
+    ///
+    /// ```
+    /// use forgeni::handle_map::{Entry, HandleMap};
+    ///
+    /// let mut names: HandleMap<&str> = HandleMap::new();
+    /// if let Entry::Vacant(entry) = names.entry("3v2".parse()?) {
+    ///     assert_eq!(entry.handle().index(), 3);
+    /// }
+    /// # Ok::<(), forgeni::ParseHandleError>(())
+    /// ```
     ///
     /// <details><summary>Contract</summary>
     ///

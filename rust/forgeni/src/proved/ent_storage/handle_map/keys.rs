@@ -3,9 +3,10 @@
 use crate::components::handle_map::iter::Iter;
 use crate::handles::Handle;
 
-/// The handles of a map that have a value, by rising slot.
+/// An iterator over the handles of a map that have a value, in slot order.
 ///
-/// [`HandleMap::keys`](super::HandleMap::keys) makes it. It borrows the map and copies nothing.
+/// It is created by [`HandleMap::keys`](super::HandleMap::keys). It borrows the map and copies
+/// nothing.
 ///
 /// ```
 /// use forgeni::{Entities, HandleMap};
@@ -33,7 +34,7 @@ impl<'a, T> Keys<'a, T> {
         Keys { entries }
     }
 
-    /// The same handles once more. It takes no memory.
+    /// The same handles once more. It doesn't allocate.
     #[inline]
     fn again(&self) -> Self
         // ensures { result ≡ self.now }

@@ -4,7 +4,7 @@ use alloc::vec::Vec;
 use crate::components::handle_map::slot::Slot;
 use crate::handles::Handle;
 
-/// Calls `keep` at each value, by rising slot. Where it returns `false`, the slot is vacant then.
+/// Calls `keep` at each value, in slot order. Where it returns `false`, the slot is vacant then.
 /// `len` is always how many values there are.
 #[inline]
 pub(super) fn retain_slots<T, F: FnMut(Handle, &mut T) -> bool>(

@@ -2,9 +2,10 @@
 
 use crate::components::handle_map::iter::Iter;
 
-/// The values of a map, by rising slot.
+/// An iterator over the values of a map, in slot order.
 ///
-/// [`HandleMap::values`](super::HandleMap::values) makes it. It borrows the map and copies nothing.
+/// It is created by [`HandleMap::values`](super::HandleMap::values). It borrows the map and copies
+/// nothing.
 ///
 /// ```
 /// use forgeni::HandleMap;
@@ -29,7 +30,7 @@ impl<'a, T> Values<'a, T> {
         Values { entries }
     }
 
-    /// The same values once more. It takes no memory.
+    /// The same values once more. It doesn't allocate.
     #[inline]
     fn again(&self) -> Self
         // ensures { result ≡ self.now }

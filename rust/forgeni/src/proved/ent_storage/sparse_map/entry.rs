@@ -5,9 +5,9 @@ use crate::components::sparse_map::SparseMap;
 use crate::handles::{HandedBack, Handle};
 use core::mem;
 
-/// What a sparse map has for one handle: a value, or none.
+/// A view into the entry of one handle in a sparse map, which is occupied or vacant.
 ///
-/// [`SparseMap::entry`](super::SparseMap::entry) makes it.
+/// It is created by [`SparseMap::entry`](super::SparseMap::entry).
 ///
 /// ```
 /// use forgeni::sparse_map::{Entry, SparseMap};
@@ -27,7 +27,7 @@ pub enum Entry<'a, T> {
     Vacant(VacantEntry<'a, T>),
 }
 
-/// A handle that has a value, with its map.
+/// A view into an occupied entry: a handle that has a value, and its map.
 ///
 /// ```
 /// use forgeni::sparse_map::{Entry, SparseMap};
@@ -49,7 +49,7 @@ pub struct OccupiedEntry<'a, T> {
     pub(super) handle: Handle,
 }
 
-/// A handle that has no value, with its map.
+/// A view into a vacant entry: a handle that has no value, and its map.
 ///
 /// ```
 /// use forgeni::sparse_map::{Entry, SparseMap};
@@ -68,14 +68,14 @@ pub struct VacantEntry<'a, T> {
 }
 
 impl<'a, T> Entry<'a, T> {
-    /// The handle.
+    /// Returns the handle.
     ///
     /// ```
     /// use forgeni::SparseMap;
     ///
     /// let mut names: SparseMap<String> = SparseMap::new();
     /// let entry = names.entry("3v2".parse()?);
-    /// // A name for whoever has none.
+    /// // A name for an entity that has none.
     /// let name = format!("entity {}", entry.handle());
     /// assert_eq!(entry.or_insert(name)?, "entity 3v2");
     /// # Ok::<(), Box<dyn std::error::Error>>(())
@@ -97,7 +97,8 @@ impl<'a, T> Entry<'a, T> {
         }
     }
 
-    /// The value of the handle. If it has none, it is given this one.
+    /// Returns a mutable reference to the handle's value. If the handle has none, it gets this one
+    /// first.
     ///
     /// ```
     /// use forgeni::SparseMap;
@@ -135,7 +136,8 @@ impl<'a, T> Entry<'a, T> {
         }
     }
 
-    /// The value of the handle. If it has none, it is given the one that `make` returns.
+    /// Returns a mutable reference to the handle's value. If the handle has none, it first gets the
+    /// one that `make` returns.
     ///
     /// ```
     /// use forgeni::SparseMap;
@@ -155,7 +157,7 @@ impl<'a, T> Entry<'a, T> {
     ///
     /// # Panics
     ///
-    /// A panic of `make` is handed on. Nothing has changed.
+    /// A panic in `make` is propagated. Nothing has changed.
     ///
     /// <details><summary>Contract</summary>
     ///
@@ -199,7 +201,8 @@ impl<'a, T> Entry<'a, T> {
     ///
     /// # Panics
     ///
-    /// A panic of `change` is handed on. The value stays, as far as `change` had changed it.
+    /// A panic in `change` is propagated. The value stays, with the changes that `change` had made
+    /// to it.
     ///
     /// <details><summary>Contract</summary>
     ///
@@ -226,7 +229,18 @@ impl<'a, T> Entry<'a, T> {
 }
 
 impl<'a, T> OccupiedEntry<'a, T> {
-    /// The handle.
+    /// Returns the handle.
+    ///
+    /// ```
+    /// use forgeni::sparse_map::{Entry, SparseMap};
+    ///
+    /// let cart = "3v2".parse()?;
+    /// let mut names = SparseMap::from([(cart, "cart")]);
+    /// if let Entry::Occupied(entry) = names.entry(cart) {
+    ///     assert_eq!(entry.handle(), cart);
+    /// }
+    /// # Ok::<(), forgeni::ParseHandleError>(())
+    /// ```
     ///
     /// <details><summary>Contract</summary>
     ///
@@ -241,7 +255,18 @@ impl<'a, T> OccupiedEntry<'a, T> {
         self.handle
     }
 
-    /// The value.
+    /// Returns a reference to the value.
+    ///
+    /// ```
+    /// use forgeni::sparse_map::{Entry, SparseMap};
+    ///
+    /// let cart = "3v2".parse()?;
+    /// let mut names = SparseMap::from([(cart, "cart")]);
+    /// if let Entry::Occupied(entry) = names.entry(cart) {
+    ///     assert_eq!(entry.get(), &"cart");
+    /// }
+    /// # Ok::<(), forgeni::ParseHandleError>(())
+    /// ```
     ///
     /// <details><summary>Contract</summary>
     ///
@@ -259,7 +284,19 @@ impl<'a, T> OccupiedEntry<'a, T> {
         value
     }
 
-    /// The value, to be changed.
+    /// Returns a mutable reference to the value.
+    ///
+    /// ```
+    /// use forgeni::sparse_map::{Entry, SparseMap};
+    ///
+    /// let cart = "3v2".parse()?;
+    /// let mut hits = SparseMap::from([(cart, 3)]);
+    /// if let Entry::Occupied(mut entry) = hits.entry(cart) {
+    ///     *entry.get_mut() += 1;
+    /// }
+    /// assert_eq!(hits[cart], 4);
+    /// # Ok::<(), forgeni::ParseHandleError>(())
+    /// ```
     ///
     /// <details><summary>Contract</summary>
     ///
@@ -277,7 +314,8 @@ impl<'a, T> OccupiedEntry<'a, T> {
         self.map.value_mut(handle)
     }
 
-    /// The value, to be changed for as long as the map is lent.
+    /// Converts the entry into a mutable reference to the value, which lives as long as the borrow
+    /// of the map.
     ///
     /// ```
     /// use forgeni::sparse_map::{Entry, SparseMap};
@@ -376,7 +414,17 @@ impl<'a, T> OccupiedEntry<'a, T> {
 }
 
 impl<'a, T> VacantEntry<'a, T> {
-    /// The handle.
+    /// Returns the handle.
+    ///
+    /// ```
+    /// use forgeni::sparse_map::{Entry, SparseMap};
+    ///
+    /// let mut names: SparseMap<&str> = SparseMap::new();
+    /// if let Entry::Vacant(entry) = names.entry("3v2".parse()?) {
+    ///     assert_eq!(entry.handle().index(), 3);
+    /// }
+    /// # Ok::<(), forgeni::ParseHandleError>(())
+    /// ```
     ///
     /// <details><summary>Contract</summary>
     ///

@@ -2,9 +2,10 @@
 
 use crate::handles::Handle;
 
-/// The handles and values of a sparse map, in no particular order.
+/// An iterator over the handles and values of a sparse map, in no particular order.
 ///
-/// [`SparseMap::iter`](super::SparseMap::iter) makes it. It borrows the map and copies nothing.
+/// It is created by [`SparseMap::iter`](super::SparseMap::iter). It borrows the map and copies
+/// nothing.
 ///
 /// ```
 /// use forgeni::{Handle, SparseMap};
@@ -28,7 +29,7 @@ impl<'a, T> Iter<'a, T> {
         Iter { entries }
     }
 
-    /// The same entries once more. It takes no memory.
+    /// The same entries once more. It doesn't allocate.
     #[inline]
     fn again(&self) -> Self
         // ensures { result ≡ self.now }

@@ -1,7 +1,8 @@
-use Rattle.ent_blocks.proofs.Common.{rules, ◌≡◌, ◌∙◌, ◌-◌, ◌∷◌, ◌++◌, ap, arith, length, map}
-use Rattle.ent_blocks.proofs.Common.{All-cons, given_in, dealt, unused, records_of, IsPhase}
+use Rattle.ent_blocks.proofs.Common.{rules, sym, ◌≡◌, ◌∙◌, ◌-◌, ◌∷◌, ◌++◌, ap, arith, length, map}
+use Rattle.ent_blocks.proofs.Common.{All-cons, Caller, are_among, given_in, length-map, true, dealt}
+use Rattle.ent_blocks.proofs.Common.{unused, records_of, IsPhase}
 use Rattle.ent_blocks.proofs.Common.{Overflow, own_blocks, past_of, past_history, past_block}
-use Rattle.ent_blocks.proofs.Accounts.{all_here}
+use Rattle.ent_blocks.proofs.Accounts.{all_accounted, all_here, unused_accounted}
 use Rattle.ent_blocks.proofs.PastClosings.{Closed, Ending, own_past, ending}
 use Rattle.ent_blocks.proofs.PastEndings.{ends_laid, ends_dealt}
 use Rattle.ent_blocks.proofs.overflow.phase.Overflow.close.Goals as goal
@@ -26,7 +27,13 @@ before_is c = c.dealt-before.ensures ∙ ap dealt c.deref.ensures.value
 
 all_are : (c : After-close-entities)
     → map unused (own_blocks c.args.callers.items) ≡ c.args.self.blocks
-all_are c = search rules
+all_are c =
+    let blocks = own_blocks c.args.callers.items in
+    let among : are_among c.args.self.blocks blocks ≡ true = c.requires.among in
+    let callers = length-map c.args.callers.items (λ (d : Caller). d.block) in
+    let here = all_accounted c.args.self.blocks blocks among (callers ∙ c.requires.all) in
+    let phase : IsPhase c.args.self.shared c.args.self.dealer c.args.self.blocks = search rules in
+    ap (map unused) (sym here) ∙ unused_accounted 0 c.args.self.blocks blocks phase.lie.laid
 
 ends_are : (c : After-close-entities)
     → c.account.new.all.items ++ past_block c.dealt-before.result
@@ -41,6 +48,11 @@ ends_are c =
     ≡ length (given_in (past_history c.args.callers.items)) =
     omega (arith, before, (known c).taken) in
     λ i. first i ++ past_block (before i) (given i)
+
+pub take_past-requires : goal.take_past-requires
+take_past-requires c =
+    let dealt = ap (λ (p : Overflow). length p.blocks) c.self.view_is in
+    search (rules, dealt)
 
 pub close-entities-requires-clause-own : goal.close-entities-requires-clause-own
 close-entities-requires-clause-own c =
@@ -58,6 +70,9 @@ finish-requires c =
     let all = all_are at in
     search
     (rules, arith, k.asked, k.taken, k.back, k.within, before, lie, ends, ends_laid, ends_dealt)
+
+pub returns-clause-all : goal.returns-clause-all
+returns-clause-all c = all_are (goal.at.returns-clause-all c).After-close-entities
 
 pub returns-clause-start : goal.returns-clause-start
 returns-clause-start c =

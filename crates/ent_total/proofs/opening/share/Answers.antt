@@ -1,6 +1,0 @@
-use Rattle.ent_total.proofs.Common.{rules}
-use Rattle.ent_total.proofs.Unused.{nothing-reserved}
-use Rattle.ent_total.proofs.opening.share.Goals as goal
-
-pub returns-in-Err-new-clause-handed_back : goal.returns-in-Err-new-clause-handed_back
-returns-in-Err-new-clause-handed_back g c = search (rules, nothing-reserved)

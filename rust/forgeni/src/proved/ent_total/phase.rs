@@ -1,0 +1,386 @@
+// Made of crates/ent_total/src/phase.rt by rust/erase. It isn't edited by hand.
+
+use alloc::vec::Vec;
+use crate::kit::vec::FallibleVec;
+use crate::phases::reserver::Reserver;
+use crate::phases::returning::bring_back;
+use crate::allocator::{Living, Phased};
+use crate::handles::{Handle, OutOfMemory};
+use crate::reserving::SharedSource;
+use crate::kit::sync::Arc;
+
+/// An allocator in a phase: its reservers can reserve, and the phase ends when they come back.
+/// [`Entities::share`](crate::Entities::share) opens it, with its reservers. `S` is the source of
+/// their handles.
+///
+/// The allocator is inside the phase, so nothing but reservations can happen until
+/// [`close`](Self::close) gives it back. If the `Phase` is dropped, the allocator is dropped with
+/// the last of the reservers.
+///
+/// It is `Send` and `Sync`: any thread may read it.
+///
+/// ```
+/// use forgeni::Entities;
+///
+/// let mut entities = Entities::new();
+/// let old = entities.alloc()?;
+/// let (shared, mut reservers) = entities.share(4)?;
+/// std::thread::scope(|scope| {
+///     for reserver in &mut reservers {
+///         scope.spawn(|| shared.is_alive(old) && reserver.reserve().is_ok());
+///     }
+/// });
+/// let mut entities = shared.close(reservers)?;
+/// entities.flush(&mut Vec::new())?;
+/// assert_eq!(entities.len(), 5);
+/// # Ok::<(), Box<dyn std::error::Error>>(())
+/// ```
+#[must_use]
+pub struct Phase<S: Phased = SharedSource> {
+    source: Arc<S>,
+    returned: Vec<S::Reserver>,
+    number: u64,
+}
+
+/// # Looking at entities
+impl<S: Phased> Phase<S> {
+    /// Returns `true` if the entity was alive when the phase was opened. That doesn't change until
+    /// the close: what is reserved comes to life after it, and nothing is freed before. Any thread
+    /// may call it, and it takes constant time.
+    ///
+    /// ```
+    /// use forgeni::Entities;
+    ///
+    /// let mut entities = Entities::new();
+    /// let old = entities.alloc()?;
+    /// entities.try_set_row(old, 3)?;
+    /// entities.phase(1, |shared, reservers| {
+    ///     let new = reservers[0].reserve().expect("a handle");
+    ///     assert!(shared.is_alive(old) && !shared.is_alive(new));
+    ///     assert_eq!((shared.row(old), shared.row(new)), (Some(3), None));
+    /// })?;
+    /// # Ok::<(), Box<dyn std::error::Error + Send + Sync>>(())
+    /// ```
+    ///
+    /// <details><summary>Contract</summary>
+    ///
+    /// <code style="display: block; tab-size: 4; white-space: pre-wrap">// In the words of [contracts](crate::contracts):
+    /// ensures { result ≡ [set.contains](crate::contracts::logic#FinSet.contains) (S.start self.now.source).live handle }
+    /// </code>
+    ///
+    /// </details>
+    #[must_use]
+    #[inline]
+    pub fn is_alive(&self, handle: Handle) -> bool {
+        self.source.as_opened().is_alive(handle)
+    }
+
+    /// Returns an iterator over the entities that were alive when the phase was opened, in slot
+    /// order.
+    ///
+    /// ```
+    /// use forgeni::Entities;
+    ///
+    /// let mut entities = Entities::new();
+    /// let old = entities.alloc()?;
+    /// let (shared, mut reservers) = entities.share(1)?;
+    /// let new = reservers[0].reserve()?;
+    /// assert_eq!(shared.iter().collect::<Vec<_>>(), [old]);
+    /// # Ok::<(), Box<dyn std::error::Error + Send + Sync>>(())
+    /// ```
+    ///
+    /// <details><summary>Contract</summary>
+    ///
+    /// <code style="display: block; tab-size: 4; white-space: pre-wrap">// In the words of [contracts](crate::contracts):
+    /// ensures living { [set.from_list](crate::contracts::logic#FinSet.from_list) result ≡ (S.start self.now.source).live }
+    /// ensures rising { [AllPairs](crate::contracts::logic#AllPairs) (λ g h. g.index \< h.index) result }
+    /// ensures count { [length](crate::contracts::logic#length) result ≡ [set.len](crate::contracts::logic#FinSet.len) (S.start self.now.source).live }
+    /// </code>
+    ///
+    /// </details>
+    #[must_use]
+    #[inline]
+    pub fn iter(&self) -> Living<'_> {
+        self.source.as_opened().iter()
+    }
+
+    /// Returns the number of entities that were alive when the phase was opened.
+    ///
+    /// ```
+    /// use forgeni::Entities;
+    ///
+    /// let mut entities = Entities::new();
+    /// entities.alloc()?;
+    /// let (shared, mut reservers) = entities.share(1)?;
+    /// reservers[0].reserve_many(10)?;
+    /// assert_eq!(shared.len(), 1);
+    /// # Ok::<(), Box<dyn std::error::Error>>(())
+    /// ```
+    ///
+    /// <details><summary>Contract</summary>
+    ///
+    /// <code style="display: block; tab-size: 4; white-space: pre-wrap">// In the words of [contracts](crate::contracts):
+    /// ensures { result ≡ [set.len](crate::contracts::logic#FinSet.len) (S.start self.now.source).live }
+    /// </code>
+    ///
+    /// </details>
+    #[must_use]
+    #[inline]
+    pub fn len(&self) -> u32 {
+        self.source.as_opened().len()
+    }
+
+    /// Returns `true` if no entity was alive when the phase was opened.
+    ///
+    /// ```
+    /// use forgeni::Entities;
+    ///
+    /// let (shared, mut reservers) = Entities::new().share(1)?;
+    /// let first = reservers[0].reserve()?;
+    /// // It is reserved, but not alive yet.
+    /// assert!(shared.is_empty() && !shared.is_alive(first));
+    /// # Ok::<(), Box<dyn std::error::Error>>(())
+    /// ```
+    ///
+    /// <details><summary>Contract</summary>
+    ///
+    /// <code style="display: block; tab-size: 4; white-space: pre-wrap">// In the words of [contracts](crate::contracts):
+    /// ensures { [IsTrue](crate::contracts::logic#IsTrue) result ↔ ([set.len](crate::contracts::logic#FinSet.len) (S.start self.now.source).live ≡ 0) }
+    /// </code>
+    ///
+    /// </details>
+    #[must_use]
+    #[inline]
+    pub fn is_empty(&self) -> bool {
+        self.source.as_opened().is_empty()
+    }
+
+    /// Returns the row that the entity had ([`try_set_row`](crate::Entities::try_set_row)) when
+    /// the phase was opened, or `None` if it wasn't alive then or had no row. Any thread may call
+    /// it, and it takes constant time.
+    ///
+    /// ```
+    /// use forgeni::Entities;
+    ///
+    /// let mut entities = Entities::new();
+    /// let (cart, horse) = (entities.alloc()?, entities.alloc()?);
+    /// entities.try_set_row(cart, 7)?;
+    /// let (shared, _reservers) = entities.share(1)?;
+    /// assert_eq!((shared.row(cart), shared.row(horse)), (Some(7), None));
+    /// # Ok::<(), Box<dyn std::error::Error>>(())
+    /// ```
+    ///
+    /// <details><summary>Contract</summary>
+    ///
+    /// <code style="display: block; tab-size: 4; white-space: pre-wrap">// In the words of [contracts](crate::contracts):
+    /// ensures value { result ≡ [map.get](crate::contracts::logic#FinMap.get) (S.rows self.now.source) handle }
+    /// ensures alive { [OnSome](crate::contracts::logic#OnSome) result ([set.contains](crate::contracts::logic#FinSet.contains) (S.start self.now.source).live handle ≡ [true](crate::contracts::logic#true)) }
+    /// </code>
+    ///
+    /// </details>
+    #[must_use]
+    #[inline]
+    pub fn row(&self, handle: Handle) -> Option<u32> {
+        self.source.as_opened().row(handle)
+    }
+}
+
+/// # Its reservers
+impl<S: Phased> Phase<S> {
+    /// Returns the number of reservers that the phase was opened with, whether they exist, have
+    /// come back, or were lost.
+    ///
+    /// ```
+    /// use forgeni::Entities;
+    ///
+    /// let (shared, mut reservers) = Entities::new().share(4)?;
+    /// drop(reservers.pop());
+    /// // A lost one counts too.
+    /// assert_eq!((shared.count(), reservers.len()), (4, 3));
+    /// # Ok::<(), Box<dyn std::error::Error>>(())
+    /// ```
+    ///
+    /// <details><summary>Contract</summary>
+    ///
+    /// <code style="display: block; tab-size: 4; white-space: pre-wrap">// In the words of [contracts](crate::contracts):
+    /// ensures { result ≡ S.count self.now.source }
+    /// </code>
+    ///
+    /// </details>
+    #[must_use]
+    #[inline]
+    pub fn count(&self) -> usize {
+        self.source.callers()
+    }
+
+    /// Returns the number of reservers that have come back: those that a refused close took.
+    ///
+    /// ```
+    /// use forgeni::{CloseError, Entities};
+    ///
+    /// let (shared, mut reservers) = Entities::new().share(2)?;
+    /// let late = reservers.pop();
+    /// let refused = shared.close_lost(reservers).err().ok_or("it was closed")?;
+    /// let ((shared, _), error) = refused.into_parts();
+    /// assert_eq!((error, shared.returned()), (CloseError::InUse, 1));
+    /// drop(late);
+    /// # Ok::<(), Box<dyn std::error::Error>>(())
+    /// ```
+    ///
+    /// <details><summary>Contract</summary>
+    ///
+    /// <code style="display: block; tab-size: 4; white-space: pre-wrap">// In the words of [contracts](crate::contracts):
+    /// ensures { result ≡ [length](crate::contracts::logic#length) self.now.returned }
+    /// </code>
+    ///
+    /// </details>
+    #[must_use]
+    #[inline]
+    pub fn returned(&self) -> usize {
+        self.returned.len()
+    }
+
+    /// Hands out the last of the reservers that have come back, or returns `None` if there is none.
+    /// It doesn't allocate.
+    ///
+    /// ```
+    /// use forgeni::Entities;
+    ///
+    /// let (shared, mut reservers) = Entities::new().share(2)?;
+    /// let late = reservers.pop();
+    /// let refused = shared.close_lost(reservers).err().ok_or("it was closed")?;
+    /// let ((mut shared, _), _) = refused.into_parts();
+    /// // The phase goes on, so the reserver that it keeps may reserve again.
+    /// let mut again = shared.reserver()?.ok_or("it keeps one")?;
+    /// again.reserve()?;
+    /// drop(late);
+    /// let _entities = shared.close_lost(vec![again])?;
+    /// # Ok::<(), Box<dyn std::error::Error>>(())
+    /// ```
+    ///
+    /// # Errors
+    ///
+    /// `OutOfMemory` if the owners of the phase can't be counted any more. Then nothing has changed.
+    ///
+    /// <details><summary>Contract</summary>
+    ///
+    /// <code style="display: block; tab-size: 4; white-space: pre-wrap">// In the words of [contracts](crate::contracts):
+    /// ensures given { [IfOk](crate::contracts::logic#IfOk) result (λ found. [IfSome](crate::contracts::logic#IfSome) found (λ r.
+    /// &#9;(r.number ≡ self.old.number) × (r.source ≡ self.old.source)
+    /// &#9;× (self.old ≡ record self.new { returned = self.new.returned ++ r.reserver ∷ \[\] }))) }
+    /// ensures none { [IfOk](crate::contracts::logic#IfOk) result (λ found. [IfNone](crate::contracts::logic#IfNone) found
+    /// &#9;((self.old.returned ≡ \[\]) × (self.new ≡ self.old))) }
+    /// ensures none_returned { (result ≡ [Ok](crate::contracts::logic#Ok) [None](crate::contracts::logic#None)) ↔ (self.old.returned ≡ \[\]) }
+    /// ensures err { [OnErr](crate::contracts::logic#OnErr) result (self.new ≡ self.old) }
+    /// </code>
+    ///
+    /// </details>
+    #[inline]
+    pub fn reserver(&mut self) -> Result<Option<Reserver<S>>, OutOfMemory> {
+        if self.returned.is_empty() {
+            return Ok(None);
+        }
+        let Ok(source) = Arc::try_clone(&self.source) else {
+            return Err(OutOfMemory);
+        };
+        let Some(reserver) = self.returned.pop() else {
+            unreachable!()
+        };
+        Ok(Some(Reserver {
+            source,
+            reserver,
+            number: self.number,
+        }))
+    }
+}
+
+impl<S: Phased> Phase<S> {
+    #[inline]
+    pub(super) fn new(
+        source: Arc<S>,
+        returned: Vec<S::Reserver>,
+        number: u64,
+    ) -> Self
+        // requires stands_for { J.phase_of S number ≡ Some (arc_value source) }
+        // requires own { All (S.serves (arc_value source)) returned.items }
+        // requires room { S.count (arc_value source) ≤ vec_capacity returned }
+        // ensures { result
+        //     ≡ record { number = number; source = arc_value source; returned = returned.items } }
+    {
+        Phase {
+            source,
+            returned,
+            number,
+        }
+    }
+
+    #[inline]
+    pub(super) fn number(&self) -> u64
+        // ensures number { result ≡ self.now.number }
+        // ensures stands_for { J.phase_of S result ≡ Some self.now.source }
+    {
+        self.number
+    }
+
+    /// Gives out those returned, the last one first, to a list that has room for them. One whose
+    /// owner can't be counted stays with the phase, and so do the others.
+    #[inline]
+    pub(super) fn give_out(&mut self, reservers: &mut Vec<Reserver<S>>)
+        // requires room { vec_len reservers.old + length self.old.returned ≤ vec_capacity reservers.old }
+        // requires of { AreOf self.old.number reservers.old.items }
+        // requires same { All (λ r. r.source ≡ self.old.source) reservers.old.items }
+        // ensures of { AreOf self.old.number reservers.new.items }
+        // ensures same { All (λ r. r.source ≡ self.old.source) reservers.new.items }
+        // ensures given { reservers_of reservers.new.items ++ reverse self.new.returned
+        //     ≡ reservers_of reservers.old.items ++ reverse self.old.returned }
+        // ensures phase { self.new ≡ record self.old { returned = self.new.returned } }
+    {
+        while let Ok(Some(reserver)) = self.reserver() {
+            reservers.push_reserved(reserver);
+        }
+    }
+
+    /// Takes reservers returned, which needs no memory.
+    #[inline]
+    pub(super) fn take_back(&mut self, reservers: Vec<Reserver<S>>)
+        // requires { MayReturn (S.count self.old.source) self.old reservers.items }
+        // ensures { self.new ≡ record self.old { returned = all_returned self.old reservers.items } }
+    {
+        let source: &S = &self.source;
+        bring_back(&mut self.returned, source, self.number, reservers);
+    }
+
+    /// Whether those returned come in an order in which the source takes them back.
+    #[inline]
+    pub(super) fn may_end(&self) -> bool
+        // ensures { IsTrue result ↔ S.takes self.now.source self.now.returned }
+    {
+        self.source.may_take(&self.returned)
+    }
+
+    /// The source with the reservers that are returned, if no other reserver owns it too.
+    #[inline]
+    pub(super) fn end(self) -> Result<(S, Vec<S::Reserver>), Self>
+        // ensures ok { IfOk result (λ parts. (parts.0 ≡ self.source) × (parts.1.items ≡ self.returned)) }
+        // ensures own { IfOk result (λ parts. All (S.serves parts.0) parts.1.items) }
+        // ensures err { IfErr result (λ phase. phase ≡ self) }
+    {
+        let Phase {
+            source,
+            returned,
+            number,
+        } = self;
+        match Arc::try_unwrap(source) {
+            Ok(source) => Ok((source, returned)),
+            Err(source) => Err(Phase::new(source, returned, number)),
+        }
+    }
+
+    /// A list without reservers.
+    #[inline]
+    pub(super) fn no_reservers(&self) -> Vec<Reserver<S>>
+        // ensures { result.items ≡ [] }
+    {
+        Vec::new()
+    }
+}

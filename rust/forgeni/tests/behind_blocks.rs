@@ -1,0 +1,142 @@
+//! Phases in blocks whose reservers go on past them: what is refused at a close, and what is left
+//! then. What such a phase gives is tested with its proved source
+//! (`rust/erased_tests/src/values/overflow.rs`).
+
+use forgeni::{
+    CloseError, Entities, Handle, Log, Overflow, Phase, Reserver, Reservers, ShareError,
+};
+
+type Parts = (Phase<Overflow>, Vec<Reserver<Overflow>>);
+
+fn opened(sizes: &[u32]) -> Parts {
+    let opened = Entities::new().share_behind_blocks(sizes);
+    opened.expect("memory")
+}
+
+fn indexes(handles: impl IntoIterator<Item = Handle>) -> Vec<u32> {
+    handles.into_iter().map(Handle::index).collect()
+}
+
+/// The indexes of what is born, and how many handles were requested past the blocks.
+fn closed((phase, reservers): Parts) -> (Vec<u32>, u64) {
+    let ended = phase.close(reservers).expect("all are here");
+    let past = ended.requested_past();
+    let mut entities = ended.into_entities().expect("memory");
+    let mut born = Vec::new();
+    entities.flush(&mut born).expect("memory");
+    (indexes(born), past)
+}
+
+#[test]
+fn each_way_to_reserve_goes_on() {
+    let (phase, mut reservers) = opened(&[2, 3]);
+    let [one, other] = reservers.as_mut_slice() else {
+        panic!("two reservers");
+    };
+    let mut list = other.reserve_many(2).expect("of the block");
+    assert_eq!(indexes(list.drain(..)), [2, 3]);
+    // One is left of the block, so two come from behind all blocks.
+    other.reserve_into(&mut list, 2).expect("past the block");
+    assert_eq!(indexes(list), [5, 6]);
+    assert_eq!((other.size(), other.used(), other.left()), (3, 2, 1));
+    let mut log: Log<()> = Log::new();
+    for index in [0, 1, 7] {
+        assert_eq!(log.spawn(one).expect("a handle").index(), index);
+    }
+    let pool = Reservers::new(reservers).expect("memory");
+    let last = pool.with(|reserver| reserver.reserve().expect("a handle"));
+    let past = u64::from(last.index() != 4);
+    assert_eq!(last.index(), if past == 0 { 4 } else { 8 });
+    let (born, requested) = closed((phase, pool.into_inner()));
+    assert_eq!((born.len(), requested), (8, 3 + past));
+}
+
+#[test]
+fn reservers_out_of_order_are_kept_and_taken_back() {
+    let (phase, mut reservers) = opened(&[1, 2, 3]);
+    for reserver in &mut reservers {
+        reserver.reserve().expect("of the block");
+    }
+    reservers.swap(0, 1);
+    let refused = phase.close(reservers).expect_err("the order is wrong");
+    let ((mut phase, none), error) = refused.into_parts();
+    assert_eq!(
+        (error, none.len(), phase.returned()),
+        (CloseError::Order, 0, 3)
+    );
+    let mut reservers: Vec<_> = (0..3)
+        .map(|_| {
+            phase
+                .reserver()
+                .expect("few owners")
+                .expect("it is returned")
+        })
+        .collect();
+    assert!(phase.reserver().is_ok_and(|it| it.is_none()));
+    reservers.sort_by_key(|it| it.size());
+    assert_eq!(closed((phase, reservers)), (vec![3, 1, 0], 0));
+}
+
+#[test]
+fn reservers_of_another_phase_missing_and_in_use() {
+    let (phase, mut reservers) = opened(&[1, 1]);
+    let (other, others) = opened(&[1, 1]);
+    assert!(reservers[0].is_of(&phase) && !reservers[0].is_of(&other));
+    let ((phase, others), error) = phase.close(others).expect_err("others").into_parts();
+    assert_eq!((error, others.len()), (CloseError::OtherPhase, 2));
+    let last = reservers.pop();
+    let ((phase, reservers), error) = phase.close(reservers).expect_err("one").into_parts();
+    assert_eq!(
+        (error, reservers.len()),
+        (CloseError::Missing { count: 1 }, 1)
+    );
+    let ((phase, none), error) = phase.close_lost(reservers).expect_err("used").into_parts();
+    assert_eq!(
+        (error, none.len(), phase.returned()),
+        (CloseError::InUse, 0, 1)
+    );
+    drop(last);
+    // What is left of a lost one's block counts as used.
+    let ended = phase.close_lost(Vec::new()).expect("nobody else has one");
+    let mut entities = ended.into_entities().expect("memory");
+    let mut born = Vec::new();
+    entities.flush(&mut born).expect("memory");
+    assert_eq!(indexes(born), [1]);
+    assert_eq!(closed((other, others)), (vec![], 0));
+}
+
+#[test]
+fn what_was_alive_and_what_is_refused() {
+    let mut entities = Entities::new();
+    let old = entities.alloc().expect("a handle");
+    entities.try_set_row(old, 3).expect("memory");
+    let refused = entities
+        .share_behind_blocks(&[0; 1_024])
+        .expect_err("a block too many");
+    let (entities, error) = refused.into_parts();
+    assert_eq!(error, ShareError::Count);
+    let (phase, mut reservers) = entities.share_behind_blocks(&[0; 1_023]).expect("memory");
+    assert_eq!(
+        (phase.count(), phase.len(), reservers.len()),
+        (1_023, 1, 1_023)
+    );
+    let new = reservers[1_022].reserve().expect("past the block");
+    for is_alive in [
+        phase.is_alive(old),
+        reservers[0].is_alive(old),
+        !phase.is_alive(new),
+    ] {
+        assert!(is_alive);
+    }
+    assert_eq!((phase.row(old), reservers[0].row(new)), (Some(3), None));
+    assert!(phase.iter().eq([old]) && reservers[0].iter().eq([old]));
+    let ended = phase.close(reservers).expect("all are here");
+    // What was reserved is given again.
+    let mut entities = ended.cancel();
+    assert_eq!((entities.reserved(), entities.alloc()), (0, Ok(new)));
+    let _reserved = entities.request();
+    let refused = entities
+        .share_behind_blocks(&[1])
+        .expect_err("it needs a flush");
+    assert_eq!(refused.error(), &ShareError::NeedsFlush);
+}
