@@ -1,2 +1,3 @@
 mod Unreserved
 mod InTurn
+mod Turns

@@ -2,3 +2,4 @@ pub mod Logs
 pub mod Spawning
 pub mod Beginning
 pub mod HandingOn
+pub mod Handing
