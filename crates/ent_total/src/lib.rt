@@ -9,6 +9,7 @@ mod closing;
 mod command_queue;
 mod commands;
 mod dealing;
+mod filling;
 mod finishing;
 mod frame_error;
 mod framing;
