@@ -17,6 +17,7 @@ mod close_error;
 mod command_queue;
 mod commands;
 mod dealing;
+mod filling;
 mod finishing;
 mod frame_error;
 mod framing;
