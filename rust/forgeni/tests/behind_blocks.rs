@@ -3,8 +3,10 @@
 //! (`rust/erased_tests/src/values/overflow.rs`).
 
 use forgeni::{
-    CloseError, Entities, Handle, Log, Overflow, Phase, Reserver, Reservers, ShareError,
+    CloseError, Entities, Entry, Handle, Log, LogCommands, Overflow, Phase, ReserveError, Reserver,
+    Reservers, ShareError,
 };
+use std::panic::{catch_unwind, AssertUnwindSafe};
 
 type Parts = (Phase<Overflow>, Vec<Reserver<Overflow>>);
 
@@ -139,4 +141,63 @@ fn what_was_alive_and_what_is_refused() {
         .share_behind_blocks(&[1])
         .expect_err("it needs a flush");
     assert_eq!(refused.error(), &ShareError::NeedsFlush);
+}
+
+/// Spawns three, and enters a number for each. It fails, or panics, behind the second one.
+fn three(last: Last) -> impl Fn(&mut LogCommands<'_, u32, Overflow>) -> Result<(), Failed> {
+    move |out| {
+        for number in 0..3 {
+            match (number, last) {
+                (2, Last::Fails) => return Err(Failed),
+                (2, Last::Panics) => panic!("as planned"),
+                _ => {}
+            }
+            out.spawn()?;
+            out.push(number).expect("memory");
+        }
+        Ok(())
+    }
+}
+
+#[derive(Clone, Copy)]
+enum Last {
+    Spawns,
+    Fails,
+    Panics,
+}
+
+#[derive(Debug, PartialEq)]
+struct Failed;
+
+impl From<ReserveError> for Failed {
+    fn from(_: ReserveError) -> Self {
+        Failed
+    }
+}
+
+#[test]
+fn a_log_has_what_its_last_system_entered() {
+    let (phase, mut reservers) = opened(&[4]);
+    let mut log = Log::new();
+    let mine = &mut reservers[0];
+    assert_eq!(mine.fill(&mut log, &three(Last::Spawns)), Ok(()));
+    assert_eq!((log.len(), mine.used()), (6, 3));
+
+    // What it had is dropped. One handle is left of the block, and one comes from past it.
+    assert_eq!(mine.fill(&mut log, &three(Last::Fails)), Err(Failed));
+    assert_eq!((log.len(), mine.used(), mine.requested_past()), (4, 4, 1));
+    let spawned = log.entries().iter().filter_map(|entry| match entry {
+        Entry::Spawn(handle) => Some(handle.index()),
+        _ => None,
+    });
+    assert!(spawned.eq([3, 4]));
+
+    // A panic leaves an empty log, and what was reserved stays reserved.
+    let panicked = catch_unwind(AssertUnwindSafe(|| {
+        mine.fill(&mut log, &three(Last::Panics))
+    }));
+    assert!(panicked.is_err() && log.is_empty());
+    assert_eq!(mine.requested_past(), 3);
+    let (born, past) = closed((phase, reservers));
+    assert_eq!((born.len(), past), (7, 3));
 }

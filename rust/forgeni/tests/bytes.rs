@@ -10,7 +10,8 @@ mod refusing;
 use common::{flushed, handle};
 use forgeni::trace::{Checker, Log, Recorder, Reservation, ReserveReply};
 use forgeni::{
-    Birth, CommandQueue, Commands, ComponentId, Entities, Handle, HandleMap, Limits, Storage, World,
+    log, Birth, CommandQueue, Commands, ComponentId, Entities, Handle, HandleMap, Limits,
+    LogCommands, ReserveError, Storage, SyncPoint, World,
 };
 use refusing::{asked, held};
 
@@ -292,4 +293,54 @@ mod threads {
         let reservers = pool.into_inner();
         shared.close(reservers).expect("closed");
     }
+}
+
+/// How many entries a log has: half of them are spawns.
+const ENTRIES: u32 = 80_000;
+
+fn fills(out: &mut LogCommands<'_, u32>) -> Result<(), ReserveError> {
+    for number in 0..ENTRIES / 2 {
+        out.spawn()?;
+        out.push(number)?;
+    }
+    Ok(())
+}
+
+/// An allocator whose slots for three frames are made.
+fn with_slots() -> Entities {
+    let mut entities = Entities::new();
+    let all = entities.alloc_many(3 * ENTRIES).expect("memory");
+    for one in all {
+        entities.free(one).expect("it is alive");
+    }
+    entities
+}
+
+#[test]
+fn a_log_that_is_filled_again_takes_no_memory() {
+    let mut entities = with_slots();
+    let (mut born, mut logs) = (Vec::with_capacity(ENTRIES as usize), Vec::new());
+    logs.extend([log::Log::new(), log::Log::new()]);
+    for frame in 0..3 {
+        let (phase, mut reservers) = entities.share(2).expect("memory");
+        let ((), filled) = asked(|| {
+            for (mine, log) in reservers.iter_mut().zip(&mut logs) {
+                mine.fill(log, &fills).expect("handles");
+            }
+        });
+        entities = phase.close(reservers).expect("all are here");
+        born.clear();
+        let ((), synced) = asked(|| {
+            let sync = SyncPoint::begin(&mut entities, &mut logs, &mut born);
+            let mut sync = sync.expect("it has room");
+            // The others are dropped.
+            for _ in 0..100_000 {
+                assert!(sync.take_next().is_some());
+            }
+            logs = sync.into_logs();
+        });
+        assert!(logs.len() == 2 && logs.iter().all(log::Log::is_empty));
+        assert_eq!((filled == 0, synced), (frame > 0, 0));
+    }
+    assert_eq!(entities.len(), 3 * ENTRIES);
 }

@@ -251,6 +251,45 @@ impl<C> SyncPoint<C> {
     }
 }
 
+/// # The end
+impl<C> SyncPoint<C> {
+    /// Ends the sync point, drops the entries that are left, and returns the logs. They are empty,
+    /// and have the memory that they had, so the systems of the next frame can fill them again.
+    ///
+    /// ```
+    /// use forgeni::{Entities, Log, SyncPoint};
+    ///
+    /// let (mut entities, mut born) = (Entities::new(), Vec::new());
+    /// let mut logs = vec![Log::new(), Log::new()];
+    /// for frame in 0..60 {
+    ///     for log in &mut logs {
+    ///         log.spawn(&mut entities)?;
+    ///         log.push(frame)?;
+    ///     }
+    ///     let mut sync = SyncPoint::begin(&mut entities, &mut logs, &mut born)?;
+    ///     while let Some(_entry) = sync.take_next() {}
+    ///     logs = sync.into_logs();
+    /// }
+    /// assert_eq!((entities.len(), logs.len()), (120, 2));
+    /// # Ok::<(), Box<dyn std::error::Error + Send + Sync>>(())
+    /// ```
+    ///
+    /// <details><summary>Contract</summary>
+    ///
+    /// <code style="display: block; tab-size: 4; white-space: pre-wrap">// In the words of [contracts](crate::contracts):
+    /// ensures empty { [All](crate::contracts::logic#All) (λ log. log ≡ \[\]) result.items }
+    /// ensures count { [length](crate::contracts::logic#length) result.items ≡ self.logs }
+    /// </code>
+    ///
+    /// </details>
+    #[must_use]
+    #[inline]
+    pub fn into_logs(self) -> Vec<Log<C>> {
+        let SyncPoint { front: _, rest } = self;
+        rest.into_logs()
+    }
+}
+
 impl<C> SyncPoint<C> {
     /// As [`begin`](Self::begin), for logs all of whose spawns are reserved in the allocator. It
     /// tests none of them.
@@ -287,42 +326,6 @@ impl<C> SyncPoint<C> {
             front: None,
             rest: Rest::of(mem::replace(logs, Vec::new())),
         })
-    }
-
-    /// Ends the sync point, drops the entries that are left, and returns the logs. They are empty,
-    /// and have the memory that they had, so the systems of the next frame can fill them again.
-    ///
-    /// ```
-    /// use forgeni::{Entities, Log, SyncPoint};
-    ///
-    /// let (mut entities, mut born) = (Entities::new(), Vec::new());
-    /// let mut logs = vec![Log::new(), Log::new()];
-    /// for frame in 0..60 {
-    ///     for log in &mut logs {
-    ///         log.spawn(&mut entities)?;
-    ///         log.push(frame)?;
-    ///     }
-    ///     let mut sync = SyncPoint::begin(&mut entities, &mut logs, &mut born)?;
-    ///     while let Some(_entry) = sync.take_next() {}
-    ///     logs = sync.into_logs();
-    /// }
-    /// assert_eq!((entities.len(), logs.len()), (120, 2));
-    /// # Ok::<(), Box<dyn std::error::Error + Send + Sync>>(())
-    /// ```
-    ///
-    /// <details><summary>Contract</summary>
-    ///
-    /// <code style="display: block; tab-size: 4; white-space: pre-wrap">// In the words of [contracts](crate::contracts):
-    /// ensures empty { [All](crate::contracts::logic#All) (λ log. log ≡ \[\]) result.items }
-    /// ensures count { [length](crate::contracts::logic#length) result.items ≡ self.logs }
-    /// </code>
-    ///
-    /// </details>
-    #[must_use]
-    #[inline]
-    pub fn into_logs(self) -> Vec<Log<C>> {
-        let SyncPoint { front: _, rest } = self;
-        rest.into_logs()
     }
 }
 

@@ -8,6 +8,7 @@ use crate::commands::SystemCommands;
 use crate::running::LogSystem;
 use core::mem;
 
+/// # Running a system
 impl<S: Phased> Reserver<S> {
     /// Runs a system that fills a log, with the handles of this reserver. The log is emptied first,
     /// and keeps its memory.
