@@ -1,3 +1,2 @@
 mod Unreserved
 mod InTurn
-mod Turns

@@ -2,4 +2,3 @@ pub mod Logs
 pub mod Spawning
 pub mod Beginning
 pub mod HandingOn
-pub mod Handing

@@ -1,6 +1,6 @@
-ghost use Rattle.std.specs.Prelude.{◌≡◌, ◌↔◌, ◌+◌, ◌^◌, ◌<◌, [], ◌∷◌, ◌++◌, length, drop, IsTrue};
+ghost use Rattle.std.specs.Prelude.{◌≡◌, ◌↔◌, [], ◌∷◌, ◌++◌, length, IsTrue};
 ghost use Rattle.std.specs.Prelude.{Result, IfOk, IfErr, OnOk, OnErr, IsErrOf};
-ghost use Rattle.std.specs.Prelude.{IfSome, IfNone, OnSome};
+ghost use Rattle.std.specs.Vec.Iter.{into_iter_items};
 ghost use Rattle.ent_handle.specs.Handle.{Handle as HandleValue};
 ghost use Rattle.ent_alloc.specs.Sequential.{listed_alone};
 ghost use Rattle.ent_alloc.specs.declared.refused.Refused.{Refused as Refusal};
@@ -10,11 +10,12 @@ ghost use Rattle.ent_log.specs.Spawning.{refused_by, returned};
 
 use crate::entry::Entry;
 use crate::reserves::Reserves;
-use ent_alloc::{Entities, Refused, ReserveError, Source, State};
+use ent_alloc::{Entities, ReserveError, Source, State};
 use ent_handle::{Handle, Memory};
 use std::alloc::Global;
+use std::fmt;
 use std::marker::Model;
-use std::{fmt, mem};
+use std::vec::IntoIter;
 
 /// The spawns and commands of one system, in the order of issue. `C` is the caller's type of
 /// commands.
@@ -244,19 +245,11 @@ impl<C> Log<C> {
         }
     }
 
-    /// Takes the entry at a position out, and leaves in its place one that means nothing.
-    pub(crate) fn take_at(&mut self, at: usize) -> Option<Entry<C>>
-        ensures some { IfSome result (λ entry.
-            drop at self.old ≡ entry ∷ drop (at + 1) self.new) }
-        ensures short { OnSome result (at + 1 < 2 ^ 64) }
-        ensures none { IfNone result (drop at self.old ≡ []) }
-        ensures kept { IfNone result (self.new ≡ self.old) }
+    /// The entries, to be removed one by one.
+    pub(crate) fn into_entries(self) -> IntoIter<Entry<C>, Global>
+        ensures { into_iter_items result ≡ self }
     {
-        if at >= self.entries.len() {
-            return None;
-        }
-        let nothing = Entry::Refused(Refused::Quota { left: 0 });
-        Some(mem::replace(&mut self.entries[at], nothing))
+        self.entries.into_iter()
     }
 
     /// The first handle of a spawn that isn't reserved.

@@ -82,16 +82,13 @@ pub struct SyncPoint<C> {
 }
 
 impl<C> Model for SyncPoint<C> {
-    ghost use Rattle.std.specs.Prelude.{◌++◌};
+    ghost use Rattle.std.specs.Prelude.{List, ◌++◌};
     ghost use Rattle.std.specs.Option.{option_to_list};
-    ghost use Rattle.ent_log.specs.Handing.{Pending};
+    ghost use Rattle.ent_log.specs.declared.entry.Entry.{Entry};
 
-    ghost Value = { Pending C };
+    ghost Value = { List (Entry C) };
 
-    ghost view = { λ p. record {
-      entries = option_to_list p.front ++ p.rest.entries;
-      logs = p.rest.logs;
-    } };
+    ghost view = { λ p. option_to_list p.front ++ p.rest };
 }
 
 impl<C: Drop> SyncPoint<C> {
@@ -128,8 +125,7 @@ impl<C: Drop> SyncPoint<C> {
         logs: &mut Vec<Log<C>>,
         out: &mut Vec<Handle>,
     ) -> Result<Self, BeginError>
-        ensures entries { IfOk result (λ point. point.entries ≡ entries_of logs.old.items) }
-        ensures logs { IfOk result (λ point. point.logs ≡ length logs.old.items) }
+        ensures entries { IfOk result (λ point. point ≡ entries_of logs.old.items) }
         ensures emptied { OnOk result (logs.new.items ≡ []) }
         ensures flushed { OnOk result
             (entities.new.allocator ≡ after_flush entities.old.allocator) }
@@ -174,8 +170,7 @@ impl<C: Drop> SyncPoint<C> {
     ) -> Result<Self, Memory>
         requires reserved { first_unreserved entities.old.allocator
             (spawned_in (entries_of logs.old.items)) ≡ None }
-        ensures entries { IfOk result (λ point. point.entries ≡ entries_of logs.old.items) }
-        ensures logs { IfOk result (λ point. point.logs ≡ length logs.old.items) }
+        ensures entries { IfOk result (λ point. point ≡ entries_of logs.old.items) }
         ensures emptied { OnOk result (logs.new.items ≡ []) }
         ensures flushed { OnOk result
             (entities.new.allocator ≡ after_flush entities.old.allocator) }
@@ -242,11 +237,10 @@ impl<C: Drop> SyncPoint<C> {
     ) -> Result<(), E>
         requires { F.IsAlwaysCallable run }
         ensures all { OnOk result
-            (TakesAll F.step run entities.old self.old.entries entities.new) }
-        ensures done { OnOk result (self.new.entries ≡ []) }
+            (TakesAll F.step run entities.old self.old entities.new) }
+        ensures done { OnOk result (self.new ≡ []) }
         ensures fails { IfErr result (λ error.
-            FailsAt F.step run entities.old self.old.entries error self.new.entries entities.new) }
-        ensures logs { self.new.logs ≡ self.old.logs }
+            FailsAt F.step run entities.old self.old error self.new entities.new) }
     {
         hand_on(&mut self.front, &mut self.rest, entities, run)
     }
@@ -275,44 +269,14 @@ impl<C: Drop> SyncPoint<C> {
     /// # Ok::<(), Box<dyn std::error::Error>>(())
     /// ```
     pub fn take_next(&mut self) -> Option<Entry<C>>
-        ensures first { IfSome result (λ entry. self.old.entries ≡ entry ∷ self.new.entries) }
-        ensures none { IfNone result (self.old.entries ≡ []) }
-        ensures done { IfNone result (self.new.entries ≡ []) }
-        ensures logs { self.new.logs ≡ self.old.logs }
+        ensures first { IfSome result (λ entry. self.old ≡ entry ∷ self.new) }
+        ensures none { IfNone result (self.old ≡ []) }
+        ensures done { IfNone result (self.new ≡ []) }
     {
         match self.front.take() {
             Some(entry) => Some(entry),
             None => self.rest.take_next(),
         }
-    }
-
-    /// Ends the sync point, drops the entries that are left, and returns the logs. They are empty,
-    /// and have the memory that they had, so the systems of the next frame can fill them again.
-    ///
-    /// ```
-    /// use forgeni::{Entities, Log, SyncPoint};
-    ///
-    /// let (mut entities, mut born) = (Entities::new(), Vec::new());
-    /// let mut logs = vec![Log::new(), Log::new()];
-    /// for frame in 0..60 {
-    ///     for log in &mut logs {
-    ///         log.spawn(&mut entities)?;
-    ///         log.push(frame)?;
-    ///     }
-    ///     let mut sync = SyncPoint::begin(&mut entities, &mut logs, &mut born)?;
-    ///     while let Some(_entry) = sync.take_next() {}
-    ///     logs = sync.into_logs();
-    /// }
-    /// assert_eq!((entities.len(), logs.len()), (120, 2));
-    /// # Ok::<(), Box<dyn std::error::Error + Send + Sync>>(())
-    /// ```
-    #[must_use]
-    pub fn into_logs(self) -> Vec<Log<C>>
-        ensures empty { All (λ log. log ≡ []) result.items }
-        ensures count { length result.items ≡ self.logs }
-    {
-        let SyncPoint { front: _, rest } = self;
-        rest.into_logs()
     }
 }
 

@@ -10,8 +10,8 @@ mod refusing;
 use common::{flushed, handle};
 use forgeni::trace::{Checker, Log, Recorder, Reservation, ReserveReply};
 use forgeni::{
-    log, Birth, CommandQueue, Commands, ComponentId, Entities, Handle, HandleMap, Limits,
-    LogCommands, ReserveError, Storage, SyncPoint, World,
+    log, Birth, CommandQueue, Commands, ComponentId, Entities, Entry, Handle, HandleMap, Limits,
+    LogCommands, ReserveError, Storage, World,
 };
 use refusing::{asked, held};
 
@@ -330,16 +330,12 @@ fn a_log_that_is_filled_again_takes_no_memory() {
         });
         entities = phase.close(reservers).expect("all are here");
         born.clear();
-        let ((), synced) = asked(|| {
-            let sync = SyncPoint::begin(&mut entities, &mut logs, &mut born);
-            let mut sync = sync.expect("it has room");
-            // The others are dropped.
-            for _ in 0..100_000 {
-                assert!(sync.take_next().is_some());
-            }
-            logs = sync.into_logs();
+        let (commands, synced) = asked(|| {
+            entities.flush(&mut born).expect("it has room");
+            let entries = logs.iter().flat_map(log::Log::entries);
+            entries.filter(|it| matches!(it, Entry::Command(_))).count()
         });
-        assert!(logs.len() == 2 && logs.iter().all(log::Log::is_empty));
+        assert_eq!(commands, ENTRIES as usize);
         assert_eq!((filled == 0, synced), (frame > 0, 0));
     }
     assert_eq!(entities.len(), 3 * ENTRIES);

@@ -48,10 +48,8 @@ where
     S: LogSystem<C, Shared, E> + Sync,
     E: Drop + Send,
     ensures ok { IfOk result (λ point. HaveBegun S.may_log systems.now workers
-        entities.old.allocator out.old.items point.entries entities.new.allocator out.new.items) }
-    ensures logs { IfOk result (λ point. point.logs ≡ length systems.now) }
-    ensures alive { IfOk result (λ point.
-        All (IsLive entities.new.allocator) (spawned_in point.entries)) }
+        entities.old.allocator out.old.items point entities.new.allocator out.new.items) }
+    ensures alive { IfOk result (λ point. All (IsLive entities.new.allocator) (spawned_in point)) }
     ensures rows { entities.new.rows ≡ entities.old.rows }
     ensures needs_flush { IsErrAnd result (λ h. h.error ≡ failed.NeedsFlush)
         ↔ (0 < entities.old.allocator.asked) }

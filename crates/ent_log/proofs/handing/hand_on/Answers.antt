@@ -18,5 +18,4 @@ loop-next-preserved g c =
           went_on (goal.F-step g) _ _ _ _ _ _ _ _ _ tt _ _ _ _ c.loop-next.invariant.taken
           c.in-Some-next.is c.run.ensures ok e.first e.none e.done;
       done = none_left _ _ e.done;
-      logs = search rules;
     }

@@ -1,20 +1,16 @@
-use Rattle.std.proofs.Common.{◌≡◌, ◌≤◌, ◌<◌, ◌+◌, ◌^◌, ◌++◌, [], length, drop, None, OnSome}
+use Rattle.std.proofs.Common.{◌≡◌, ◌++◌, [], None}
 use Rattle.std.specs.Option.{option_to_list}
+use Rattle.std.specs.Vec.Iter.{into_iter_items, into_iter_len}
 use Rattle.ent_log.specs.Logs.{entries_of}
 use Rattle.ent_log.proofs.rest.first_of.Given as goal
 
--- what was found, and then what is left
-abbrev pub invariant-loop-open : goal.invariant-loop-open
-invariant-loop-open g l = record {
-  same : drop l.fn.at l.fn.open ++ entries_of (drop l.fn.next l.fn.logs)
-      ≡ option_to_list l.found
-      ++ (drop (l.at + length (option_to_list l.found)) l.open
-      ++ entries_of (drop l.next l.logs));
-  none : l.found ≡ None → drop l.at l.open ≡ [];
-  short : OnSome l.found (l.at + 1 < 2 ^ 64);
-  within : l.next ≤ length l.logs;
-  count : length l.logs ≡ length l.fn.logs;
+abbrev pub invariant-loop-entries : goal.invariant-loop-entries
+invariant-loop-entries g l = record {
+  same : into_iter_items l.fn.entries ++ entries_of (into_iter_items l.fn.logs)
+      ≡ option_to_list l.next
+      ++ (into_iter_items l.entries ++ entries_of (into_iter_items l.logs));
+  none : l.next ≡ None → into_iter_items l.entries ≡ [];
 }
 
-abbrev pub decreases-loop-open : goal.decreases-loop-open
-decreases-loop-open g l = length (drop l.next l.logs)
+abbrev pub decreases-loop-entries : goal.decreases-loop-entries
+decreases-loop-entries g l = into_iter_len l.logs

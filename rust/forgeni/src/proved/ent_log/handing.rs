@@ -17,12 +17,11 @@ where
     F: FnMut(&mut Entities, Entry<C>) -> Result<(), (Entry<C>, E)>,
     // requires callable { F.IsAlwaysCallable run }
     // ensures all { OnOk result (TakesAll F.step run entities.old
-    //     (option_to_list front.old ++ rest.old.entries) entities.new) }
-    // ensures done { OnOk result (option_to_list front.new ++ rest.new.entries ≡ []) }
+    //     (option_to_list front.old ++ rest.old) entities.new) }
+    // ensures done { OnOk result (option_to_list front.new ++ rest.new ≡ []) }
     // ensures fails { IfErr result (λ error. FailsAt F.step run entities.old
-    //     (option_to_list front.old ++ rest.old.entries) error (option_to_list front.new ++ rest.new.entries)
+    //     (option_to_list front.old ++ rest.old) error (option_to_list front.new ++ rest.new)
     //     entities.new) }
-    // ensures logs { rest.new.logs ≡ rest.old.logs }
 {
     let mut next = match front.take() {
         Some(entry) => Some(entry),

@@ -4,10 +4,10 @@ use alloc::vec::Vec;
 use crate::kit::vec::FallibleVec;
 use crate::logs::entry::Entry;
 use crate::logs::reserves::Reserves;
-use crate::allocator::{Entities, Refused, ReserveError, Source, State};
+use crate::allocator::{Entities, ReserveError, Source, State};
 use crate::handles::{Handle, OutOfMemory};
 use core::fmt;
-use core::mem;
+use alloc::vec::IntoIter;
 
 /// The spawns and commands of one system, in the order of issue. `C` is the caller's type of
 /// commands.
@@ -344,20 +344,12 @@ impl<C> Log<C> {
 }
 
 impl<C> Log<C> {
-    /// Takes the entry at a position out, and leaves in its place one that means nothing.
+    /// The entries, to be removed one by one.
     #[inline]
-    pub(super) fn take_at(&mut self, at: usize) -> Option<Entry<C>>
-        // ensures some { IfSome result (λ entry.
-        //     drop at self.old ≡ entry ∷ drop (at + 1) self.new) }
-        // ensures short { OnSome result (at + 1 < 2 ^ 64) }
-        // ensures none { IfNone result (drop at self.old ≡ []) }
-        // ensures kept { IfNone result (self.new ≡ self.old) }
+    pub(super) fn into_entries(self) -> IntoIter<Entry<C>>
+        // ensures { into_iter_items result ≡ self }
     {
-        if at >= self.entries.len() {
-            return None;
-        }
-        let nothing = Entry::Refused(Refused::Quota { left: 0 });
-        Some(mem::replace(&mut self.entries[at], nothing))
+        self.entries.into_iter()
     }
 
     /// The first handle of a spawn that isn't reserved.

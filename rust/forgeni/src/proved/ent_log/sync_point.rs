@@ -104,8 +104,7 @@ impl<C> SyncPoint<C> {
     /// <details><summary>Contract</summary>
     ///
     /// <code style="display: block; tab-size: 4; white-space: pre-wrap">// In the words of [contracts](crate::contracts):
-    /// ensures entries { [IfOk](crate::contracts::logic#IfOk) result (λ point. point.entries ≡ [entries_of](crate::contracts::ent_log::logs#entries_of) logs.old.items) }
-    /// ensures logs { [IfOk](crate::contracts::logic#IfOk) result (λ point. point.logs ≡ [length](crate::contracts::logic#length) logs.old.items) }
+    /// ensures entries { [IfOk](crate::contracts::logic#IfOk) result (λ point. point ≡ [entries_of](crate::contracts::ent_log::logs#entries_of) logs.old.items) }
     /// ensures emptied { [OnOk](crate::contracts::logic#OnOk) result (logs.new.items ≡ \[\]) }
     /// ensures flushed { [OnOk](crate::contracts::logic#OnOk) result
     /// &#9;(entities.new.allocator ≡ [after_flush](crate::contracts::ent_alloc::sequential#after_flush) entities.old.allocator) }
@@ -191,11 +190,10 @@ impl<C> SyncPoint<C> {
     /// <code style="display: block; tab-size: 4; white-space: pre-wrap">// In the words of [contracts](crate::contracts):
     /// requires { F.IsAlwaysCallable run }
     /// ensures all { [OnOk](crate::contracts::logic#OnOk) result
-    /// &#9;([TakesAll](crate::contracts::ent_log::handing_on#TakesAll) F.step run entities.old self.old.entries entities.new) }
-    /// ensures done { [OnOk](crate::contracts::logic#OnOk) result (self.new.entries ≡ \[\]) }
+    /// &#9;([TakesAll](crate::contracts::ent_log::handing_on#TakesAll) F.step run entities.old self.old entities.new) }
+    /// ensures done { [OnOk](crate::contracts::logic#OnOk) result (self.new ≡ \[\]) }
     /// ensures fails { [IfErr](crate::contracts::logic#IfErr) result (λ error.
-    /// &#9;[FailsAt](crate::contracts::ent_log::handing_on#FailsAt) F.step run entities.old self.old.entries error self.new.entries entities.new) }
-    /// ensures logs { self.new.logs ≡ self.old.logs }
+    /// &#9;[FailsAt](crate::contracts::ent_log::handing_on#FailsAt) F.step run entities.old self.old error self.new entities.new) }
     /// </code>
     ///
     /// </details>
@@ -235,10 +233,9 @@ impl<C> SyncPoint<C> {
     /// <details><summary>Contract</summary>
     ///
     /// <code style="display: block; tab-size: 4; white-space: pre-wrap">// In the words of [contracts](crate::contracts):
-    /// ensures first { [IfSome](crate::contracts::logic#IfSome) result (λ entry. self.old.entries ≡ entry ∷ self.new.entries) }
-    /// ensures none { [IfNone](crate::contracts::logic#IfNone) result (self.old.entries ≡ \[\]) }
-    /// ensures done { [IfNone](crate::contracts::logic#IfNone) result (self.new.entries ≡ \[\]) }
-    /// ensures logs { self.new.logs ≡ self.old.logs }
+    /// ensures first { [IfSome](crate::contracts::logic#IfSome) result (λ entry. self.old ≡ entry ∷ self.new) }
+    /// ensures none { [IfNone](crate::contracts::logic#IfNone) result (self.old ≡ \[\]) }
+    /// ensures done { [IfNone](crate::contracts::logic#IfNone) result (self.new ≡ \[\]) }
     /// </code>
     ///
     /// </details>
@@ -248,45 +245,6 @@ impl<C> SyncPoint<C> {
             Some(entry) => Some(entry),
             None => self.rest.take_next(),
         }
-    }
-}
-
-/// # The end
-impl<C> SyncPoint<C> {
-    /// Ends the sync point, drops the entries that are left, and returns the logs. They are empty,
-    /// and have the memory that they had, so the systems of the next frame can fill them again.
-    ///
-    /// ```
-    /// use forgeni::{Entities, Log, SyncPoint};
-    ///
-    /// let (mut entities, mut born) = (Entities::new(), Vec::new());
-    /// let mut logs = vec![Log::new(), Log::new()];
-    /// for frame in 0..60 {
-    ///     for log in &mut logs {
-    ///         log.spawn(&mut entities)?;
-    ///         log.push(frame)?;
-    ///     }
-    ///     let mut sync = SyncPoint::begin(&mut entities, &mut logs, &mut born)?;
-    ///     while let Some(_entry) = sync.take_next() {}
-    ///     logs = sync.into_logs();
-    /// }
-    /// assert_eq!((entities.len(), logs.len()), (120, 2));
-    /// # Ok::<(), Box<dyn std::error::Error + Send + Sync>>(())
-    /// ```
-    ///
-    /// <details><summary>Contract</summary>
-    ///
-    /// <code style="display: block; tab-size: 4; white-space: pre-wrap">// In the words of [contracts](crate::contracts):
-    /// ensures empty { [All](crate::contracts::logic#All) (λ log. log ≡ \[\]) result.items }
-    /// ensures count { [length](crate::contracts::logic#length) result.items ≡ self.logs }
-    /// </code>
-    ///
-    /// </details>
-    #[must_use]
-    #[inline]
-    pub fn into_logs(self) -> Vec<Log<C>> {
-        let SyncPoint { front: _, rest } = self;
-        rest.into_logs()
     }
 }
 
@@ -305,8 +263,7 @@ impl<C> SyncPoint<C> {
     ) -> Result<Self, OutOfMemory>
         // requires reserved { first_unreserved entities.old.allocator
         //     (spawned_in (entries_of logs.old.items)) ≡ None }
-        // ensures entries { IfOk result (λ point. point.entries ≡ entries_of logs.old.items) }
-        // ensures logs { IfOk result (λ point. point.logs ≡ length logs.old.items) }
+        // ensures entries { IfOk result (λ point. point ≡ entries_of logs.old.items) }
         // ensures emptied { OnOk result (logs.new.items ≡ []) }
         // ensures flushed { OnOk result
         //     (entities.new.allocator ≡ after_flush entities.old.allocator) }

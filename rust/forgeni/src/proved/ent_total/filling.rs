@@ -14,10 +14,11 @@ impl<S: Phased> Reserver<S> {
     /// and keeps its memory.
     ///
     /// It runs on the thread that calls it. So a program runs its systems on whatever threads it
-    /// has, each with a reserver and a log of its own, in a phase of any source:
+    /// has, each with a reserver and a log of its own, in a phase of any source. The logs can be
+    /// filled again in the next frame:
     ///
     /// ```
-    /// use forgeni::{Entities, Entry, Log, LogCommands, OutOfMemory, Overflow, SyncPoint};
+    /// use forgeni::{Entities, Entry, Log, LogCommands, OutOfMemory, Overflow};
     ///
     /// fn sow(out: &mut LogCommands<'_, u32, Overflow>) -> Result<(), OutOfMemory> {
     ///     (0..100).try_for_each(|height| match out.spawn() {
@@ -26,26 +27,27 @@ impl<S: Phased> Reserver<S> {
     ///     })
     /// }
     ///
-    /// let (mut entities, mut born) = (Entities::new(), Vec::new());
-    /// let mut logs = vec![Log::new(), Log::new()];
+    /// let (mut entities, mut born, mut heights) = (Entities::new(), Vec::new(), 0);
+    /// let mut logs = [Log::new(), Log::new()];
     /// for _frame in 0..2 {
     ///     let (phase, mut reservers) = entities.share_behind_blocks(&[128; 2])?;
     ///     std::thread::scope(|scope| {
     ///         let pairs = reservers.iter_mut().zip(&mut logs);
     ///         let threads = pairs.map(|(mine, log)| scope.spawn(|| mine.fill(log, &sow)));
-    ///         threads.collect::<Vec<_>>().into_iter().try_for_each(|one| one.join().unwrap())
+    ///         let mut threads = threads.collect::<Vec<_>>().into_iter();
+    ///         threads.try_for_each(|one| one.join().expect("no panic"))
     ///     })?;
     ///     let ended = phase.close(reservers)?;
     ///     assert_eq!(ended.requested_past(), 0);
     ///     entities = ended.into_entities()?;
-    ///     let mut sync = SyncPoint::begin(&mut entities, &mut logs, &mut born)?;
-    ///     while let Some(entry) = sync.take_next() {
-    ///         assert!(matches!(entry, Entry::Spawn(_) | Entry::Command(_)));
+    ///     entities.flush(&mut born)?;
+    ///     for entry in logs.iter().flat_map(Log::entries) {
+    ///         if let Entry::Command(height) = entry {
+    ///             heights += height;
+    ///         }
     ///     }
-    ///     // In the next frame the same logs are filled again.
-    ///     logs = sync.into_logs();
     /// }
-    /// assert_eq!(entities.len(), 400);
+    /// assert_eq!((entities.len(), heights), (400, 4 * 4950));
     /// # Ok::<(), Box<dyn std::error::Error + Send + Sync>>(())
     /// ```
     ///

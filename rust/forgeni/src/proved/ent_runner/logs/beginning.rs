@@ -33,10 +33,8 @@ use crate::kit::thread::Join;
 ///
 /// <code style="display: block; tab-size: 4; white-space: pre-wrap">// In the words of [contracts](crate::contracts):
 /// ensures ok { [IfOk](crate::contracts::logic#IfOk) result (λ point. [HaveBegun](crate::contracts::ent_runner::logs#HaveBegun) S.may_log systems.now workers
-/// &#9;entities.old.allocator out.old.items point.entries entities.new.allocator out.new.items) }
-/// ensures logs { [IfOk](crate::contracts::logic#IfOk) result (λ point. point.logs ≡ [length](crate::contracts::logic#length) systems.now) }
-/// ensures alive { [IfOk](crate::contracts::logic#IfOk) result (λ point.
-/// &#9;[All](crate::contracts::logic#All) ([IsLive](crate::contracts::ent_alloc::sound#IsLive) entities.new.allocator) ([spawned_in](crate::contracts::ent_log::logs#spawned_in) point.entries)) }
+/// &#9;entities.old.allocator out.old.items point entities.new.allocator out.new.items) }
+/// ensures alive { [IfOk](crate::contracts::logic#IfOk) result (λ point. [All](crate::contracts::logic#All) ([IsLive](crate::contracts::ent_alloc::sound#IsLive) entities.new.allocator) ([spawned_in](crate::contracts::ent_log::logs#spawned_in) point)) }
 /// ensures rows { entities.new.rows ≡ entities.old.rows }
 /// ensures needs_flush { [IsErrAnd](crate::contracts::logic#IsErrAnd) result (λ h. h.error ≡ failed.NeedsFlush)
 /// &#9;↔ (0 \< entities.old.allocator.asked) }
