@@ -61,11 +61,9 @@ impl<J: Numbering, S: Phased> Reserver<J, S> {
     ///
     /// If the system panics, the panic is propagated. The log is empty then, and what the system
     /// reserved stays reserved.
-    pub fn fill<C: Drop, T: LogSystem<C, S, E>, E>(
-        &mut self,
-        log: &mut Log<C>,
-        system: &T,
-    ) -> Result<(), E>
+    pub fn fill<C: Drop, T, E>(&mut self, log: &mut Log<C>, system: &T) -> Result<(), E>
+    where
+        T: LogSystem<C, S, E>,
         ensures fills { Fills S.may_reply self.old self.new log.new }
         ensures ok { OnOk result (T.may_log system.now log.new) }
         ensures err { IfErr result (λ error. T.may_leave system.now log.new error) }

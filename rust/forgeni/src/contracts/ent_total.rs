@@ -390,7 +390,7 @@ pub mod issuing {}
 /// </pre>
 pub mod phases {}
 
-#[doc(alias("IfRefusal", "Lists", "Replies"))]
+#[doc(alias("Fills", "IfRefusal", "Lists", "Replies"))]
 /// What a request returns, for any source.
 ///
 /// <pre>
@@ -418,6 +418,15 @@ pub mod phases {}
 ///     pub behind : new ≡ old ++ given
 ///     pub many : <a href="../../logic/index.html#length">length</a> given ≡ n
 ///     pub replies : <a href="#Replies">Replies</a> before after n (<a href="../../logic/index.html#Ok">Ok</a> given)
+/// </pre>
+///
+/// <pre>
+///   -- A log was filled from nothing on. Its spawns are the requests that were made with the reserver,
+///   -- one after the other, and nothing has changed except what the reserver reserves with.
+///   pub record <b id="Fills">Fills</b> {C : Type 0} (before after : <a href="../phases/index.html#Reserver">Reserver</a> S R) (log : <a href="../../logic/index.html#List">List</a> (Entry C)) : Type 0 where
+///     pub same : after ≡ record before { reserver = after.reserver }
+///     pub served : <a href="../../ent_alloc/serving/index.html#AreServed">AreServed</a> (may_reply before.source) before.reserver (flat_map <a href="../../ent_queue/logging/index.html#request_of">request_of</a> log)
+///         after.reserver
 /// </pre>
 pub mod reserving {}
 

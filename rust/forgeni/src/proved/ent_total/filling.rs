@@ -71,11 +71,10 @@ impl<S: Phased> Reserver<S> {
     ///
     /// </details>
     #[inline]
-    pub fn fill<C, T: LogSystem<C, S, E>, E>(
-        &mut self,
-        log: &mut Log<C>,
-        system: &T,
-    ) -> Result<(), E> {
+    pub fn fill<C, T, E>(&mut self, log: &mut Log<C>, system: &T) -> Result<(), E>
+    where
+        T: LogSystem<C, S, E>,
+    {
         let mut filled = mem::replace(log, Log::new());
         filled.clear();
         let source: &S = &self.source;
