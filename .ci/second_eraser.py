@@ -103,7 +103,7 @@ IMPORTS = named(
 ASSOCIATED = named(
     "Arc: new try_clone try_unwrap; BTreeMap: new; Badge: blank; Buffer: new; NonZeroU32: new; NonZeroU64: MIN new; Table: of_words;"
     "SmallVec: new with_capacity; Vec: new with_capacity; fmt: Debug Display Formatter Result; i64: from; mem: replace; slice: Iter;"
-    "u16: from_le_bytes; u32: MAX from from_le_bytes; u64: from from_le_bytes; usize: from try_from"
+    "u16: from_le_bytes; u32: MAX from from_le_bytes; u64: MAX from from_le_bytes; usize: from try_from"
 )
 PRELUDE = set(
     "Some None Ok Err Option Result Vec Self self Iterator DoubleEndedIterator ExactSizeIterator From Into Default Copy Clone Send Sync Fn "
@@ -111,12 +111,12 @@ PRELUDE = set(
 )
 METHODS = set(
     "all as_bytes as_chunks as_mut_slice as_slice binary_search binary_search_by_key capacity cast_signed cast_unsigned checked_add "
-    "checked_mul checked_sub clear close_with cmp collect contains copied count enumerate extend_from_slice extend_with_clones "
-    "fetch_add fetch_sub filter format free get get_mut insert into into_badge into_iter into_seat is_ascii_digit is_empty is_err is_none "
-    "is_none_or is_ok is_some iter iter_mut join_seat len load_new_seat map map_err max min next next_back ok ok_or pop position push "
-    "push_reserved remove reserve reserve_exact resize retain reverse saturating_add saturating_mul saturating_sub "
-    "shrink_to_fit size_hint sort_by_cached_key sort_by_key sort_unstable split_at split_at_mut split_first split_first_chunk "
-    "split_last split_seat swap_remove take then "
+    "checked_mul checked_sub clear close_with cmp collect contains copied copy_from_slice count enumerate extend_from_slice "
+    "extend_with_clones fetch_add fetch_sub filter format free get get_mut insert into into_badge into_iter into_seat is_ascii_digit is_empty is_err "
+    "is_none is_none_or is_ok is_some iter iter_mut join_seat len load_new_seat map map_err max min next next_back ok ok_or "
+    "overflowing_add pop position push push_reserved remove reserve reserve_exact resize retain reverse saturating_add saturating_mul "
+    "saturating_sub shrink_to_fit size_hint sort_by_cached_key sort_by_key sort_unstable split_at split_at_mut split_first "
+    "split_first_chunk split_last split_seat swap_remove take then "
     "to_le_bytes truncate unwrap unwrap_or word write_str write_u64".split()
 )
 # Methods of a trait of these crates that another type or trait has too. Each call can mean no other

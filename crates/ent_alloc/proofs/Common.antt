@@ -34,8 +34,8 @@ pub use Rattle.std.proofs.lemmas.List.{length-replicate, length-reverse, length-
 pub use Rattle.std.proofs.lemmas.List.{length-take-le, length_push, map-append, map_push}
 pub use Rattle.std.proofs.lemmas.List.{nil_from_length, reverse-append, reverse-reverse, same_lists}
 pub use Rattle.std.proofs.lemmas.List.{take-append-drop, take-append-le, take-map, take-set-le}
-pub use Rattle.std.proofs.lemmas.List.{take-take, take_all, take_at, take_more, take_rest}
-pub use Rattle.std.proofs.lemmas.List.{with_items_is}
+pub use Rattle.std.proofs.lemmas.List.{set-get_or, take-take, take_all, take_at, take_more}
+pub use Rattle.std.proofs.lemmas.List.{take_rest, with_items_is}
 pub use Rattle.std.proofs.lemmas.List.Edits.{Swapped, length-swap, swapped_from_swap}
 pub use Rattle.std.proofs.lemmas.List.Elements.{All-append, All-cons, All-contains}
 pub use Rattle.std.proofs.lemmas.List.Elements.{All-contains_itself, All-drop, All-filter, All-head}

@@ -14,7 +14,8 @@ use Rattle.ent_alloc.proofs.Common.{All-permutation, IsPermutation-append_left}
 use Rattle.ent_alloc.proofs.Common.{IsPermutation-reverse, IsPermutation-trans, Handle, Roster}
 use Rattle.ent_alloc.proofs.Common.{Allocator, available, top, fresh, IsSound, AreApart, idle}
 use Rattle.ent_alloc.proofs.Common.{allocator_of, AreReserved, Requests, with_front, slots_of}
-use Rattle.ent_alloc.proofs.Common.{AreSlotsOf, map-append}
+use Rattle.ent_alloc.proofs.Common.{AreSlotsOf, map-append, range_with_len, same_lists, get_or-take}
+use Rattle.ent_alloc.proofs.Common.{get_or-drop, get_or-range_with_len, length-range_with_len}
 use Rattle.ent_alloc.proofs.FreshHandles.{first_of_slot, length-fresh, All-fresh, take_joined}
 use Rattle.ent_alloc.proofs.FreshHandles.{drop_joined, get_or-fresh}
 use Rattle.ent_alloc.proofs.LaidOut.{old_ones, IsLaidOut, flushed-laid_out, laid_out-sound}
@@ -231,13 +232,7 @@ module _ (r : Roster) (position : ℕ) where
       (arith, length-map (idle r) (λ (h : Handle). h.index))) (search
       (rules, get_or_default, get_or-map, length-map))
 
-  pub slot_waits : (h : Handle) → position < length r.pending
-      → slice_get r.pending (length r.pending - 1 - position) ≡ Some h
-      → slice_get (slots_of (idle r)) position ≡ Some h.index
-  slot_waits h waits is = at_position h.index h (omega (arith, length-idle r)) (search
-      (rules, get_or_append_left, length-reverse, get_or-reverse, get_or_from_slice_get))
-
-  pub slot_is_fresh : length r.pending ≤ position → position < length (idle r)
+  slot_is_fresh : length r.pending ≤ position → position < length (idle r)
       → slice_get (slots_of (idle r)) position ≡ Some (r.made + (position - length r.pending))
   slot_is_fresh late below = search (
     rules,
@@ -249,6 +244,28 @@ module _ (r : Roster) (position : ℕ) where
         (length r.pending) position (first_of_slot 0),
     get_or-fresh r.made (r.limits.slots - r.made) (position - length r.pending) (first_of_slot 0),
   )
+
+-- a run of fresh ones
+pub fresh_part : (r : Roster) (from count : ℕ) → (0 < count → length r.pending ≤ from)
+    → from + count ≤ length (idle r) → take count (drop from (slots_of (idle r)))
+    ≡ range_with_len (r.made + (from - length r.pending)) count
+fresh_part r from count past within =
+    let all = length-map (idle r) (λ (h : Handle). h.index) in
+    same_lists _ _
+    (search (rules, arith, all, length-take-le, length-drop, length-range_with_len))
+    (λ k d lt. search (
+      rules,
+      arith,
+      all,
+      length-take-le,
+      length-drop,
+      past,
+      get_or-take,
+      get_or-drop,
+      get_or-range_with_len,
+      get_or_from_slice_get,
+      slot_is_fresh r (from + k),
+    ))
 
 -- ---- those that wait, as they are listed
 

@@ -3,7 +3,7 @@
 use Rattle.ent_alloc.proofs.Common.{rules, ◌≡◌, ◌≢◌, ◌⊎◌, inl, inr, ℕ, zero, suc, ◌+◌, ◌-◌, ◌<◌}
 use Rattle.ent_alloc.proofs.Common.{◌≤◌, refl, sym, ◌∙◌, List, [], ◌∷◌, ◌++◌, length, get_or, set}
 use Rattle.ent_alloc.proofs.Common.{take, drop, map, reverse, All, AllPairs, IsPermutation, arith}
-use Rattle.ent_alloc.proofs.Common.{false, None, common_steps, cases_lt, cases_eq, length-set}
+use Rattle.ent_alloc.proofs.Common.{true, is_pending_from, false, None, common_steps, cases_lt, cases_eq, length-set}
 use Rattle.ent_alloc.proofs.Common.{get_or-set_same, get_or-set_other, get_or-map, length-map}
 use Rattle.ent_alloc.proofs.Common.{length-drop, get_or-drop, length-take-le, get_or-reverse}
 use Rattle.ent_alloc.proofs.Common.{All-tail, All-cons, All-permutation, Handle, Limits, Roster}
@@ -25,7 +25,7 @@ length-placed pending top (i ∷ is) = length-placed (set pending (top - 1) i) (
     ∙ length-set pending (top - 1) i
 
 -- they come last first below the top
-placed_is : (pending : List ℕ) (top : ℕ) (is : List ℕ) → length is ≤ top → top ≤ length pending
+pub placed_is : (pending : List ℕ) (top : ℕ) (is : List ℕ) → length is ≤ top → top ≤ length pending
     → placed pending top is ≡ take (top - length is) pending ++ (reverse is ++ drop top pending)
 placed_is pending top [] few within = search (rules, take-append-drop)
 placed_is pending top (i ∷ is) few within =
@@ -349,6 +349,14 @@ module _ (limits : Limits) (records : List SlotRecord) (pending : List ℕ) (liv
   roster_in =
       search
       (rules, slots.slots, waits_after, same_living, same_rows, after_long, long_view, as_many)
+
+  pub waiting_in : All (λ i. is_pending_from (record_at records i).occupancy 0 ≡ true) is
+  waiting_in =
+      let waits =
+      each (λ h. is_pending_from (record_at records h.index).occupancy 0 ≡ true)
+      (λ position late within. search (rules, linked.forward position within)) in
+      rw slots.slots (All-map (λ i. is_pending_from (record_at records i).occupancy 0 ≡ true)
+      (λ (h : Handle). h.index) hs waits)
 
   pub slots_in : All (λ i. i < length records) is
   slots_in =

@@ -6,7 +6,7 @@ use Rattle.std.proofs.lemmas.Bool.{cases_lt, le-ltb, lt-ltb, ne_eqb}
 use Rattle.std.proofs.lemmas.List.{append-nil, append_assoc, drop_all, length-append, length-drop}
 use Rattle.std.proofs.lemmas.List.{length-map, length-reverse, length-take-le, reverse-reverse}
 use Rattle.ent_alloc.proofs.FreshHandles.{length-fresh}
-use Rattle.ent_alloc.proofs.FrontPools.{few_of, room_of, slot_is_fresh, slot_waits}
+use Rattle.ent_alloc.proofs.FrontPools.{few_of, room_of}
 use Rattle.ent_alloc.proofs.ImageFront.{front_fault, front_passes, length_fault, magic_fault}
 use Rattle.ent_alloc.proofs.ImageFront.{too_short_for_magic, version_fault}
 use Rattle.ent_alloc.proofs.ImageHeader.{header_then, letters, numbers_then, other_magic}
@@ -83,8 +83,6 @@ pub ruleset laws = (
   rising_occupants,
   room_of,
   roster_is,
-  slot_is_fresh,
-  slot_waits,
   take-reverse,
   too_short,
   too_short_for_magic,

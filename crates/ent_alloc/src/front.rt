@@ -1,13 +1,13 @@
 //! What was used of portions of the pool's front, and what is left of them.
 ghost use Rattle.std.specs.Prelude.{◌≡◌, ◌+◌, ◌-◌, ◌^◌, ◌<◌, ◌≤◌, ◌++◌, IfOk, OnOk, OnErr, All};
-ghost use Rattle.std.specs.Prelude.{Some};
 ghost use Rattle.std.specs.Prelude.{length, take, drop, reverse, vec_len, vec_capacity};
-ghost use Rattle.std.specs.Prelude.{slice_get, min, ◌==◌, if◌then◌else◌};
+ghost use Rattle.std.specs.Prelude.{min, ◌==◌, if◌then◌else◌, true};
 ghost use Rattle.std.specs.List.{range_with_len};
 ghost use Rattle.ent_alloc.specs.Sequential.{fresh as fresh_handles, top};
 ghost use Rattle.ent_alloc.specs.Entities.{HasRowsOfLiving, idle};
 ghost use Rattle.ent_alloc.specs.Front.{new_waiting, placed, moved, with_front, slots_of};
 ghost use Rattle.ent_alloc.specs.Front.{AreSlotsOf};
+ghost use Rattle.ent_alloc.specs.Slots.{is_pending_from, record_at};
 ghost use Rattle.ent_alloc.specs.Portions.{AreUsed, size_of, count_of, reach_of, used_of, left_of};
 ghost use Rattle.ent_alloc.specs.Portions.{front_of, after_portions, arranged};
 
@@ -37,20 +37,33 @@ fn make_waiting(records: &mut Vec<PackedSlot>, pending: &mut Vec<u32>, count: u3
     }
 }
 
-/// Lets these slots wait after all others, the first one last.
+/// Writes these at the end of a list, the first one last.
+fn place_last(pending: &mut [u32], order: &[u32])
+    requires few { length order.now ≤ length pending.old }
+    ensures { pending.new ≡ placed pending.old (length pending.old) order.now }
+{
+    // As one piece, so that no item takes a test of its place.
+    let kept = pending.len() - order.len();
+    let places = &mut pending[kept..];
+    places.copy_from_slice(order);
+    places.reverse();
+}
+
+/// Lets these slots, which wait, wait after all others, the first one last.
 fn wait_last(records: &mut [PackedSlot], pending: &mut [u32], order: &[u32])
     requires made { All (λ i. i < length records.old) order.now }
+    requires waiting { All (λ i. is_pending_from (record_at records.old i).occupancy 0 ≡ true)
+        order.now }
     requires few { length order.now ≤ length pending.old }
     requires positions { length pending.old < 2 ^ 32 }
     ensures records { records.new ≡ moved records.old (length pending.old) order.now }
     ensures listed { pending.new ≡ placed pending.old (length pending.old) order.now }
 {
-    let mut position = pending.len();
+    place_last(pending, order);
+    let mut position = pending.len() as u32;
     for index in order {
         position -= 1;
-        pending[position] = *index;
-        let slot = &mut records[*index as usize];
-        *slot = PackedSlot::pending(slot.generation(), position as u32);
+        records[*index as usize].wait_at(position);
     }
 }
 
@@ -88,19 +101,6 @@ impl Slots {
         wait_last(&mut self.records, &mut self.pending, order);
     }
 
-    /// The slot at a position of what there is to give if nothing is reserved.
-    fn slot_at(&self, position: u32) -> u32
-        requires { position < length (idle self.now) }
-        ensures { slice_get (slots_of (idle self.now)) position ≡ Some result }
-    {
-        let waiting = self.waiting();
-        if position < waiting {
-            self.pending_at((waiting - 1 - position) as usize).index()
-        } else {
-            self.made() + (position - waiting)
-        }
-    }
-
     /// Appends `count` slots of what there is to give, from a position on. There is room for them.
     fn append_slots(&self, order: &mut Vec<u32>, from: u32, count: u32)
         requires within { from + count ≤ length (idle self.now) }
@@ -113,9 +113,7 @@ impl Slots {
     {
         let waiting = lesser(count, self.waiting().saturating_sub(from));
         self.append_waiting(order, from, waiting);
-        for more in waiting..count {
-            order.push_reserved(self.slot_at(from + more));
-        }
+        self.append_fresh(order, from + waiting, count - waiting);
     }
 
     /// The same of slots that wait.
@@ -129,6 +127,20 @@ impl Slots {
     {
         let end = self.pending.len().saturating_sub(from as usize);
         append_turned(order, &self.pending[end - count as usize..end]);
+    }
+
+    /// The same of slots that aren't made yet.
+    fn append_fresh(&self, order: &mut Vec<u32>, from: u32, count: u32)
+        requires past { 0 < count → length self.now.pending ≤ from }
+        requires within { from + count ≤ length (idle self.now) }
+        requires room { vec_len order.old + count ≤ vec_capacity order.old }
+        ensures items { order.new.items
+            ≡ order.old.items ++ take count (drop from (slots_of (idle self.now))) }
+        ensures len { vec_len order.new ≡ vec_len order.old + count }
+        ensures capacity { vec_capacity order.old ≤ vec_capacity order.new }
+    {
+        let first = self.made() + from.saturating_sub(self.waiting());
+        append_run(order, first, count);
     }
 
     /// Appends the slots of what was used.
@@ -203,6 +215,30 @@ fn append_turned(list: &mut Vec<u32>, items: &[u32])
     let start = list.len();
     list.extend_from_slice(items).unwrap();
     list[start..].reverse();
+}
+
+/// Appends that many numbers, from one on. There is room for them.
+fn append_run(list: &mut Vec<u32>, first: u32, count: u32)
+    requires room { vec_len list.old + count ≤ vec_capacity list.old }
+    requires numbers { first + count < 2 ^ 32 }
+    ensures items { list.new.items ≡ list.old.items ++ range_with_len first count }
+    ensures len { vec_len list.new ≡ vec_len list.old + count }
+    ensures capacity { vec_capacity list.old ≤ vec_capacity list.new }
+{
+    // As one piece, so that no item takes a test for room.
+    let start = list.len();
+    list.resize(start + count as usize, 0).unwrap();
+    number_from(&mut list[start..], first);
+}
+
+/// Numbers these places, from one on.
+fn number_from(places: &mut [u32], first: u32)
+    requires { first + length places.old < 2 ^ 32 }
+    ensures { places.new ≡ range_with_len first (length places.old) }
+{
+    for position in 0..places.len() {
+        places[position] = first + position as u32;
+    }
 }
 
 fn lesser(m: u32, n: u32) -> u32

@@ -1,8 +1,8 @@
 //! The record of a slot in eight bytes.
 ghost use Rattle.std.specs.Prelude.{◌≡◌, ℕ, ◌-◌, ◌^◌, ◌<◌, ◌≤◌, ◌==◌, ◌&&◌};
-ghost use Rattle.std.specs.Prelude.{None, Some, if◌then◌else◌};
+ghost use Rattle.std.specs.Prelude.{None, Some, true, if◌then◌else◌};
 ghost use Rattle.ent_alloc.specs.Living.{HasGeneration};
-ghost use Rattle.ent_alloc.specs.Slots.{is_alive, new_record, reuse};
+ghost use Rattle.ent_alloc.specs.Slots.{is_alive, is_pending_from, new_record, reuse};
 ghost use Rattle.ent_alloc.specs.declared.slot_record.Occupancy.TheVariants.{Alive, AliveWithRow};
 ghost use Rattle.ent_alloc.specs.declared.slot_record.Occupancy.TheVariants.{Pending, Retired};
 
@@ -211,6 +211,15 @@ impl PackedSlot {
             generation: self.generation(),
             occupancy: self.occupancy(),
         }
+    }
+
+    /// Lets the slot, which waits, wait at another position.
+    pub(crate) fn wait_at(&mut self, position: u32)
+        requires waits { is_pending_from self.old.occupancy 0 ≡ true }
+        requires few { position < 2 ^ 32 - 1 }
+        ensures { self.new ≡ record self.old { occupancy = Pending position } }
+    {
+        self.number = position;
     }
 
     /// Gives the slot its next occupant, which has the generation that is returned.

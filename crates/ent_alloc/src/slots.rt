@@ -188,9 +188,11 @@ impl Slots {
         ensures none { IfNone result (length self.now.pending ≤ after) }
         ensures few { length self.now.pending < 2 ^ 32 }
     {
-        let waiting = self.pending.len();
-        if after < waiting as u64 {
-            Some(self.pending_at(waiting - 1 - after as usize))
+        // The sum overflows if more than these wait, and is the position then. So one addition
+        // takes the place of a comparison, a subtraction and the test of the position.
+        let (position, waits) = (u64::MAX - after).overflowing_add(self.pending.len() as u64);
+        if waits {
+            Some(self.pending_at(position as usize))
         } else {
             None
         }
@@ -310,7 +312,21 @@ impl Slots {
         self.leave(handle)
     }
 
+    /// Retires the slot of an entity of the last generation. It is apart, so that the compiler
+    /// writes the records of other slots where nothing has to be moved between registers.
+    #[cold]
+    #[inline(never)]
+    fn retire(&mut self, handle: Handle)
+        requires lives { set.contains self.old.live handle ≡ true }
+        ensures { self.new ≡ retired_roster self.old handle }
+    {
+        self.records[handle.index() as usize] = PackedSlot::retired(handle.generation());
+        self.live -= 1;
+    }
+
     /// `free`, with or without room in that list. The slot is looked up once.
+    // Not inlined, its result goes through memory.
+    #[inline(always)]
     fn leave(&mut self, handle: Handle) -> Result<Option<Handle>, FreeFault>
         ensures waits { OnOk result (handle.generation ≢ self.old.limits.generations
             → self.new ≡ freed_roster self.old handle) }
@@ -335,8 +351,7 @@ impl Slots {
             return Err(FreeFault::NotAlive);
         }
         if generation == self.limits.generations() {
-            *slot = PackedSlot::retired(generation);
-            self.live -= 1;
+            self.retire(handle);
             return Ok(None);
         }
         let position = self.pending.len() as u32;

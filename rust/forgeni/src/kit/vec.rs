@@ -10,6 +10,7 @@
 use super::alloc::{AllocError, AllocFailed};
 use super::sorting::{merge_sort, sort_in_cycles};
 use ::alloc::vec::Vec;
+use core::mem::take;
 
 /// The calls.
 ///
@@ -117,7 +118,9 @@ impl<T> FallibleVec<T> for Vec<T> {
         if additional <= self.capacity() - self.len() {
             return Ok(());
         }
-        grow(self, additional)
+        let (list, result) = grown(take(self), additional);
+        *self = list;
+        result
     }
 
     fn reserve_exact_fallibly(&mut self, additional: usize) -> Result<(), AllocError> {
@@ -144,7 +147,7 @@ impl<T> FallibleVec<T> for Vec<T> {
         if self.reserve_fallibly(1).is_err() {
             return Err(AllocFailed { value });
         }
-        self.push(value);
+        self.push_reserved(value);
         Ok(())
     }
 
@@ -216,12 +219,14 @@ impl<T> FallibleVec<T> for Vec<T> {
     }
 }
 
-/// It is apart, so that where there is room only the test stands.
+/// The list, after an `Ok` with room for that many more. It is apart, so that where there is room
+/// only the test is in line. The list is passed by its value: if its address left the caller, the
+/// compiler would read its length from memory at each step of the caller's loop.
 #[cold]
 #[inline(never)]
-fn grow<T>(list: &mut Vec<T>, additional: usize) -> Result<(), AllocError> {
-    allow_growth()?;
-    Ok(list.try_reserve(additional)?)
+fn grown<T>(mut list: Vec<T>, additional: usize) -> (Vec<T>, Result<(), AllocError>) {
+    let result = allow_growth().and_then(|()| Ok(list.try_reserve(additional)?));
+    (list, result)
 }
 
 /// In tests, whether a growth is to be refused now. Else it is up to the allocator alone.

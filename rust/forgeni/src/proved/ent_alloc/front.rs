@@ -30,21 +30,35 @@ fn make_waiting(records: &mut Vec<PackedSlot>, pending: &mut Vec<u32>, count: u3
     }
 }
 
-/// Lets these slots wait after all others, the first one last.
+/// Writes these at the end of a list, the first one last.
+#[inline]
+fn place_last(pending: &mut [u32], order: &[u32])
+    // requires few { length order.now ≤ length pending.old }
+    // ensures { pending.new ≡ placed pending.old (length pending.old) order.now }
+{
+    // As one piece, so that no item takes a test of its place.
+    let kept = pending.len() - order.len();
+    let places = &mut pending[kept..];
+    places.copy_from_slice(order);
+    places.reverse();
+}
+
+/// Lets these slots, which wait, wait after all others, the first one last.
 #[inline]
 fn wait_last(records: &mut [PackedSlot], pending: &mut [u32], order: &[u32])
     // requires made { All (λ i. i < length records.old) order.now }
+    // requires waiting { All (λ i. is_pending_from (record_at records.old i).occupancy 0 ≡ true)
+    //     order.now }
     // requires few { length order.now ≤ length pending.old }
     // requires positions { length pending.old < 2 ^ 32 }
     // ensures records { records.new ≡ moved records.old (length pending.old) order.now }
     // ensures listed { pending.new ≡ placed pending.old (length pending.old) order.now }
 {
-    let mut position = pending.len();
+    place_last(pending, order);
+    let mut position = pending.len() as u32;
     for index in order {
         position -= 1;
-        pending[position] = *index;
-        let slot = &mut records[*index as usize];
-        *slot = PackedSlot::pending(slot.generation(), position as u32);
+        records[*index as usize].wait_at(position);
     }
 }
 
@@ -82,20 +96,6 @@ impl Slots {
         wait_last(&mut self.records, &mut self.pending, order);
     }
 
-    /// The slot at a position of what there is to give if nothing is reserved.
-    #[inline]
-    fn slot_at(&self, position: u32) -> u32
-        // requires { position < length (idle self.now) }
-        // ensures { slice_get (slots_of (idle self.now)) position ≡ Some result }
-    {
-        let waiting = self.waiting();
-        if position < waiting {
-            self.pending_at((waiting - 1 - position) as usize).index()
-        } else {
-            self.made() + (position - waiting)
-        }
-    }
-
     /// Appends `count` slots of what there is to give, from a position on. There is room for them.
     #[inline]
     fn append_slots(&self, order: &mut Vec<u32>, from: u32, count: u32)
@@ -109,9 +109,7 @@ impl Slots {
     {
         let waiting = lesser(count, self.waiting().saturating_sub(from));
         self.append_waiting(order, from, waiting);
-        for more in waiting..count {
-            order.push_reserved(self.slot_at(from + more));
-        }
+        self.append_fresh(order, from + waiting, count - waiting);
     }
 
     /// The same of slots that wait.
@@ -126,6 +124,21 @@ impl Slots {
     {
         let end = self.pending.len().saturating_sub(from as usize);
         append_turned(order, &self.pending[end - count as usize..end]);
+    }
+
+    /// The same of slots that aren't made yet.
+    #[inline]
+    fn append_fresh(&self, order: &mut Vec<u32>, from: u32, count: u32)
+        // requires past { 0 < count → length self.now.pending ≤ from }
+        // requires within { from + count ≤ length (idle self.now) }
+        // requires room { vec_len order.old + count ≤ vec_capacity order.old }
+        // ensures items { order.new.items
+        //     ≡ order.old.items ++ take count (drop from (slots_of (idle self.now))) }
+        // ensures len { vec_len order.new ≡ vec_len order.old + count }
+        // ensures capacity { vec_capacity order.old ≤ vec_capacity order.new }
+    {
+        let first = self.made() + from.saturating_sub(self.waiting());
+        append_run(order, first, count);
     }
 
     /// Appends the slots of what was used.
@@ -203,6 +216,32 @@ fn append_turned(list: &mut Vec<u32>, items: &[u32])
     let start = list.len();
     list.extend_from_slice_fallibly(items).unwrap();
     list[start..].reverse();
+}
+
+/// Appends that many numbers, from one on. There is room for them.
+#[inline]
+fn append_run(list: &mut Vec<u32>, first: u32, count: u32)
+    // requires room { vec_len list.old + count ≤ vec_capacity list.old }
+    // requires numbers { first + count < 2 ^ 32 }
+    // ensures items { list.new.items ≡ list.old.items ++ range_with_len first count }
+    // ensures len { vec_len list.new ≡ vec_len list.old + count }
+    // ensures capacity { vec_capacity list.old ≤ vec_capacity list.new }
+{
+    // As one piece, so that no item takes a test for room.
+    let start = list.len();
+    list.resize_fallibly(start + count as usize, 0).unwrap();
+    number_from(&mut list[start..], first);
+}
+
+/// Numbers these places, from one on.
+#[inline]
+fn number_from(places: &mut [u32], first: u32)
+    // requires { first + length places.old < 2 ^ 32 }
+    // ensures { places.new ≡ range_with_len first (length places.old) }
+{
+    for position in 0..places.len() {
+        places[position] = first + position as u32;
+    }
 }
 
 #[inline]

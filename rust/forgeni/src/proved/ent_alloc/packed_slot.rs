@@ -197,6 +197,16 @@ impl PackedSlot {
         }
     }
 
+    /// Lets the slot, which waits, wait at another position.
+    #[inline]
+    pub(super) fn wait_at(&mut self, position: u32)
+        // requires waits { is_pending_from self.old.occupancy 0 ≡ true }
+        // requires few { position < 2 ^ 32 - 1 }
+        // ensures { self.new ≡ record self.old { occupancy = Pending position } }
+    {
+        self.number = position;
+    }
+
     /// Gives the slot its next occupant, which has the generation that is returned.
     #[inline]
     pub(super) fn reuse(&mut self) -> u32

@@ -1,8 +1,7 @@
-use Rattle.ent_alloc.proofs.Common.{rules, ◌≡◌, ◌≢◌, ◌≤◌, true, arith, false≢true}
+use Rattle.ent_alloc.proofs.Common.{rules, ◌≡◌, ◌≢◌, ◌≤◌, true, arith, false≢true, set-get_or}
 use Rattle.std.specs.FinSet as sets
-use Rattle.ent_alloc.proofs.Occupants.{is_occupant, contains_occupants, occupant_generation}
+use Rattle.ent_alloc.proofs.Occupants.{is_occupant, contains_occupants}
 use Rattle.ent_alloc.proofs.Looked.{one_lives, release_keeps_links, roster_of-release}
-use Rattle.ent_alloc.proofs.Looked.{retire_keeps_links, roster_of-retire}
 use Rattle.ent_alloc.proofs.slots.Slots.leave.Goals.{Else-not-is_occupied_by, After-is_occupied_by}
 use Rattle.ent_alloc.proofs.slots.Slots.leave.Goals.{Else-generation-generations}
 use Rattle.ent_alloc.proofs.slots.Slots.leave.Goals as goal
@@ -33,32 +32,25 @@ returns-then-not-is_occupied_by-clause-not_alive c = search (rules, living)
 pub overflow_sub-self : goal.overflow_sub-self
 overflow_sub-self c = search (rules, some_live)
 
-pub overflow_sub-self-2 : goal.overflow_sub-self-2
-overflow_sub-self-2 c = search (rules, some_live)
-
+-- the record that was lent is as it was
 pub invariant_of-self-then-generation-generations :
     goal.invariant_of-self-then-generation-generations
-invariant_of-self-then-generation-generations c =
-    let lives =
-    lives (goal.at.invariant_of-self-then-generation-generations c).Else-not-is_occupied_by in
+invariant_of-self-then-generation-generations c = search (rules, set-get_or, c.self.invariant)
+
+pub retire-requires : goal.retire-requires
+retire-requires c =
+    let lives = lives (goal.at.retire-requires c).Else-not-is_occupied_by in
     search (
       rules,
-      occupant_generation c.self.inside.records.items c.args.handle lives,
-      retire_keeps_links _ _ _ _ _ c.self.invariant lives,
+      set-get_or,
+      lives,
+      contains_occupants c.self.inside.records.items c.args.handle,
     )
 
 pub returns-then-generation-generations-clause-retired :
     goal.returns-then-generation-generations-clause-retired
 returns-then-generation-generations-clause-retired c last =
-    let lives =
-    lives
-    (goal.at.returns-then-generation-generations-clause-retired c).Else-not-is_occupied_by in
-    search (
-      rules,
-      occupant_generation c.self.inside.records.items c.args.handle lives,
-      roster_of-retire _ _ _ _ _ c.self.invariant lives,
-      c.self.view_is,
-    )
+    search (rules, set-get_or, c.retire.ensures, c.self.view_is)
 
 pub returns-then-generation-generations-clause-lived :
     goal.returns-then-generation-generations-clause-lived

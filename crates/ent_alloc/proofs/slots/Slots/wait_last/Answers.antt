@@ -1,6 +1,8 @@
 use Rattle.ent_alloc.proofs.Common.{rules, sym, subst, ◌≡◌, ℕ, List, ◌<◌, length, All}
-use Rattle.ent_alloc.proofs.Common.{with_items_is, SlotRecord, placed, moved}
-use Rattle.ent_alloc.proofs.Fronts.{slots_in, links_in, roster_in, length-moved, length-placed}
+use Rattle.ent_alloc.proofs.Common.{with_items_is, SlotRecord, placed, moved, true, record_at}
+use Rattle.ent_alloc.proofs.Common.{is_pending_from}
+use Rattle.ent_alloc.proofs.Fronts.{slots_in, waiting_in, links_in, roster_in, length-moved}
+use Rattle.ent_alloc.proofs.Fronts.{length-placed}
 use Rattle.ent_alloc.proofs.slots.Slots.wait_last.Goals.{After-wait_last}
 use Rattle.ent_alloc.proofs.slots.Slots.wait_last.Goals as goal
 
@@ -9,6 +11,14 @@ wait_last-requires-clause-made c =
     subst (λ (rs : List SlotRecord). All (λ i. i < length rs) c.args.order.now)
     (sym c.deref_mut.ensures.value)
     (slots_in _ _ _ _ _ c.args.self.now c.self.invariant c.self.view_is c.requires.few
+    c.requires.same)
+
+pub wait_last-requires-clause-waiting : goal.wait_last-requires-clause-waiting
+wait_last-requires-clause-waiting c = subst
+    (λ (rs : List SlotRecord). All (λ i. is_pending_from (record_at rs i).occupancy 0 ≡ true)
+    c.args.order.now)
+    (sym c.deref_mut.ensures.value)
+    (waiting_in _ _ _ _ _ c.args.self.now c.self.invariant c.self.view_is c.requires.few
     c.requires.same)
 
 -- what is written
