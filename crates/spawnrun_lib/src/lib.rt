@@ -17,6 +17,7 @@ mod found;
 mod frame;
 mod frame_in_blocks;
 mod frame_text;
+mod frame_workers;
 mod issuing;
 mod output;
 mod part;
