@@ -1,5 +1,5 @@
 #!/bin/sh
-# Runs a script of frames on eight workers, in blocks too, with each of its threads refused in turn, and with all of them. Each run must end
+# Runs a script of long frames on eight workers, in blocks too, with each of its threads refused in turn, and with all of them. Each run must end
 # as one on one worker does: a worker whose thread can't be started runs on another thread, and the report doesn't tell. There must be just
 # as many threads as the systems need, since no contract says that `run` starts any. It needs `cc` on the path, and the program as `.ci/run`
 # or `prove.sh` built it. If it wasn't built, `rt`, which then proves it first.
@@ -8,9 +8,20 @@ here=$(cd "$(dirname "$0")" && pwd)
 room=$(mktemp -d)
 trap 'rm -rf "$room"' EXIT
 program=${PROGRAMS:-$here/../crates/spawnrun/out}/spawnrun
-script=$here/data/spawners.json
+script=$room/script
 [ -x "$program" ] || (cd "$here/../crates/spawnrun" && rt run >"$room/built" 2>&1)
 cc -O2 -shared -fPIC -o "$room/refuse.so" "$here/refuse_thread.c" -ldl
+
+# A system of so many commands that a frame of it and others starts threads.
+system() {
+    awk 'BEGIN {
+        printf "[{\"spawn\":{},\"as\":\"a\"}"
+        for (i = 0; i < 9000; i++) printf ",{\"insert\":{\"hp\":%d},\"on\":{\"name\":\"a\"}}", i
+        printf "]"
+    }'
+}
+one=$(system)
+echo "{\"components\":[\"hp\"],\"frames\":[[$one,$one,$one],[$one],[$one,$one]]}" >"$script"
 
 # run NUMBER WORDS..: the script with that thread refused. It makes the file refused if it came so far.
 run() {
@@ -22,7 +33,7 @@ run() {
 }
 
 # each WHAT WORDS..: the script with each of its threads refused in turn, and with all. Its frames have 3, 1 and 2 systems. A frame has
-# a worker for each system, and one of them runs in the thread that is there already.
+# a thread for each system, and one of them is there already.
 each() {
     what=$1 threads=3
     shift

@@ -54,6 +54,18 @@ pub(crate) fn write_u64(bytes: &mut Vec<u8>, number: u64)
     let _ = bytes.extend_from_slice(&number.to_le_bytes());
 }
 
+/// A byte and the number after it, both at once.
+#[tactic(auto, unfolding(crate::specs::Packing::bytes_8))]
+fn write_u8_u64(bytes: &mut Vec<u8>, first: u8, number: u64)
+    requires { vec_len bytes.old + 9 ≤ vec_capacity bytes.old }
+    ensures items { bytes.new.items ≡ bytes.old.items ++ first ∷ bytes_8 number }
+    ensures len { vec_len bytes.new ≡ vec_len bytes.old + 9 }
+    ensures capacity { vec_capacity bytes.old ≤ vec_capacity bytes.new }
+{
+    let n = number.to_le_bytes();
+    let _ = bytes.extend_from_slice(&[first, n[0], n[1], n[2], n[3], n[4], n[5], n[6], n[7]]);
+}
+
 pub(crate) fn write_handle(bytes: &mut Vec<u8>, handle: Handle)
     requires { vec_len bytes.old + 8 ≤ vec_capacity bytes.old }
     ensures is { IsHandle handle }
@@ -71,8 +83,7 @@ fn write_item(bytes: &mut Vec<u8>, item: (ComponentId, i64))
     ensures capacity { vec_capacity bytes.old ≤ vec_capacity bytes.new }
 {
     let (id, value) = item;
-    write_u8(bytes, id.0);
-    write_u64(bytes, value.cast_unsigned());
+    write_u8_u64(bytes, id.0, value.cast_unsigned());
 }
 
 pub(crate) fn write_bundle(bytes: &mut Vec<u8>, items: &[(ComponentId, i64)])
@@ -101,8 +112,7 @@ pub(crate) fn write_with_bundle(
     ensures items { bytes.new.items
         ≡ bytes.old.items ++ kind ∷ (handle_bytes handle ++ bundle_bytes items.now) }
 {
-    write_u8(bytes, kind);
-    write_handle(bytes, handle);
+    write_u8_u64(bytes, kind, handle.to_bits());
     write_bundle(bytes, items);
 }
 
@@ -112,8 +122,7 @@ pub(crate) fn write_remove(bytes: &mut Vec<u8>, handle: Handle, id: ComponentId)
     ensures id { id.0 < 2 ^ 8 }
     ensures items { bytes.new.items ≡ bytes.old.items ++ command_bytes (Remove handle id) }
 {
-    write_u8(bytes, REMOVE);
-    write_handle(bytes, handle);
+    write_u8_u64(bytes, REMOVE, handle.to_bits());
     write_u8(bytes, id.0);
 }
 
@@ -122,8 +131,7 @@ pub(crate) fn write_despawn(bytes: &mut Vec<u8>, handle: Handle)
     ensures handle { IsHandle handle }
     ensures items { bytes.new.items ≡ bytes.old.items ++ command_bytes (Despawn handle) }
 {
-    write_u8(bytes, DESPAWN);
-    write_handle(bytes, handle);
+    write_u8_u64(bytes, DESPAWN, handle.to_bits());
 }
 
 pub(crate) fn write_refused(bytes: &mut Vec<u8>, wanted: u32, why: Refused)

@@ -1,6 +1,7 @@
 pub mod Positions
 pub mod Few
 pub mod Puts
+pub mod RisingBirths
 pub mod ByBirth
 pub mod Changed
 pub mod ColumnsAtPlaces

@@ -9,13 +9,13 @@ ghost use Rattle.ent_storage.specs.Components.{with_items, missing};
 ghost use Rattle.ent_storage.specs.Living.{born_at, change_at, with_birth_at, IsMovedInto};
 ghost use Rattle.ent_storage.specs.Living.{IsValueAt};
 ghost use Rattle.ent_storage.specs.Indexed.{has_handle_at};
-ghost use Rattle.ent_storage.specs.BirthOrder.{IsLeastOf};
+ghost use Rattle.ent_storage.specs.BirthOrder.{IsInOrder, IsLeastOf};
 
 use super::columns;
 use super::items::Items;
 use super::key::Key;
 use super::lists::overwrite;
-use super::order::least_of_birth;
+use super::order::{handles_by_birth, least_of_birth};
 use super::sparse_set::SparseSet;
 use ent_handle::{Birth, ComponentId, Handle};
 use std::alloc::{AllocError, Global};
@@ -253,13 +253,14 @@ impl Living {
         columns::remove(&mut self.columns, place, id)
     }
 
-    /// The birth and the handle of each entity. It doesn't allocate if there is none.
-    pub fn births(&self, alloc: Global) -> Result<Vec<(Birth, Handle)>, AllocError>
-        ensures ok { IfOk result (λ births. births.items
-            ≡ map (λ entity. (entity.birth, entity.handle)) self.now.entities) }
+    /// The handles of the entities, by birth and then by handle. It doesn't allocate if there is
+    /// none.
+    pub fn by_birth(&self, alloc: Global) -> Result<Vec<Handle>, AllocError>
+        ensures ok { IfOk result (λ handles. IsInOrder
+            (map (λ entity. (entity.birth, entity.handle)) self.now.entities) handles.items) }
         ensures memory { OnErr result (0 < length self.now.entities) }
     {
-        births(alloc, &self.residents)
+        handles_by_birth(alloc, &self.residents)
     }
 
     /// The least handle of an entity with that birth, if there is one. It doesn't allocate.
@@ -303,21 +304,6 @@ impl Living {
             None => &[],
         }
     }
-}
-
-/// The birth and the handle of each resident.
-fn births(alloc: Global, residents: &[Resident]) -> Result<Vec<(Birth, Handle)>, AllocError>
-    ensures ok { IfOk result (λ births.
-        births.items ≡ map (λ resident. (resident.birth, resident.handle)) residents.now) }
-    ensures memory { OnErr result (0 < length residents.now) }
-{
-    if residents.is_empty() {
-        return Ok(Vec::new(alloc));
-    }
-    residents
-        .iter()
-        .map(|resident| (resident.birth, resident.handle))
-        .collect(alloc)
 }
 
 /// Returns `true` if the entity at the place has the handle of that key.

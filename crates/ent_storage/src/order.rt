@@ -1,12 +1,63 @@
-ghost use Rattle.std.specs.Prelude.{◌≡◌, ◌≢◌, ◌⊎◌, ◌<◌, IfOk, IfSome, OnErr, Some, map, length};
-ghost use Rattle.std.specs.List.Sorted.{IsPermutation};
+ghost use Rattle.std.specs.Prelude.{◌≡◌, ◌≢◌, ◌⊎◌, ◌<◌, IfOk, IfSome, OnErr, Some, map, length, true};
+ghost use Rattle.std.specs.List.Sorted.{IsPermutation, IsSorted};
 ghost use Rattle.std.specs.declared.cmp.Ordering.TheVariants.{Greater};
 ghost use Rattle.ent_handle.specs.Handle.{handle_cmp};
-ghost use Rattle.ent_storage.specs.BirthOrder.{IsInOrder, IsLeastOf};
+ghost use Rattle.ent_storage.specs.BirthOrder.{IsInOrder, IsLeastOf, pair_cmp};
 
 use super::living::Resident;
 use ent_handle::{Birth, Handle};
 use std::alloc::{AllocError, Global};
+
+/// The handles of the residents, by birth and then by handle. Without residents it doesn't allocate.
+/// It takes no time of a sort, and no memory but for the handles, if each was born before the next.
+pub fn handles_by_birth(alloc: Global, residents: &[Resident]) -> Result<Vec<Handle>, AllocError>
+    ensures ok { IfOk result (λ handles. IsInOrder
+        (map (λ resident. (resident.birth, resident.handle)) residents.now) handles.items) }
+    ensures memory { OnErr result (0 < length residents.now) }
+{
+    if residents.is_empty() {
+        return Ok(Vec::new(alloc));
+    }
+    if are_rising(residents) {
+        return handles_of(alloc, residents);
+    }
+    handles_in_order(alloc, births(alloc, residents)?)
+}
+
+/// The handle of each resident.
+fn handles_of(alloc: Global, residents: &[Resident]) -> Result<Vec<Handle>, AllocError>
+    ensures { IfOk result (λ handles.
+        handles.items ≡ map (λ resident. resident.handle) residents.now) }
+{
+    residents
+        .iter()
+        .map(|resident| resident.handle)
+        .collect(alloc)
+}
+
+/// Returns `true` if each resident was born before the next one.
+fn are_rising(residents: &[Resident]) -> bool
+    ensures { result ≡ true → IsSorted pair_cmp
+        (map (λ resident. (resident.birth, resident.handle)) residents.now) }
+{
+    for i in 1..residents.len() {
+        if residents[i].birth <= residents[i - 1].birth {
+            return false;
+        }
+    }
+    true
+}
+
+/// The birth and the handle of each resident.
+fn births(alloc: Global, residents: &[Resident]) -> Result<Vec<(Birth, Handle)>, AllocError>
+    ensures { IfOk result (λ births.
+        births.items ≡ map (λ resident. (resident.birth, resident.handle)) residents.now) }
+{
+    residents
+        .iter()
+        .map(|resident| (resident.birth, resident.handle))
+        .collect(alloc)
+}
 
 /// The handles, by birth and then by handle. Without entities it doesn't allocate.
 pub fn handles_in_order(
@@ -19,9 +70,24 @@ pub fn handles_in_order(
     if births.is_empty() {
         return Ok(Vec::new(alloc));
     }
+    if rise(&births) {
+        return handles(alloc, &births);
+    }
     sort_births(&mut births);
     births.sort_unstable();
     handles(alloc, &births)
+}
+
+/// Returns `true` if each birth comes before the next one.
+fn rise(births: &[(Birth, Handle)]) -> bool
+    ensures { result ≡ true → IsSorted pair_cmp births.now }
+{
+    for i in 1..births.len() {
+        if births[i].0 <= births[i - 1].0 {
+            return false;
+        }
+    }
+    true
 }
 
 /// Sorts by birth alone. What is left for the sort that follows are entities of one birth, so it

@@ -17,5 +17,6 @@ pub mod ParsedOptions
 pub mod MovedNames
 pub mod CommandLineOptions
 pub mod TaskOfWords
+pub mod FewerWorkers
 pub mod Common
 pub mod Laws

@@ -5,6 +5,7 @@ ghost use Rattle.ent_runner.specs.Frame.{Ends};
 ghost use Rattle.ent_script.specs.Sizes.{most_systems};
 ghost use Rattle.spawnrun_lib.specs.Issuing.{MayIssue};
 
+use crate::frame_workers::frame_workers;
 use crate::script_system::runnable;
 use ent_handle::Memory;
 use ent_runner::{NoGate, run_frame};
@@ -13,7 +14,8 @@ use ent_world::{SyncReport, World};
 use std::alloc::Global;
 use std::thread::Threads;
 
-/// Runs a frame of these systems on that many workers, and its sync point.
+/// Runs a frame of these systems on that many workers, and its sync point. If the frame has few
+/// commands, some of the workers have nothing to do, and no thread starts for them.
 pub(crate) fn run<R>(
     rt: &R,
     alloc: Global,
@@ -33,6 +35,7 @@ where
         report.born.items report.faults.items) }
 {
     let runnable = runnable(alloc, systems)?;
+    let workers = frame_workers(world.len(), systems, workers);
     match run_frame(rt, alloc, world, &runnable, workers, &NoGate) {
         Ok(report) => Ok(report.sync),
         Err(_) => Err(Memory),

@@ -11,7 +11,7 @@ use std::marker::Model;
 
 // How many births are looked up by a look at each entity before the entities are listed. The list
 // takes memory, and the time of a sort.
-const LOOKS: u32 = 16;
+const LOOKS: u32 = 2;
 
 /// The entities of a view in the order of their births, listed once many births are looked up.
 #[derive(Drop)]

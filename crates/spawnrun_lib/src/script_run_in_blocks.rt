@@ -7,6 +7,7 @@ ghost use Rattle.spawnrun_lib.specs.ReportInBlocks.{IsTextInBlocks};
 
 use crate::frame_in_blocks;
 use crate::frame_text::write_frame;
+use crate::frame_workers::frame_workers;
 use crate::progress::Progress;
 use crate::show::Show;
 use crate::world_text::write_world;
@@ -42,7 +43,8 @@ where
     let mut number = 0;
     for current in frames {
         progress.tell(number, count);
-        let went = frame_in_blocks::run(rt, alloc, world, size, current.systems(), workers);
+        let few = frame_workers(world.len(), current.systems(), workers);
+        let went = frame_in_blocks::run(rt, alloc, world, size, current.systems(), few);
         let Ok((after, report)) = went else {
             return Err(Memory);
         };

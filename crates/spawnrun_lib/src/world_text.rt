@@ -2,37 +2,30 @@ ghost use Rattle.std.specs.Prelude.{◌≡◌, ◌≢◌, ◌⊎◌, ◌+◌, �
 ghost use Rattle.std.specs.Prelude.{OnOk, OnErr, vec_len, vec_capacity, codes, string_bytes};
 ghost use Rattle.std.specs.FinMap as finite;
 ghost use Rattle.std.specs.List.{flat_map};
-ghost use Rattle.spawnrun_lib.specs.WorldText.{within_frame_text, birth_text, component_name};
-ghost use Rattle.spawnrun_lib.specs.WorldText.{item_text};
+ghost use Rattle.spawnrun_lib.specs.Heads.{IsHead};
+ghost use Rattle.spawnrun_lib.specs.WorldText.{birth_text, component_name, item_text};
 ghost use Rattle.spawnrun_lib.specs.WorldText.{entity_line, line_in, alive_line, IsWorldText};
 
 use crate::bytes::{append, append_labelled, append_number, append_shown};
+use crate::head::Head;
 use crate::show::Show;
 use ent_handle::{Birth, ComponentId, Handle, Memory};
 use ent_storage::Items;
 use ent_world::World;
 
-/// Appends a birth's system and ordinal, a dot before each.
-fn append_within_frame(out: &mut Vec<u8>, birth: Birth) -> Result<(), Memory>
-    ensures ok { OnOk result (out.new.items ≡ out.old.items ++ within_frame_text birth) }
-    ensures kept { OnErr result (take (vec_len out.old) out.new.items ≡ out.old.items) }
-    ensures full { OnErr result (vec_capacity out.old
-        < vec_len out.old + length (within_frame_text birth)) }
-    ensures capacity { vec_capacity out.old ≤ vec_capacity out.new }
-{
-    append_labelled(out, b".", birth.system)?;
-    append_labelled(out, b".", birth.ordinal)
-}
-
-fn append_birth(out: &mut Vec<u8>, birth: Birth) -> Result<(), Memory>
+/// Appends a birth, which begins with the head, and leaves that of its line.
+fn append_birth(out: &mut Vec<u8>, birth: Birth, head: &mut Head) -> Result<(), Memory>
+    requires { IsHead head.old }
+    ensures head { IsHead head.new }
     ensures ok { OnOk result (out.new.items ≡ out.old.items ++ birth_text birth) }
     ensures kept { OnErr result (take (vec_len out.old) out.new.items ≡ out.old.items) }
     ensures full { OnErr result (vec_capacity out.old
         < vec_len out.old + length (birth_text birth)) }
     ensures capacity { vec_capacity out.old ≤ vec_capacity out.new }
 {
-    append_number(out, birth.frame)?;
-    append_within_frame(out, birth)
+    head.turn_to(birth);
+    append(out, head.text())?;
+    append_number(out, birth.ordinal)
 }
 
 /// Appends a space and the name of a component, if it has one.
@@ -83,7 +76,10 @@ fn append_line(
     show: Show,
     named: (Handle, Birth),
     items: Items<'_>,
+    head: &mut Head,
 ) -> Result<(), Memory>
+    requires { IsHead head.old }
+    ensures head { IsHead head.new }
     ensures ok { OnOk result (out.new.items
         ≡ out.old.items ++ entity_line (map string_bytes names.now) show named.0 named.1
         items.entry) }
@@ -93,7 +89,7 @@ fn append_line(
     ensures capacity { vec_capacity out.old ≤ vec_capacity out.new }
 {
     let (handle, birth) = named;
-    append_birth(out, birth)?;
+    append_birth(out, birth, head)?;
     append_shown(out, show, handle)?;
     append_items(out, names, items)?;
     append(out, b"\n")
@@ -106,7 +102,10 @@ fn append_entity(
     show: Show,
     world: &World,
     handle: Handle,
+    head: &mut Head,
 ) -> Result<(), Memory>
+    requires { IsHead head.old }
+    ensures head { IsHead head.new }
     ensures ok { OnOk result (out.new.items
         ≡ out.old.items ++ line_in (map string_bytes names.now) show world.now.entities handle) }
     ensures kept { OnErr result (take (vec_len out.old) out.new.items ≡ out.old.items) }
@@ -120,7 +119,7 @@ fn append_entity(
     let Some(items) = world.items(handle) else {
         return Ok(());
     };
-    append_line(out, names, show, (handle, birth), items)
+    append_line(out, names, show, (handle, birth), items, head)
 }
 
 fn append_entities(
@@ -137,8 +136,13 @@ fn append_entities(
         (flat_map (line_in (map string_bytes names.now) show world.now.entities) handles.now)) }
     ensures capacity { vec_capacity out.old ≤ vec_capacity out.new }
 {
+    let mut head = Head::of(Birth {
+        frame: 0,
+        system: 0,
+        ordinal: 0,
+    });
     for handle in handles {
-        append_entity(out, names, show, world, *handle)?;
+        append_entity(out, names, show, world, *handle, &mut head)?;
     }
     Ok(())
 }

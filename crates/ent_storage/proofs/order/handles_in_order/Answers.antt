@@ -9,5 +9,5 @@ returns-clause-ok c =
       permutation =
           IsPermutation-trans _ _ _ c.sort_births.ensures c.sort_unstable.ensures.permutation;
       in_order = c.sort_unstable.ensures.sorted;
-      are = is ∙ ap (map (λ born. born.1)) c.deref.ensures.value;
-    }) c.handles.ensures.ok
+      are = is ∙ ap (map (λ born. born.1)) c.deref-2.ensures.value;
+    }) c.handles-2.ensures.ok

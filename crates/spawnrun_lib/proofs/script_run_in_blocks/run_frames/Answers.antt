@@ -7,7 +7,7 @@ loop-current-preserved g c =
     let i = c.loop-current.invariant in
     let front = c.in-Some.ensures.steps.0 in
     let went = c.in-Ok.ensures.went in
-    let ends = rw c.systems.ensures at went.1 in
+    let ends = rw c.systems-in-loop-current.ensures at went.1 in
     record {
       all = search (rules, append_assoc, rw front at i.all);
       counted = search (rules, length-append, i.counted);

@@ -1,13 +1,12 @@
 // Made of crates/ent_storage/src/living.rt by rust/erase. It isn't edited by hand.
 
 use alloc::vec::Vec;
-use crate::kit::vec::CollectIn;
 use crate::kit::vec::FallibleVec;
 use super::columns;
 use super::items::Items;
 use super::key::Key;
 use super::lists::overwrite;
-use super::order::least_of_birth;
+use super::order::{handles_by_birth, least_of_birth};
 use super::sparse_set::SparseSet;
 use crate::handles::{Birth, ComponentId, Handle};
 use crate::kit::alloc::AllocError;
@@ -278,20 +277,21 @@ impl Living {
         columns::remove(&mut self.columns, place, id)
     }
 
-    /// The birth and the handle of each entity. It doesn't allocate if there is none.
+    /// The handles of the entities, by birth and then by handle. It doesn't allocate if there is
+    /// none.
     ///
     /// <details><summary>Contract</summary>
     ///
     /// <code style="display: block; tab-size: 4; white-space: pre-wrap">// In the words of [contracts](crate::contracts):
-    /// ensures ok { [IfOk](crate::contracts::logic#IfOk) result (λ births. births.items
-    /// &#9;≡ [map](crate::contracts::logic#map) (λ entity. (entity.birth, entity.handle)) self.now.entities) }
+    /// ensures ok { [IfOk](crate::contracts::logic#IfOk) result (λ handles. [IsInOrder](crate::contracts::ent_storage::birth_order#IsInOrder)
+    /// &#9;([map](crate::contracts::logic#map) (λ entity. (entity.birth, entity.handle)) self.now.entities) handles.items) }
     /// ensures memory { [OnErr](crate::contracts::logic#OnErr) result (0 \< [length](crate::contracts::logic#length) self.now.entities) }
     /// </code>
     ///
     /// </details>
     #[inline]
-    pub fn births(&self) -> Result<Vec<(Birth, Handle)>, AllocError> {
-        births(&self.residents)
+    pub fn by_birth(&self) -> Result<Vec<Handle>, AllocError> {
+        handles_by_birth(&self.residents)
     }
 
     /// The least handle of an entity with that birth, if there is one. It doesn't allocate.
@@ -349,22 +349,6 @@ impl Living {
             None => &[],
         }
     }
-}
-
-/// The birth and the handle of each resident.
-#[inline]
-fn births(residents: &[Resident]) -> Result<Vec<(Birth, Handle)>, AllocError>
-    // ensures ok { IfOk result (λ births.
-    //     births.items ≡ map (λ resident. (resident.birth, resident.handle)) residents.now) }
-    // ensures memory { OnErr result (0 < length residents.now) }
-{
-    if residents.is_empty() {
-        return Ok(Vec::new());
-    }
-    residents
-        .iter()
-        .map(|resident| (resident.birth, resident.handle))
-        .collect_in()
 }
 
 /// Returns `true` if the entity at the place has the handle of that key.

@@ -193,7 +193,7 @@ impl Storage {
     }
 
     /// Returns the handles of all entities, ordered by birth and then by handle. It takes the time
-    /// of a sort.
+    /// of a sort, or of one pass if they stand in that order, as they mostly do until one despawns.
     ///
     /// ```
     /// use forgeni::{Birth, Storage};
@@ -220,8 +220,7 @@ impl Storage {
     /// </details>
     #[inline]
     pub fn by_birth(&self) -> Result<Vec<Handle>, OutOfMemory> {
-        let births = self.living.births()?;
-        Ok(handles_in_order(births)?)
+        Ok(self.living.by_birth()?)
     }
 
     /// Returns the handle of the entity with that birth, if there is one. If several entities have

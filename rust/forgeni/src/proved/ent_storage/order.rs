@@ -7,6 +7,67 @@ use super::living::Resident;
 use crate::handles::{Birth, Handle};
 use crate::kit::alloc::AllocError;
 
+/// The handles of the residents, by birth and then by handle. Without residents it doesn't allocate.
+/// It takes no time of a sort, and no memory but for the handles, if each was born before the next.
+///
+/// <details><summary>Contract</summary>
+///
+/// <code style="display: block; tab-size: 4; white-space: pre-wrap">// In the words of [contracts](crate::contracts):
+/// ensures ok { [IfOk](crate::contracts::logic#IfOk) result (λ handles. [IsInOrder](crate::contracts::ent_storage::birth_order#IsInOrder)
+/// &#9;([map](crate::contracts::logic#map) (λ resident. (resident.birth, resident.handle)) residents.now) handles.items) }
+/// ensures memory { [OnErr](crate::contracts::logic#OnErr) result (0 \< [length](crate::contracts::logic#length) residents.now) }
+/// </code>
+///
+/// </details>
+#[inline]
+pub fn handles_by_birth(residents: &[Resident]) -> Result<Vec<Handle>, AllocError> {
+    if residents.is_empty() {
+        return Ok(Vec::new());
+    }
+    if are_rising(residents) {
+        return handles_of(residents);
+    }
+    handles_in_order(births(residents)?)
+}
+
+/// The handle of each resident.
+#[inline]
+fn handles_of(residents: &[Resident]) -> Result<Vec<Handle>, AllocError>
+    // ensures { IfOk result (λ handles.
+    //     handles.items ≡ map (λ resident. resident.handle) residents.now) }
+{
+    residents
+        .iter()
+        .map(|resident| resident.handle)
+        .collect_in()
+}
+
+/// Returns `true` if each resident was born before the next one.
+#[inline]
+fn are_rising(residents: &[Resident]) -> bool
+    // ensures { result ≡ true → IsSorted pair_cmp
+    //     (map (λ resident. (resident.birth, resident.handle)) residents.now) }
+{
+    for i in 1..residents.len() {
+        if residents[i].birth <= residents[i - 1].birth {
+            return false;
+        }
+    }
+    true
+}
+
+/// The birth and the handle of each resident.
+#[inline]
+fn births(residents: &[Resident]) -> Result<Vec<(Birth, Handle)>, AllocError>
+    // ensures { IfOk result (λ births.
+    //     births.items ≡ map (λ resident. (resident.birth, resident.handle)) residents.now) }
+{
+    residents
+        .iter()
+        .map(|resident| (resident.birth, resident.handle))
+        .collect_in()
+}
+
 /// The handles, by birth and then by handle. Without entities it doesn't allocate.
 ///
 /// <details><summary>Contract</summary>
@@ -24,9 +85,25 @@ pub fn handles_in_order(
     if births.is_empty() {
         return Ok(Vec::new());
     }
+    if rise(&births) {
+        return handles(&births);
+    }
     sort_births(&mut births);
     births.sort_unstable();
     handles(&births)
+}
+
+/// Returns `true` if each birth comes before the next one.
+#[inline]
+fn rise(births: &[(Birth, Handle)]) -> bool
+    // ensures { result ≡ true → IsSorted pair_cmp births.now }
+{
+    for i in 1..births.len() {
+        if births[i].0 <= births[i - 1].0 {
+            return false;
+        }
+    }
+    true
 }
 
 /// Sorts by birth alone. What is left for the sort that follows are entities of one birth, so it

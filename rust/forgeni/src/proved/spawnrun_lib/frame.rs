@@ -2,6 +2,7 @@
 
 //! One frame of a script.
 
+use crate::spawnrun_lib::frame_workers::frame_workers;
 use crate::spawnrun_lib::script_system::runnable;
 use crate::handles::OutOfMemory;
 use crate::running::{NoGate, run_frame};
@@ -9,7 +10,8 @@ use crate::scripts::System;
 use crate::worlds::{Report, World};
 use crate::kit::thread::Join;
 
-/// Runs a frame of these systems on that many workers, and its sync point.
+/// Runs a frame of these systems on that many workers, and its sync point. If the frame has few
+/// commands, some of the workers have nothing to do, and no thread starts for them.
 #[inline]
 pub(super) fn run<R>(
     rt: &R,
@@ -29,6 +31,7 @@ where
     //     report.born.items report.faults.items) }
 {
     let runnable = runnable(systems)?;
+    let workers = frame_workers(world.len(), systems, workers);
     match run_frame(rt, world, &runnable, workers, &NoGate) {
         Ok(report) => Ok(report.sync),
         Err(_) => Err(OutOfMemory),

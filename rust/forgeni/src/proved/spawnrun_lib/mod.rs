@@ -18,6 +18,8 @@ mod found;
 mod frame;
 mod frame_in_blocks;
 mod frame_text;
+mod frame_workers;
+mod head;
 mod issuing;
 mod output;
 mod part;

@@ -5,6 +5,7 @@
 use alloc::vec::Vec;
 use crate::spawnrun_lib::frame_in_blocks;
 use crate::spawnrun_lib::frame_text::write_frame;
+use crate::spawnrun_lib::frame_workers::frame_workers;
 use crate::spawnrun_lib::progress::Progress;
 use crate::spawnrun_lib::show::Show;
 use crate::spawnrun_lib::world_text::write_world;
@@ -39,7 +40,8 @@ where
     let mut number = 0;
     for current in frames {
         progress.tell(number, count);
-        let went = frame_in_blocks::run(rt, world, size, current.systems(), workers);
+        let few = frame_workers(world.len(), current.systems(), workers);
+        let went = frame_in_blocks::run(rt, world, size, current.systems(), few);
         let Ok((after, report)) = went else {
             return Err(OutOfMemory);
         };

@@ -1,6 +1,6 @@
-use Rattle.ent_storage.proofs.Common.{rules, map, ap, ◌∙◌, Birth, Handle, Living}
+use Rattle.ent_storage.proofs.Common.{map, ap, ◌∙◌, Birth, Handle, Living}
 use Rattle.ent_storage.proofs.EntitiesOfResidents.{births_from}
-use Rattle.ent_storage.proofs.living.Living.births.Goals as goal
+use Rattle.ent_storage.proofs.living.Living.by_birth.Goals as goal
 
 pub returns-clause-ok : goal.returns-clause-ok
 returns-clause-ok c =
@@ -8,4 +8,4 @@ returns-clause-ok c =
     births_from 0 _ _
     ∙ ap (λ (l : Living). map {B = Birth × Handle} (λ e. (e.birth, e.handle)) l.entities)
     c.self.view_is in
-    search (rules, c.args.self.now.entities, c.deref.ensures.value, c.births.ensures.ok, same)
+    rw (c.deref.ensures.value, same) at c.handles_by_birth.ensures.ok

@@ -1,0 +1,7 @@
+use Rattle.ent_storage.proofs.Common.{map, Birth, Handle, Resident}
+use Rattle.ent_storage.proofs.RisingBirths.{AreInOrder}
+use Rattle.ent_storage.proofs.order.rise.Given as goal
+
+-- those that were compared are in order
+abbrev pub invariant-loop-i : goal.invariant-loop-i
+invariant-loop-i l = AreInOrder l.births l.i
