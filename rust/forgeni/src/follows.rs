@@ -147,8 +147,9 @@ tuples_follow!(A a B b C c D d E e F f G g H h);
 
 /// A struct of maps, one for each component, which [`Follows`] the entities.
 ///
-/// Each field is a [`HandleMap`], a [`SparseMap`], or a [`Tracked`](crate::Tracked) one of them, and
-/// keeps its attributes and its visibility. Besides what it derives, the struct has:
+/// Each field is a [`HandleMap`], a [`SparseMap`], or one of them that is
+/// [`Tracked`](crate::Tracked), and keeps its attributes and its visibility. Besides what it
+/// derives, the struct has:
 /// - `forget(handle)` and `despawn(&mut entities, handle)`, those of [`Follows`], which must be in
 ///   scope;
 /// - `sweep(&entities)`, which drops the values of all handles that are neither alive nor reserved.
@@ -258,7 +259,8 @@ macro_rules! tables {
             /// Out of memory.
             $seen fn try_clone(&self) -> ::core::result::Result<Self, $crate::OutOfMemory>
             where
-                $(for<'any> <$($Kind)::+ <$Value> as ::core::ops::Index<$crate::Handle>>::Output: ::core::clone::Clone,)+
+                $(for<'any> <$($Kind)::+ <$Value> as ::core::ops::Index<$crate::Handle>>::Output:
+                    ::core::clone::Clone,)+
             {
                 Ok(Self { $($map: self.$map.try_clone()?,)+ })
             }
@@ -274,7 +276,8 @@ macro_rules! tables {
                 source: &Self,
             ) -> ::core::result::Result<(), $crate::OutOfMemory>
             where
-                $(for<'any> <$($Kind)::+ <$Value> as ::core::ops::Index<$crate::Handle>>::Output: ::core::clone::Clone,)+
+                $(for<'any> <$($Kind)::+ <$Value> as ::core::ops::Index<$crate::Handle>>::Output:
+                    ::core::clone::Clone,)+
             {
                 $(self.$map.reserve_for(&source.$map)?;)+
                 $(self.$map.try_clone_from(&source.$map)?;)+

@@ -533,7 +533,10 @@ impl<M: AnyMap> Tracked<M> {
 }
 
 /// # Snapshots
-impl<M: AnyMap<Value: Clone>> Tracked<M> {
+impl<M: AnyMap> Tracked<M>
+where
+    M::Value: Clone,
+{
     /// Returns a clone with the same values, ticks and limit.
     ///
     /// ```
@@ -617,7 +620,10 @@ impl<M: AnyMap> Follows for Tracked<M> {
 }
 
 /// Each value with its tick.
-impl<M: AnyMap<Value: fmt::Debug>> fmt::Debug for Tracked<M> {
+impl<M: AnyMap> fmt::Debug for Tracked<M>
+where
+    M::Value: fmt::Debug,
+{
     fn fmt(&self, out: &mut fmt::Formatter<'_>) -> fmt::Result {
         out.debug_map().entries(self.with_ticks()).finish()
     }

@@ -128,8 +128,8 @@ where
         }
         // All values are lent, and some go, come or change their places.
         11 => {
-            let tick = model.tick(tick);
             let lent = map.map_mut(tick);
+            let tick = model.tick(tick);
             let all = HandleMap::from_iter((0..5).map(|at| (handle(at, 1), at)));
             (&mut *lent, &all)
                 .join()
@@ -140,8 +140,8 @@ where
             });
         }
         12 => {
-            let tick = model.tick(tick);
             let lent = map.map_mut(tick);
+            let tick = model.tick(tick);
             let done = made.with_panics(panics, || {
                 lent.retain(|one, _| one.index() % 2 > 0);
                 lent.insert(one, value()).is_ok()

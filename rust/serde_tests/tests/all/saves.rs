@@ -76,8 +76,10 @@ fn others_than_the_living() {
 #[test]
 fn room_for_slots_that_no_game_has() {
     let (entities, alive, _) = game();
-    let mut parts = Parts::default();
-    parts.place = Tracked::with_limit(entities.total());
+    let mut parts = Parts {
+        place: Tracked::with_limit(entities.total()),
+        ..Parts::default()
+    };
     parts.name.set_limit(entities.total());
     parts.place.insert(alive, 1, 0).expect("memory");
     for index in [3, 9, 200_000_000, 4_294_967_293u32] {
