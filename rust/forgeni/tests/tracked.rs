@@ -48,7 +48,8 @@ where
     M: AnyMap<Value = Counted> + Clone,
     for<'a> &'a mut M: forgeni::map::Leads<Lent = &'a mut Counted>,
 {
-    let one = handle(numbers.below(5) as u32, 1 + numbers.below(3) as u32);
+    // Five slots, far enough apart for several blocks of ticks.
+    let one = handle(9 * numbers.below(5) as u32, 1 + numbers.below(3) as u32);
     let number = numbers.below(40) as u32;
     let stood = model.values.get(&one).copied();
     let some = model.values.values().nth(numbers.below(8) as usize);
@@ -130,7 +131,7 @@ where
         11 => {
             let lent = map.map_mut(tick);
             let tick = model.tick(tick);
-            let all = HandleMap::from_iter((0..5).map(|at| (handle(at, 1), at)));
+            let all = HandleMap::from_iter((0..40).map(|at| (handle(at, 1), at)));
             (&mut *lent, &all)
                 .join()
                 .for_each(|(_, it, at)| it.number += at);
@@ -191,7 +192,7 @@ fn expect<M: AnyMap<Value = Counted>>(map: &Tracked<M>, model: &Model, place: &s
     let all = map.iter().map(|(one, it)| (one, it.number));
     let ticks = all.map(|(one, it)| (one, (it, map.tick(one).expect("a value"))));
     assert_eq!(ticks.collect::<BTreeMap<_, _>>(), model.values, "{place}");
-    for (index, generation) in (0..6).flat_map(|index| (1..5).map(move |it| (index, it))) {
+    for (index, generation) in (0..40).flat_map(|index| (1..5).map(move |it| (index, it))) {
         let one = handle(index, generation);
         let tick = model.values.get(&one).map(|it| it.1);
         assert_eq!(map.tick(one), tick, "{place}: {one}");
