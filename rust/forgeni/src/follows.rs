@@ -147,8 +147,9 @@ tuples_follow!(A a B b C c D d E e F f G g H h);
 
 /// A struct of maps, one for each component, which [`Follows`] the entities.
 ///
-/// Each field is a [`HandleMap`] or a [`SparseMap`], and keeps its attributes and its visibility.
-/// Besides what it derives, the struct has:
+/// Each field is a [`HandleMap`], a [`SparseMap`], or one of them that is
+/// [`Tracked`](crate::Tracked), and keeps its attributes and its visibility. Besides what it
+/// derives, the struct has:
 /// - `forget(handle)` and `despawn(&mut entities, handle)`, those of [`Follows`], which must be in
 ///   scope;
 /// - `sweep(&entities)`, which drops the values of all handles that are neither alive nor reserved.
@@ -222,11 +223,12 @@ macro_rules! tables {
             }
         }
 
-        #[allow(dead_code)]
+        #[allow(dead_code, unused_imports)]
         impl $Name {
             /// Drops the values of all handles that are neither alive nor reserved.
             $seen fn sweep(&mut self, entities: &$crate::Entities) {
-                $($crate::AnyMap::sweep(&mut self.$map, entities);)+
+                use $crate::AnyMap as _;
+                $(self.$map.sweep(entities);)+
             }
 
             /// The name of a map that has a value for a handle that is neither alive nor reserved,
@@ -235,7 +237,8 @@ macro_rules! tables {
                 &self,
                 entities: &$crate::Entities,
             ) -> ::core::option::Option<(&'static str, $crate::Handle)> {
-                let maps = [$((stringify!($map), $crate::AnyMap::stale(&self.$map, entities))),+];
+                use $crate::AnyMap as _;
+                let maps = [$((stringify!($map), self.$map.stale(entities))),+];
                 maps.into_iter().find_map(|(name, one)| Some((name, one?)))
             }
 
@@ -256,7 +259,8 @@ macro_rules! tables {
             /// Out of memory.
             $seen fn try_clone(&self) -> ::core::result::Result<Self, $crate::OutOfMemory>
             where
-                $(for<'any> $Value: ::core::clone::Clone,)+
+                $(for<'any> <$($Kind)::+ <$Value> as ::core::ops::Index<$crate::Handle>>::Output:
+                    ::core::clone::Clone,)+
             {
                 Ok(Self { $($map: self.$map.try_clone()?,)+ })
             }
@@ -272,7 +276,8 @@ macro_rules! tables {
                 source: &Self,
             ) -> ::core::result::Result<(), $crate::OutOfMemory>
             where
-                $(for<'any> $Value: ::core::clone::Clone,)+
+                $(for<'any> <$($Kind)::+ <$Value> as ::core::ops::Index<$crate::Handle>>::Output:
+                    ::core::clone::Clone,)+
             {
                 $(self.$map.reserve_for(&source.$map)?;)+
                 $(self.$map.try_clone_from(&source.$map)?;)+
@@ -280,7 +285,7 @@ macro_rules! tables {
             }
         }
 
-        $crate::tables_serde!($Name $($map $Value),+);
+        $crate::tables_serde!($Name $($map $($Kind)::+ <$Value>),+);
     };
 }
 

@@ -206,6 +206,29 @@ pub trait AnyMap:
     #[doc(hidden)]
     fn by_slot(&self) -> Option<impl BySlot>;
 
+    /// Where the value of the handle's slot is, or a new one would be, for what is kept beside each
+    /// value. Places are in the order of `iter`. After a removal the last one may have moved there.
+    #[doc(hidden)]
+    fn place(&self, handle: Handle) -> usize;
+
+    /// What is at this place.
+    #[doc(hidden)]
+    fn at(&self, place: usize) -> Option<(Handle, &Self::Value)>;
+
+    #[doc(hidden)]
+    fn with_limit(limit: u32) -> Self;
+
+    #[doc(hidden)]
+    fn limit(&self) -> u32;
+
+    #[doc(hidden)]
+    fn reserve_for(&mut self, source: &Self) -> Result<(), OutOfMemory>;
+
+    #[doc(hidden)]
+    fn try_clone_from(&mut self, source: &Self) -> Result<(), OutOfMemory>
+    where
+        Self::Value: Clone;
+
     /// Returns an iterator over the handles and mutable references to their values, in the same
     /// order.
     ///
@@ -309,62 +332,44 @@ pub trait AnyMap:
     }
 }
 
+/// Calls of a trait that the type has itself.
+macro_rules! own_calls {
+    ($(
+        fn $call:ident($first:ident: $First:ty $(, $arg:ident: $Arg:ty)*)
+        $(-> $Out:ty)? $(where $of:ident: $bound:path)?;
+    )*) => {$(
+        #[inline]
+        fn $call($first: $First $(, $arg: $Arg)*) $(-> $Out)? $(where $of: $bound)? {
+            Self::$call($first $(, $arg)*)
+        }
+    )*};
+}
+
 /// What is hand-written for both kinds of map. `$iter_by_slot` goes over the values in slot order.
 macro_rules! traits_of_a_map {
     ($Map:ident, $($Iter:ident)::+, $iter_by_slot:ident) => {
         impl<T> AnyMap for $Map<T> {
             type Value = T;
 
-            #[inline]
-            fn get(&self, handle: Handle) -> Option<&T> {
-                self.get(handle)
-            }
-
-            #[inline]
-            fn get_mut(&mut self, handle: Handle) -> Option<&mut T> {
-                self.get_mut(handle)
-            }
-
-            #[inline]
-            fn insert(
-                &mut self,
-                handle: Handle,
-                value: T,
-            ) -> Result<Option<T>, HandedBack<T, InsertError>> {
-                self.insert(handle, value)
-            }
-
-            #[inline]
-            fn remove(&mut self, handle: Handle) -> Option<T> {
-                self.remove(handle)
-            }
-
-            #[inline]
-            fn len(&self) -> usize {
-                self.len()
-            }
-
-            #[inline]
-            fn iter(&self) -> impl DoubleEndedIterator<Item = (Handle, &T)> + Clone {
-                self.iter()
-            }
-
-            #[inline]
-            fn by_slot(&self) -> Option<impl BySlot> {
-                self.sorted()
-            }
-
-            #[inline]
-            fn iter_mut(&mut self) -> impl DoubleEndedIterator<Item = (Handle, &mut T)> {
-                self.iter_mut()
-            }
-
-            fn retain(&mut self, keep: impl FnMut(Handle, &mut T) -> bool) {
-                self.retain(keep);
-            }
-
-            fn clear(&mut self) {
-                self.clear();
+            own_calls! {
+                fn get(self: &Self, handle: Handle) -> Option<&T>;
+                fn get_mut(self: &mut Self, handle: Handle) -> Option<&mut T>;
+                fn insert(self: &mut Self, handle: Handle, value: T)
+                    -> Result<Option<T>, HandedBack<T, InsertError>>;
+                fn remove(self: &mut Self, handle: Handle) -> Option<T>;
+                fn len(self: &Self) -> usize;
+                fn iter(self: &Self) -> impl DoubleEndedIterator<Item = (Handle, &T)> + Clone;
+                fn by_slot(self: &Self) -> Option<impl BySlot>;
+                fn place(self: &Self, handle: Handle) -> usize;
+                fn at(self: &Self, place: usize) -> Option<(Handle, &T)>;
+                fn iter_mut(self: &mut Self) -> impl DoubleEndedIterator<Item = (Handle, &mut T)>;
+                fn retain(self: &mut Self, keep: impl FnMut(Handle, &mut T) -> bool);
+                fn clear(self: &mut Self);
+                fn limit(self: &Self) -> u32;
+                fn with_limit(limit: u32) -> Self;
+                fn reserve_for(self: &mut Self, source: &Self) -> Result<(), OutOfMemory>;
+                fn try_clone_from(self: &mut Self, source: &Self) -> Result<(), OutOfMemory>
+                    where T: Clone;
             }
         }
 
@@ -574,8 +579,13 @@ macro_rules! traits_of_a_map {
 
 impl<T> HandleMap<T> {
     #[inline]
-    fn sorted(&self) -> Option<&Self> {
+    fn by_slot(&self) -> Option<&Self> {
         Some(self)
+    }
+
+    #[inline]
+    fn place(&self, handle: Handle) -> usize {
+        handle.index() as usize
     }
 }
 

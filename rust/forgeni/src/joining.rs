@@ -141,7 +141,8 @@ impl<'a, T> Leads for &'a mut SparseMap<T> {
 }
 
 /// One of two walks.
-enum Walk<F, O> {
+#[derive(Clone)]
+pub(crate) enum Walk<F, O> {
     First(F),
     Other(O),
 }
@@ -162,6 +163,20 @@ impl<T, F: Iterator<Item = T>, O: Iterator<Item = T>> Iterator for Walk<F, O> {
         match self {
             Walk::First(walk) => walk.fold(init, each),
             Walk::Other(walk) => walk.fold(init, each),
+        }
+    }
+}
+
+impl<T, F, O> DoubleEndedIterator for Walk<F, O>
+where
+    F: DoubleEndedIterator<Item = T>,
+    O: DoubleEndedIterator<Item = T>,
+{
+    #[inline]
+    fn next_back(&mut self) -> Option<T> {
+        match self {
+            Walk::First(walk) => walk.next_back(),
+            Walk::Other(walk) => walk.next_back(),
         }
     }
 }

@@ -3,7 +3,7 @@
 //! A [`HandleMap`] is for a component that most entities have, a [`SparseMap`] for one that few
 //! have, and [`tables!`] makes a struct of maps. Types that implement [`Follows`] drop an entity's
 //! values when the entity is despawned, and [`JoinMaps`] walks over several maps at once.
-//! [`Tracked`] values know when they changed, and a [`History`] lists births and deaths. The
+//! A [`Tracked`] map knows when its values changed, and a [`History`] lists births and deaths. The
 //! modules [`handle_map`](crate::handle_map) and [`sparse_map`](crate::sparse_map) have the entries
 //! and the iterators.
 

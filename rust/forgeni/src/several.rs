@@ -358,6 +358,12 @@ impl<T> HandleMap<T> {
     pub(crate) fn all_slots(&mut self) -> SlotsMut<'_, T> {
         SlotsMut(&mut self.slots, 0)
     }
+
+    /// The value of a slot.
+    #[inline]
+    pub(crate) fn at(&self, slot: usize) -> Option<(Handle, &T)> {
+        seen(0, (slot, self.slots.get(slot)?))
+    }
 }
 
 /// The handles of a map, in slot order, for a walk over several maps.
@@ -547,6 +553,17 @@ impl<T> SparseMap<T> {
 }
 
 impl<T> SparseMap<T> {
+    /// The position of the entry of the handle's slot, or else that of a new one.
+    #[inline]
+    pub(crate) fn place(&self, handle: Handle) -> usize {
+        let slot = handle.index();
+        let place = self.positions.get(slot as usize).map(|it| *it as usize);
+        let entry = |it: &usize| self.entries.get(*it).map(|(one, _)| one.index());
+        place
+            .filter(|it| entry(it) == Some(slot))
+            .unwrap_or(self.len())
+    }
+
     /// The handles and their values, in slot order. It takes time for each slot.
     pub(crate) fn iter_by_slot(&self) -> impl Iterator<Item = (Handle, &T)> {
         let slots = self.positions.iter().zip(0..);

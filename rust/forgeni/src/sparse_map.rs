@@ -79,12 +79,17 @@ impl<T> SparseMap<T> {
 
 impl<T> SparseMap<T> {
     /// The handles that have a value, in slot order, if there is memory for a list of them.
-    pub(crate) fn sorted(&self) -> Option<vec::IntoIter<Handle>> {
+    pub(crate) fn by_slot(&self) -> Option<vec::IntoIter<Handle>> {
         let mut handles = Vec::new();
         handles.try_reserve_exact(self.len()).ok()?;
         handles.extend(self.keys());
         handles.sort_unstable();
         Some(handles.into_iter())
+    }
+
+    #[inline]
+    pub(crate) fn at(&self, position: usize) -> Option<(Handle, &T)> {
+        self.entries().get(position).map(|(one, it)| (*one, it))
     }
 }
 

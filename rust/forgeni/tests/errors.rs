@@ -5,7 +5,7 @@ use forgeni::{
     FreeError, Freed, GoOnError, HandedBack, Handle, HandleMap, ImageFault, InsertError, Lent,
     Limits, OpenWorld, OtherPhase, OutOfMemory, ParseHandleError, Phase, Queues, Refused, Report,
     ReserveError, Reserver, ShareError, State, Stop, Stopped, Storage, StorageError, SyncError,
-    View, World,
+    Tracked, View, World,
 };
 use std::error::Error;
 
@@ -53,6 +53,7 @@ fn each_type_is_send_and_sync() {
     shared_by_threads::<(World, OpenWorld, Commands, CommandQueue, Queues)>();
     shared_by_threads::<(Storage, Report, Fault, Stopped)>();
     shared_by_threads::<HandleMap<String>>();
+    shared_by_threads::<Tracked<HandleMap<String>>>();
     #[cfg(feature = "std")]
     shared_by_threads::<(forgeni::Reservers, forgeni::Reservers<Lent<'_>>)>();
 }

@@ -13,13 +13,14 @@ use forgeni::trace::{Call, CheckError, Checker, FreeReply, Log, Reservation};
 #[cfg(feature = "std")]
 use forgeni::{run_to_sync_point, LogCommands, LogError, StdThreads};
 use forgeni::{
-    tables, AllocError, BeginError, Birth, Change, CommandQueue, Commands, ComponentId, Entities,
-    Entry, Fault, Follows, FreeError, GoOnError, Handle, HandleMap, History, ImageFault,
+    tables, AllocError, AnyMap, BeginError, Birth, Change, CommandQueue, Commands, ComponentId,
+    Entities, Entry, Fault, Follows, FreeError, GoOnError, Handle, HandleMap, History, ImageFault,
     InsertError, JoinMaps, Limits, OpenWorld, OutOfMemory, Queues, Report, ReserveError,
-    ShareError, SparseMap, State, Stop, Storage, StorageError, SyncError, SyncPoint, World,
-    WorldImageFault,
+    ShareError, SparseMap, State, Stop, Storage, StorageError, SyncError, SyncPoint, Tracked,
+    World, WorldImageFault,
 };
 use refusing::{asked, held, most_held, refusing, Refusal};
+use std::fmt::Debug;
 use std::rc::Rc;
 
 const HP: ComponentId = ComponentId(0);
@@ -974,6 +975,125 @@ fn clones_of_structs_of_maps() {
             refused
         });
     }
+}
+
+/// A tick that gets no memory changes nothing, and its value comes back. What has one, or room for
+/// it, takes none.
+fn ticks_of<M: AnyMap<Value = u64> + Clone + PartialEq + Debug>() {
+    let none = Refusal::All { after: 0 };
+    let [one, other, beyond] = [handle(70, 1), handle(90, 1), handle(5_000, 1)];
+    each_in_turn(|refusal| {
+        let mut map = Tracked::new(M::default(), 1);
+        let values = (0..100).map(|index| (handle(index, 1), 0));
+        map.map_mut(1).extend(values);
+        let before = map.clone();
+
+        let (lent, first) = refusing(refusal, || map.get_mut(one, 2).map(|it| it.is_some()));
+        if lent.is_err() {
+            assert!(lent == Err(OutOfMemory) && first > 0);
+            assert_eq!(map, before);
+            map.get_mut(one, 2).expect("memory");
+        }
+        assert!(map.changed_since(2).eq([(one, &0)]));
+
+        let before = map.clone();
+        let (set, second) = refusing(refusal, || map.set_if_neq(other, 5, 3));
+        if let Err(back) = set {
+            assert!(second > 0);
+            assert_eq!(back.into_parts(), (5, OutOfMemory));
+            assert_eq!(map, before);
+            assert!(map.set_if_neq(other, 5, 3).expect("memory"));
+        }
+        assert!(map.changed_since(3).eq([(other, &5)]));
+
+        let (before, slots) = (map.clone(), places(&map));
+        let (inserted, third) = refusing(refusal, || map.insert(beyond, 7, 4));
+        if let Err(back) = inserted {
+            assert!(third > 0);
+            assert_eq!(back.into_parts(), (7, InsertError::Memory));
+            assert_eq!((&map, places(&map)), (&before, slots));
+            assert_eq!(map.insert(beyond, 7, 4).expect("memory"), None);
+        }
+        assert!(map.changed_since(4).eq([(beyond, &7)]));
+
+        let (clone, fourth) = insist(refusal, OutOfMemory, || map.try_clone());
+        assert_eq!(clone, map);
+        let (mut target, fifth) = (before.clone(), before);
+        let (cloned, refused) = refusing(refusal, || target.try_clone_from(&map));
+        if cloned.is_err() {
+            assert!(cloned == Err(OutOfMemory) && refused > 0);
+            assert_eq!(target, fifth);
+            target.try_clone_from(&map).expect("memory");
+        }
+        assert_eq!(target, map);
+
+        let (done, unasked) = refusing(none, || {
+            let lent = map.get_mut(handle(3, 1), 5)?.is_some();
+            let removed = map.remove(one).is_some();
+            map.retain(|it, _| it != other);
+            map.map_mut(6);
+            map.try_clone_from(&target)?;
+            map.clear();
+            map.try_clone_from(&target)?;
+            Ok::<_, OutOfMemory>((lent, removed))
+        });
+        assert_eq!((done, unasked), (Ok((true, true)), 0));
+        assert_eq!(target, map);
+
+        let mut anew = Tracked::new(map.into_inner(), 1);
+        let (reserved, sixth) = insist(refusal, OutOfMemory, || anew.reserve_ticks());
+        let (lent, unasked) = refusing(none, || anew.get_mut(beyond, 2).expect("room").is_some());
+        assert_eq!((reserved, lent, unasked), ((), true, 0));
+        first + second + third + fourth + refused + sixth
+    });
+}
+
+/// What the ticks of a map that is refused must not change.
+fn places<M: AnyMap>(map: &Tracked<M>) -> Vec<Handle> {
+    map.iter().map(|(one, _)| one).collect()
+}
+
+#[test]
+fn ticks_of_maps() {
+    ticks_of::<HandleMap<u64>>();
+    ticks_of::<SparseMap<u64>>();
+    // A handle that the map refuses takes no memory for its tick.
+    let none = Refusal::All { after: 0 };
+    let mut map: Tracked<HandleMap<u8>> = Tracked::with_limit(9);
+    map.insert(handle(8, 2), 1, 0).expect("memory");
+    let refused = [
+        handle(9, 1),
+        handle(4_000_000_000, 1),
+        Handle::PLACEHOLDER,
+        handle(8, 1),
+    ];
+    let (told, unasked) = refusing(none, || {
+        refused.map(|one| map.insert(one, 1, 1).map_err(InsertError::from))
+    });
+    let [limit, later] = [InsertError::Limit, InsertError::Later].map(Err);
+    assert_eq!((told, unasked), ([limit, limit, limit, later], 0));
+    assert_eq!(map.changed_since(1).count(), 0);
+}
+
+/// The ticks of ten values among a million slots take no room for the others, if the map is sparse.
+#[test]
+fn ticks_of_few_values() {
+    let values = (0..10).map(|number| (handle(999_999 - number * 99_999, 1), number));
+    let mut map = Tracked::new(values.collect::<SparseMap<u32>>(), 0);
+    let all: Vec<Handle> = map.keys().collect();
+    let (_, bytes) = held(|| {
+        for one in &all {
+            map.get_mut(*one, 1).expect("memory");
+        }
+    });
+    assert!(
+        map.changed_since(1).count() == 10 && bytes <= 200,
+        "{bytes}"
+    );
+    // If all are lent, a map has no row.
+    let mut map = Tracked::new(numbers(1_000), 0);
+    let (_, bytes) = held(|| map.map_mut(1).values_mut().for_each(|it| *it += 1));
+    assert_eq!((map.changed_since(1).count(), bytes), (1_000, 0));
 }
 
 /// A walk by a sparse map lists its handles. Without memory it goes over its first map, and comes

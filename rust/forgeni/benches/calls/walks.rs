@@ -127,25 +127,112 @@ walks! {
     };
 }
 
-/// As `sum_mut_by_hand`, over values that keep the tick of each change.
+/// As `sum_mut_by_hand`, over a map that keeps the tick of each change.
 fn tracked<const PLACE: usize>() -> Run {
     let (_, _, parts) = parts();
-    let places = parts.place.iter();
-    let mut places: HandleMap<Tracked<u64>> = places
-        .map(|(one, it)| (one, Tracked::new(*it, 0)))
-        .collect();
+    let mut places = Tracked::new(parts.place, 0);
     shift::<PLACE>();
     timed(|| {
         let ticks = (1..=TIMES).map(|tick| {
             let mut sum = 0;
-            for (_, it) in black_box(&mut places) {
-                let it = it.get_mut(tick);
+            for (_, it) in black_box(&mut places).map_mut(tick) {
                 *it += 1;
                 sum += *it;
             }
             sum
         });
         ticks.sum()
+    })
+}
+
+/// As `sum_by_hand`.
+fn tracked_sum<const PLACE: usize>() -> Run {
+    let (_, _, parts) = parts();
+    let mut places = Tracked::new(parts.place, 0);
+    shift::<PLACE>();
+    timed(|| {
+        let sums = (0..TIMES).map(|_| {
+            let mut sum = 0;
+            for (_, it) in black_box(&mut places).iter() {
+                sum += it;
+            }
+            sum
+        });
+        sums.sum()
+    })
+}
+
+/// One by one.
+fn tracked_each<const PLACE: usize>() -> Run {
+    let (_, all, parts) = parts();
+    let mut places = Tracked::new(parts.place, 0);
+    places.reserve_ticks().expect("memory");
+    shift::<PLACE>();
+    timed(|| {
+        let ticks = (1..=TIMES).map(|tick| {
+            let mut sum = 0;
+            for one in &all {
+                let it = black_box(&mut places).get_mut(*one, tick);
+                let it = it.expect("memory").expect("a value");
+                *it += 1;
+                sum += *it;
+            }
+            sum
+        });
+        ticks.sum()
+    })
+}
+
+fn each_by_hand<const PLACE: usize>() -> Run {
+    let (_, all, parts) = parts();
+    let mut places = parts.place;
+    shift::<PLACE>();
+    timed(|| {
+        let rounds = (0..TIMES).map(|_| {
+            let mut sum = 0;
+            for one in &all {
+                let it = black_box(&mut places).get_mut(*one).expect("a value");
+                *it += 1;
+                sum += *it;
+            }
+            sum
+        });
+        rounds.sum()
+    })
+}
+
+/// What has changed since a tick, where one in a hundred has, and a walk over all.
+fn tracked_changed<const PLACE: usize>() -> Run {
+    let (_, all, parts) = parts();
+    let mut places = Tracked::new(parts.place, 0);
+    for one in all.iter().step_by(100) {
+        places.get_mut(*one, 1).expect("memory");
+    }
+    shift::<PLACE>();
+    timed(|| {
+        let sums = (0..TIMES).map(|_| {
+            let mut sum = 0;
+            for (_, it) in black_box(&mut places).changed_since(1) {
+                sum += it;
+            }
+            sum
+        });
+        sums.sum()
+    })
+}
+
+fn changed_by_hand<const PLACE: usize>() -> Run {
+    let (_, _, mut parts) = parts();
+    shift::<PLACE>();
+    timed(|| {
+        let sums = (0..TIMES).map(|_| {
+            let mut sum = 0;
+            for (one, it) in &black_box(&mut parts).place {
+                sum += *it * u64::from(one.index() % 100 == 0);
+            }
+            sum
+        });
+        sums.sum()
     })
 }
 
@@ -224,5 +311,29 @@ pub fn table() {
         steps,
         places!(tracked),
         places!(sum_mut_by_hand),
+    );
+    let name = "a `for` over tracked values, beside plain ones";
+    line_of_two(
+        rounds,
+        name,
+        steps,
+        places!(tracked_sum),
+        places!(sum_by_hand),
+    );
+    let name = "`get_mut` of each tracked value, beside plain ones";
+    line_of_two(
+        rounds,
+        name,
+        steps,
+        places!(tracked_each),
+        places!(each_by_hand),
+    );
+    let name = "`changed_since`, one in 100, beside a `for` over all";
+    line_of_two(
+        rounds,
+        name,
+        steps,
+        places!(tracked_changed),
+        places!(changed_by_hand),
     );
 }

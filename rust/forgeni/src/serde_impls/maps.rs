@@ -1,17 +1,21 @@
 //! A map of handles is a map of the format, and a struct of maps is a struct.
 
 use crate::handle::Handle;
-use crate::{AnyMap, HandleMap, SparseMap};
+use crate::{AnyMap, HandleMap, InsertError, SparseMap, Tracked};
 use core::{fmt, mem};
 use serde::de::{Deserialize, DeserializeSeed, Deserializer, Error, MapAccess, Visitor};
 use serde::ser::{Serialize, Serializer};
 
+/// `$of` are the parameters of the type, and `$Entry` is what it has for a handle.
 macro_rules! is_a_map {
-    ($Map:ident, $order:literal) => {
-        #[doc = concat!("As a map from handles to values, ", $order, ". The limit is no part of it.")]
-        impl<T: Serialize> Serialize for $Map<T> {
+    ($Map:ty, $Value:ty, [$($of:tt)*], $Entry:ty: $iter:ident, $insert:ident, $about:literal) => {
+        #[doc = concat!("As a map from handles to ", $about, ". The limit is no part of it.")]
+        impl<$($of)*> Serialize for $Map
+        where
+            $Value: Serialize,
+        {
             fn serialize<S: Serializer>(&self, serializer: S) -> Result<S::Ok, S::Error> {
-                serializer.collect_map(self)
+                serializer.collect_map(self.$iter())
             }
         }
 
@@ -21,9 +25,12 @@ macro_rules! is_a_map {
         /// A handle with the index `n` makes the map take room for `n` + 1 slots. So if what is
         /// read may be forged, make a map with a limit and read into it: see the impl of
         /// `DeserializeSeed`.
-        impl<'de, T: Deserialize<'de>> Deserialize<'de> for $Map<T> {
+        impl<'de, $($of)*> Deserialize<'de> for $Map
+        where
+            $Value: Deserialize<'de>,
+        {
             fn deserialize<D: Deserializer<'de>>(deserializer: D) -> Result<Self, D::Error> {
-                let mut map = Self::new();
+                let mut map = Self::default();
                 map.deserialize(deserializer)?;
                 Ok(map)
             }
@@ -32,27 +39,40 @@ macro_rules! is_a_map {
         /// Reads values in place of those that the map has: `map.deserialize(deserializer)`. The
         /// map keeps its limit. It is an error if the map refuses a handle, or if two handles have
         /// the same slot. The map is as it was then.
-        impl<'de, T: Deserialize<'de>> DeserializeSeed<'de> for &mut $Map<T> {
+        impl<'de, $($of)*> DeserializeSeed<'de> for &mut $Map
+        where
+            $Value: Deserialize<'de>,
+        {
             type Value = ();
 
             fn deserialize<D: Deserializer<'de>>(self, deserializer: D) -> Result<(), D::Error> {
-                let empty = $Map::with_limit(self.limit());
-                *self = deserializer.deserialize_map(MapVisitor(empty))?;
+                let insert = |map: &mut $Map, one, entry: $Entry| {
+                    let before = map.len();
+                    map.$insert(one, entry)?;
+                    Ok(map.len() > before)
+                };
+                let empty = <$Map>::with_limit(self.limit());
+                *self = deserializer.deserialize_map(MapVisitor(empty, insert))?;
                 Ok(())
             }
         }
     };
 }
 
-is_a_map!(HandleMap, "by rising slot");
+is_a_map!(HandleMap<T>, T, [T], T: iter, insert, "values, by rising slot");
 is_a_map!(
-    SparseMap,
-    "in the order of `entries`, which the map that is read has too"
+    SparseMap<T>, T, [T], T: iter, insert,
+    "values, in the order of `entries`, which the map that is read has too"
+);
+is_a_map!(
+    Tracked<M>, M::Value, [M: AnyMap], (M::Value, u64): with_ticks, insert_with_tick,
+    "pairs of a value and its tick, in the order of the map"
 );
 
-struct MapVisitor<M>(M);
+/// A map, and what inserts an entry: whether the slot had no value.
+struct MapVisitor<M, V>(M, fn(&mut M, Handle, V) -> Result<bool, InsertError>);
 
-impl<'de, M: AnyMap<Value: Deserialize<'de>>> Visitor<'de> for MapVisitor<M> {
+impl<'de, M, V: Deserialize<'de>> Visitor<'de> for MapVisitor<M, V> {
     type Value = M;
 
     fn expecting(&self, out: &mut fmt::Formatter<'_>) -> fmt::Result {
@@ -61,32 +81,26 @@ impl<'de, M: AnyMap<Value: Deserialize<'de>>> Visitor<'de> for MapVisitor<M> {
 
     /// How many there are to come isn't asked for: an input can say any number.
     fn visit_map<A: MapAccess<'de>>(mut self, mut entries: A) -> Result<M, A::Error> {
-        while let Some((handle, value)) = entries.next_entry()? {
-            insert_new(&mut self.0, handle, value)?;
+        while let Some((handle, entry)) = entries.next_entry()? {
+            let is_new = (self.1)(&mut self.0, handle, entry)
+                .map_err(|refused| A::Error::custom(format_args!("{handle}: {refused}")))?;
+            if !is_new {
+                let text = format_args!("{handle}: its slot has a value already");
+                return Err(A::Error::custom(text));
+            }
         }
         Ok(self.0)
     }
-}
-
-/// Inserts a value for a slot that has none.
-fn insert_new<M: AnyMap, E: Error>(map: &mut M, handle: Handle, value: M::Value) -> Result<(), E> {
-    let before = map.len();
-    map.insert(handle, value)
-        .map_err(|refused| E::custom(format_args!("{handle}: {refused}")))?;
-    if map.len() == before {
-        let text = format_args!("{handle}: its slot has a value already");
-        return Err(E::custom(text));
-    }
-    Ok(())
 }
 
 /// The impls of serde's traits for a struct of maps.
 #[doc(hidden)]
 #[macro_export]
 macro_rules! tables_serde {
-    ($Name:ident $($map:ident $Value:ty),+) => {
+    ($Name:ident $($map:ident $Map:ty),+) => {
         const _: () = {
-            use ::core::{fmt, result::Result};
+            use $crate::Handle;
+            use ::core::{fmt, ops::Index, result::Result};
             use $crate::for_tables::serde::de::{Deserialize, DeserializeSeed, Deserializer};
             use $crate::for_tables::serde::de::{Error, MapAccess, SeqAccess, Visitor};
             use $crate::for_tables::serde::ser::{Serialize, SerializeStruct, Serializer};
@@ -96,7 +110,7 @@ macro_rules! tables_serde {
 
             impl Serialize for $Name
             where
-                $(for<'any> $Value: Serialize,)+
+                $(for<'any> <$Map as Index<Handle>>::Output: Serialize,)+
             {
                 fn serialize<S: Serializer>(&self, serializer: S) -> Result<S::Ok, S::Error> {
                     let mut maps = serializer.serialize_struct(stringify!($Name), MAPS.len())?;
@@ -108,7 +122,7 @@ macro_rules! tables_serde {
             /// Reads maps without a limit.
             impl<'de> Deserialize<'de> for $Name
             where
-                $(for<'any> $Value: Deserialize<'de>,)+
+                $(for<'any> <$Map as Index<Handle>>::Output: Deserialize<'de>,)+
             {
                 fn deserialize<D: Deserializer<'de>>(deserializer: D) -> Result<Self, D::Error> {
                     let mut maps = Self::default();
@@ -121,7 +135,7 @@ macro_rules! tables_serde {
             /// an error all are as they were.
             impl<'de> DeserializeSeed<'de> for &mut $Name
             where
-                $(for<'any> $Value: Deserialize<'de>,)+
+                $(for<'any> <$Map as Index<Handle>>::Output: Deserialize<'de>,)+
             {
                 type Value = ();
 
@@ -129,8 +143,7 @@ macro_rules! tables_serde {
                 where
                     D: Deserializer<'de>,
                 {
-                    let mut read = $Name::default();
-                    $(read.$map.set_limit(self.$map.limit());)+
+                    let mut read = $Name { $($map: <$Map>::with_limit(self.$map.limit()),)+ };
                     deserializer.deserialize_struct(stringify!($Name), MAPS, Reader(&mut read))?;
                     *self = read;
                     Ok(())
@@ -141,7 +154,7 @@ macro_rules! tables_serde {
 
             impl<'de> Visitor<'de> for Reader<'_>
             where
-                $(for<'any> $Value: Deserialize<'de>,)+
+                $(for<'any> <$Map as Index<Handle>>::Output: Deserialize<'de>,)+
             {
                 type Value = ();
 

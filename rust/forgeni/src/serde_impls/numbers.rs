@@ -1,9 +1,9 @@
-//! The types that are a number or a few, and a value with one. Those of a few are written as a
-//! tuple, which takes no code for the names of fields.
+//! The types that are a number or a few. Those of a few are written as a tuple, which takes no code
+//! for the names of fields.
 
 use crate::allocator::Limits;
 use crate::component::{Birth, ComponentId};
-use crate::{BlockSize, Tracked};
+use crate::BlockSize;
 use serde::de::{Deserialize, Deserializer, Error};
 use serde::ser::{Serialize, Serializer};
 
@@ -46,18 +46,3 @@ self => (self.size(), self.limit()), (size, limit) => {
     let text = format_args!("no block adapts to {size} handles with a limit of {limit}");
     (block.size() == size).then_some(block).ok_or_else(|| D::Error::custom(text))
 });
-
-/// As a pair: the value and its tick.
-impl<T: Serialize> Serialize for Tracked<T> {
-    fn serialize<S: Serializer>(&self, serializer: S) -> Result<S::Ok, S::Error> {
-        (&**self, self.tick()).serialize(serializer)
-    }
-}
-
-/// Reads the value and its tick.
-impl<'de, T: Deserialize<'de>> Deserialize<'de> for Tracked<T> {
-    fn deserialize<D: Deserializer<'de>>(deserializer: D) -> Result<Self, D::Error> {
-        let (value, tick) = Deserialize::deserialize(deserializer)?;
-        Ok(Self::new(value, tick))
-    }
-}

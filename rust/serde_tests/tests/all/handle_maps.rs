@@ -1,5 +1,5 @@
 use crate::common::{refused, written};
-use forgeni::{tables, Handle, HandleMap, SparseMap};
+use forgeni::{tables, Handle, HandleMap, SparseMap, Tracked};
 use serde::de::DeserializeSeed;
 
 fn handle(index: u32, generation: u32) -> Handle {
@@ -194,6 +194,66 @@ tables! {
 // The feature `serde` asks nothing of values that aren't written.
 tables! {
     struct Unwritten { locks: HandleMap<std::sync::Mutex<u8>> }
+}
+
+/// Each value with its tick, whether that is its own or the one of all.
+#[test]
+fn tracked_maps() {
+    let mut map = Tracked::new(HandleMap::from([(handle(7, 2), 6u8)]), 3);
+    let bytes = [
+        1, 0, 0, 0, 0, 0, 0, 0, 7, 0, 0, 0, 2, 0, 0, 0, 6, 3, 0, 0, 0, 0, 0, 0, 0,
+    ];
+    written(&map, r#"{"7v2":[6,3]}"#, &bytes);
+    map.insert(handle(0, 1), 5, u64::MAX).expect("memory");
+    let json = r#"{"0v1":[5,18446744073709551615],"7v2":[6,3]}"#;
+    assert_eq!(serde_json::to_string(&map).expect("JSON"), json);
+    let read: Tracked<HandleMap<u8>> = serde_json::from_str(json).expect("a map");
+    assert!(read == map && read.changed_since(4).eq([(handle(0, 1), &5)]));
+
+    // A tick that is read first isn't that of what follows.
+    let json = r#"{"9v1":["a",8],"4v1":["b",0],"5v1":["c",2]}"#;
+    let mut rare: Tracked<SparseMap<String>> = serde_json::from_str(json).expect("a map");
+    let ticks = [9, 4, 5].map(|index| rare.tick(handle(index, 1)));
+    assert_eq!(ticks, [Some(8), Some(0), Some(2)]);
+    assert_eq!(serde_json::to_string(&rare).expect("JSON"), json);
+    // What is written to it has no tick before those.
+    rare.get_mut(handle(4, 1), 1).expect("memory");
+    assert_eq!(rare.tick(handle(4, 1)), Some(8));
+
+    let mut limited: Tracked<HandleMap<u8>> = Tracked::with_limit(8);
+    limited.insert(handle(1, 1), 1, 2).expect("memory");
+    let before = limited.clone();
+    for (json, message) in [
+        (
+            r#"{"7v2":[5]}"#,
+            "invalid length 1, expected a tuple of size 2",
+        ),
+        (
+            r#"{"7v2":[5,-1]}"#,
+            "invalid value: integer `-1`, expected u64",
+        ),
+        (
+            r#"{"7v2":5}"#,
+            "invalid type: integer `5`, expected a tuple of size 2",
+        ),
+        (
+            r#"{"200000000v1":[5,1]}"#,
+            "200000000v1: the handle is above the map's limit",
+        ),
+        (
+            r#"{"7v2":[5,1],"7v2":[5,1]}"#,
+            "7v2: its slot has a value already",
+        ),
+        (
+            r#"{"7v2":[5,1],"7v1":[5,1]}"#,
+            "7v1: a later occupant of the slot has a value",
+        ),
+    ] {
+        let read = limited.deserialize(&mut serde_json::Deserializer::from_str(json));
+        let error = read.expect_err(json).to_string();
+        assert!(error.starts_with(message), "{json}: {error}");
+        assert_eq!((&limited, limited.limit()), (&before, 8));
+    }
 }
 
 #[test]

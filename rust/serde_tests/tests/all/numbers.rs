@@ -1,5 +1,5 @@
 use crate::common::{refused, refused_bytes, written};
-use forgeni::{Birth, BlockSize, ComponentId, Limits, Tracked};
+use forgeni::{Birth, BlockSize, ComponentId, Limits};
 use std::collections::BTreeMap;
 
 #[test]
@@ -15,18 +15,6 @@ fn components() {
     refused::<ComponentId>("256", "invalid value: integer `256`, expected u8");
     refused::<ComponentId>("-1", "invalid value: integer `-1`, expected u8");
     refused::<ComponentId>("\"1\"", "invalid type: string \"1\", expected u8");
-}
-
-#[test]
-fn tracked_values() {
-    let value = Tracked::new(5u8, 7);
-    written(&value, "[5,7]", &[5, 7, 0, 0, 0, 0, 0, 0, 0]);
-    let last = Tracked::new("a".to_owned(), u64::MAX);
-    let bytes = [&[1, 0, 0, 0, 0, 0, 0, 0, b'a'][..], &[0xff; 8]].concat();
-    written(&last, r#"["a",18446744073709551615]"#, &bytes);
-    refused::<Tracked<u8>>("[5]", "invalid length 1, expected a tuple of size 2");
-    refused::<Tracked<u8>>("[5,-1]", "invalid value: integer `-1`, expected u64");
-    refused::<Tracked<u8>>("5", "invalid type: integer `5`, expected a tuple of size 2");
 }
 
 #[test]

@@ -7,7 +7,7 @@ use serde::de::DeserializeSeed;
 tables! {
     #[derive(Debug, PartialEq)]
     struct Parts {
-        place: HandleMap<Tracked<u8>>,
+        place: Tracked<HandleMap<u8>>,
         name: SparseMap<String>,
     }
 }
@@ -76,13 +76,12 @@ fn others_than_the_living() {
 #[test]
 fn room_for_slots_that_no_game_has() {
     let (entities, alive, _) = game();
-    let mut parts = Parts::default();
-    parts.place.set_limit(entities.total());
+    let mut parts = Parts {
+        place: Tracked::with_limit(entities.total()),
+        ..Parts::default()
+    };
     parts.name.set_limit(entities.total());
-    parts
-        .place
-        .insert(alive, Tracked::new(1, 0))
-        .expect("memory");
+    parts.place.insert(alive, 1, 0).expect("memory");
     for index in [3, 9, 200_000_000, 4_294_967_293u32] {
         for map in ["place", "name"] {
             let value = if map == "place" { "[1,0]" } else { r#""a""# };
@@ -96,6 +95,6 @@ fn room_for_slots_that_no_game_has() {
         }
     }
     // The map alone, as a function over both kinds sees it.
-    let stale = |map: &HandleMap<Tracked<u8>>| AnyMap::stale(map, &Entities::new());
+    let stale = |map: &HandleMap<u8>| AnyMap::stale(map, &Entities::new());
     assert_eq!(stale(&parts.place), Some(alive));
 }
