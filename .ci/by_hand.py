@@ -26,7 +26,7 @@ APART = {"contracts", "proved", "kit"}
 # The only file by hand that sees fields of proved types, and what such a field looks like in the
 # erased sources.
 SEES, FIELD = SOURCES / "several.rs", re.compile(r"^ +pub\(crate\) (\w+):", re.MULTILINE)
-MOST = {"lines of code": 2550, "functions with a branch": 35}
+MOST = {"lines of code": 2725, "functions with a branch": 35}
 BRANCHES, ITEMS = {"if", "else", "match", "while", "for", "loop"}, {"impl", "trait", "mod"}
 # A row: files, each with its functions, and why they are by hand.
 ROW = re.compile(r"^\| (`[\w/]+\.rs`: [^|]*) \|(.*)\|$", re.MULTILINE)
