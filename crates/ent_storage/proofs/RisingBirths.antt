@@ -46,7 +46,8 @@ one_more_resident residents i r s some inside before above =
     ≡ pair_of (get_or residents (i - 1) s) =
     get_or-map pair_of residents (i - 1) s (pair_of s) (omega arith) in
     let long : length (map pair_of residents) ≡ length residents = search (rules, length-map) in
-    one_more (map pair_of residents) i (pair_of r) (pair_of s) some (omega (arith, long)) before (rw (here, there) above)
+    one_more (map pair_of residents) i (pair_of r) (pair_of s) some (omega (arith, long)) before
+    (rw (here, there) above)
 
 -- residents in order have the handles that they are asked for
 pub listed : (residents : List Resident) (handles : List Handle)

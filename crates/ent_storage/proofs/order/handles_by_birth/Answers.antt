@@ -7,5 +7,6 @@ returns-then-are_rising-clause-ok c =
     IfOk-weaker _ _
     (λ handles. IsInOrder (map {A = Resident} {B = Birth × Handle}
     (λ resident. (resident.birth, resident.handle)) c.args.residents.now) handles.items)
-    (λ handles are. listed c.args.residents.now handles.items (c.are_rising.ensures c.if-are_rising.true) are)
+    (λ handles are. listed c.args.residents.now handles.items
+    (c.are_rising.ensures c.if-are_rising.true) are)
     c.handles_of.ensures
