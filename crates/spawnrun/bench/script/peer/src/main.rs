@@ -1,5 +1,5 @@
-//! Runs a script as `spawnrun run` does on one worker, and prints the same report. It is what the program
-//! is measured against: an ordinary one, of ordinary crates, in which nothing is proved.
+//! Runs a script as `spawnrun run` does on one worker, and prints the same report. It is what the
+//! program is measured beside: an ordinary one, of ordinary crates, in which nothing is proved.
 //!
 //! ```text
 //! peer [--show births|handles] < SCRIPT
