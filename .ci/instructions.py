@@ -85,10 +85,11 @@ def out_of_proportion(rows, counts):
 
 
 def memory_of(text):
-    """The rows of the table `memory`, without slotmap's columns and the ratios to the least peer."""
+    """The rows of the table `memory`, without the columns of slotmap and of ratios."""
     _, _, rows = text.partition("| Storage | Component | Here | slotmap |")
-    rows = [[cell.strip() for cell in row.split("|")[1:-1]] for row in rows.split("\n\n")[0].split("\n")]
-    return [[*row[:3], *row[4:6], row[7], *row[9:11]] for row in rows[2:] if row]
+    rows = rows.split("\n\n")[0].strip().split("\n")[2:]
+    rows = [[cell.strip() for cell in row.split("|")[1:-1]] for row in rows]
+    return [[*row[:3], *row[4:6], row[7], *row[9:11]] for row in rows]
 
 
 def other_memory(program):

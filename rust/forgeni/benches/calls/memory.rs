@@ -1,17 +1,17 @@
 //! The memory of an entity with one component, beside what other crates keep of it.
 //!
 //! The crate slotmap is measured, where `run.sh` found it. Of Bevy 0.15 and hecs 0.10 the bytes are
-//! computed from their lists, on which a release build keeps for each entity:
+//! computed from their lists, in which a release build has for each entity:
 //!
-//! - Bevy: the generation and a location of four numbers (20), the entity and its row in the list of
-//!   an archetype (16) and the entity in that of a table (8); for a component in a table its value
-//!   and two ticks (8 more), and for one in a sparse set the same, its entity's index (4) and an
-//!   optional row for each index (8);
+//! - Bevy: the generation and a location of four numbers (20), the entity and its row in the list
+//!   of an archetype (16) and the entity in that of a table (8); for a component in a table its
+//!   value and two ticks (8 more), and for one in a sparse set the same, its entity's index (4) and
+//!   an optional row for each index (8);
 //! - hecs: the generation and a location of two numbers (12), the index in the list of an archetype
 //!   (4), and its values;
 //! - both: the index (4), for each slot that has waited.
 //!
-//! A list that grows has room for twice as many items whenever it is full, in the peers as here.
+//! A list that grows doubles its room whenever it is full, in the peers as here.
 
 use crate::peers;
 use crate::refusing::held;
@@ -34,8 +34,16 @@ impl Component for [u64; 3] {}
 /// after all of these have died.
 pub type Held = [isize; 2];
 
-/// The bytes that a peer holds with a component of 4, 8 and 24 bytes.
+/// Entities with a component of 4, 8 and 24 bytes.
 pub type OfSizes = [fn() -> Held; 3];
+
+/// Those of a peer.
+pub struct Peer {
+    pub secondary: OfSizes,
+    pub sparse: OfSizes,
+    /// With births, and a component of 8 bytes.
+    pub births: fn() -> Held,
+}
 
 /// What a crate keeps, computed.
 struct Computed {
@@ -81,18 +89,18 @@ pub fn table() {
     let sizes = [4, 8, 24];
     let maps: OfSizes = [in_map::<u32>, in_map::<u64>, in_map::<[u64; 3]>];
     let sparse: OfSizes = [in_sparse::<u32>, in_sparse::<u64>, in_sparse::<[u64; 3]>];
-    let peers = peers::SLOTS.memory;
+    let peer = peers::SLOTS.memory;
     for (at, size) in sizes.into_iter().enumerate() {
-        let slots = peers.as_ref().map(|(secondary, ..)| secondary[at]());
+        let slots = peer.as_ref().map(|peer| peer.secondary[at]());
         let others = [Some(BEVY_TABLE.held(&[size])), Some(HECS.held(&[size]))];
         line("`HandleMap`", size, maps[at](), slots, others);
     }
     for (at, size) in sizes.into_iter().enumerate() {
-        let slots = peers.as_ref().map(|(_, sparse, _)| sparse[at]());
+        let slots = peer.as_ref().map(|peer| peer.sparse[at]());
         let others = [Some(BEVY_SPARSE_SET.held(&[size])), None];
         line("`SparseMap`", size, sparse[at](), slots, others);
     }
-    let slots = peers.as_ref().map(|(.., births)| births());
+    let slots = peer.as_ref().map(|peer| (peer.births)());
     let both = [16, 8];
     let others = [Some(BEVY_TABLE.held(&both)), Some(HECS.held(&both))];
     line("`World`, with births", 8, in_world(), slots, others);

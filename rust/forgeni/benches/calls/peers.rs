@@ -2,7 +2,7 @@
 
 use crate::clones::TakesOver;
 use crate::components::Components;
-use crate::memory::{Held, OfSizes};
+use crate::memory;
 use crate::{Places, Run};
 
 /// What a slot map does.
@@ -15,8 +15,7 @@ pub struct Slots {
     pub scattered: Option<Places>,
     pub components: Option<Components>,
     pub taken_over: Option<fn(u32) -> TakesOver>,
-    /// With a secondary map, with a sparse one, and with births and a secondary map.
-    pub memory: Option<(OfSizes, OfSizes, fn() -> Held)>,
+    pub memory: Option<memory::Peer>,
 }
 
 #[cfg(not(slotmap))]
@@ -46,7 +45,7 @@ mod slots {
     use crate::clones::TakesOver;
     use crate::components::{Components, Side, Walked};
     use crate::entities::{by_step, READS, SCATTERED};
-    use crate::memory::{of_turns, Component, Held};
+    use crate::memory::{of_turns, Component, Held, Peer};
     use crate::{places, shift, timed, Run, COUNT};
     use slotmap::{DefaultKey, Key, SecondaryMap, SlotMap, SparseSecondaryMap};
     use std::hint::black_box;
@@ -60,11 +59,11 @@ mod slots {
         scattered: Some(places!(scattered)),
         components: Some(Components::of::<Both>()),
         taken_over: Some(taken_over),
-        memory: Some((
-            [in_map::<u32>, in_map::<u64>, in_map::<[u64; 3]>],
-            [in_sparse::<u32>, in_sparse::<u64>, in_sparse::<[u64; 3]>],
-            with_births,
-        )),
+        memory: Some(Peer {
+            secondary: [in_map::<u32>, in_map::<u64>, in_map::<[u64; 3]>],
+            sparse: [in_sparse::<u32>, in_sparse::<u64>, in_sparse::<[u64; 3]>],
+            births: with_births,
+        }),
     };
 
     /// A slot map of keys alone, and a secondary map for the values.
