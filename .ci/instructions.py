@@ -6,7 +6,8 @@ valgrind.
     .ci/instructions.py fit      counts them, and writes the limits anew: what was counted, and one in a hundred more
 
 A clock is noisy where others use the machine. The number of instructions is the same in each run of
-one program.
+one program. So is the memory that it holds: the table `memory` has to print what
+docs/PERFORMANCE.md says, but for what the crate slotmap holds, which isn't there.
 
 The table `orders` has births in each order, few and ten times as many. There is no plain Rust
 beside it. A birth among many may take at most half as many instructions again as one among few."""
@@ -21,6 +22,7 @@ from concurrent.futures import ThreadPoolExecutor
 ROOT = pathlib.Path(__file__).resolve().parent.parent
 PACKAGE = ROOT / "rust/offline"
 LIMITS = ROOT / "rust/forgeni/benches/instructions.txt"
+PAGE = ROOT / "docs/PERFORMANCE.md"
 ORDERS = "orders"
 # The C library copies memory by another code on each kind of processor. So it takes the one that is
 # everywhere.
@@ -82,6 +84,27 @@ def out_of_proportion(rows, counts):
     return said
 
 
+def memory_of(text):
+    """The rows of the table `memory`, without the columns of slotmap and of ratios."""
+    _, _, rows = text.partition("| Storage | Component | Here | slotmap |")
+    rows = rows.split("\n\n")[0].strip().split("\n")[2:]
+    rows = [[cell.strip() for cell in row.split("|")[1:-1]] for row in rows]
+    return [[*row[:3], *row[4:6], row[7], *row[9:11]] for row in rows]
+
+
+def other_memory(program):
+    """What to say of the rows of the page that aren't what the program prints."""
+    printed = subprocess.run([program, "memory"], capture_output=True, text=True, check=True).stdout
+    here, page = memory_of(printed), memory_of(PAGE.read_text())
+    if len(here) != len(page):
+        return [f"{PAGE.name} has {len(page)} rows of memory, and the program prints {len(here)}"]
+    return [
+        f"{PAGE.name} says {' | '.join(said)}, and the program {' | '.join(row)}"
+        for row, said in zip(here, page)
+        if row != said
+    ]
+
+
 def main():
     lines = LIMITS.read_text().splitlines()
     head = [line for line in lines if line.startswith("#")]
@@ -116,6 +139,9 @@ def main():
         sys.exit(f"{len(unequal)} works of orders take too long where there are ten times as many")
     if above and sys.argv[1:] != ["fit"]:
         sys.exit(f"{above} of {len(rows)} works are above their limits")
+    if other := other_memory(program):
+        sys.exit("\n".join(other))
+    print(f"memory: what an entity takes is what {PAGE.name} says")
 
 
 main()

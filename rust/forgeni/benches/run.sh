@@ -1,7 +1,8 @@
 #!/bin/sh
 # Prints the tables of `cargo bench`, beside the crates slotmap and sharded-slab. These are Debian's packages librust-slotmap-dev and
 # librust-sharded-slab-dev; one that is missing is left out. It needs `cargo` and `rustc` on the path. Words behind it name the tables
-# that are wanted: calls, kinds, clones, images, births, components, walks, logs, threads, frames; or blocks, layouts, which aren't printed else.
+# that are wanted: calls, kinds, clones, images, births, components, walks, logs, threads, frames; or blocks, layouts, memory, which aren't
+# printed else.
 # `FORGENI_ROUNDS=3` makes it short, and its figures rough.
 set -eu
 package=$(cd "$(dirname "$0")/.." && pwd)

@@ -25,9 +25,10 @@ def repeated(head, item, foot):
     yield foot
 
 
-def spawns():
-    """The pieces of a script of two frames that spawn entities one by one."""
-    system = "[" + ",".join(['{"spawn":{"a":1}}'] * SPAWNS) + "]"
+def spawns(part=1):
+    """The pieces of a script of two frames that spawn entities one by one, or only that part of
+    them."""
+    system = "[" + ",".join(['{"spawn":{"a":1}}'] * (SPAWNS // part)) + "]"
     yield '{"components":["a"],"frames":['
     for first in "[", ",[":
         yield first + system

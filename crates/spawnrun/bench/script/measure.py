@@ -28,33 +28,38 @@ def check(output, report):
 
 
 def nanoseconds(command, script, report):
-    """How long one run takes, from the start of the process to its end."""
+    """How long one run takes, from the start of the process to its end. An empty report isn't
+    compared."""
     output = script.with_name("output")
     with script.open("rb") as given, output.open("wb") as written:
         start = time.perf_counter_ns()
         subprocess.run(command, stdin=given, stdout=written, check=True)
         took = time.perf_counter_ns() - start
-    check(output.read_bytes(), report)
+    if report:
+        check(output.read_bytes(), report)
     return took
 
 
 def peak_memory(command, script):
     """The most memory that a run holds, in bytes.
 
-    The program makes all of its output before it writes any, so it is at its peak when the first of
-    it comes, and waits there, as a pipe of one page does not hold the rest. What getrusage tells is
-    of no use for a small run: it counts the Python process that the program was forked from.
+    It is asked for after each page of the output. A pipe of one page holds no more, so the program
+    waits there until its last page, behind which it needs nothing more. What getrusage tells is of
+    no use for a small run: it counts the Python process that the program was forked from.
     """
     read, write = os.pipe()
     fcntl.fcntl(write, fcntl.F_SETPIPE_SZ, PAGE)
     with script.open("rb") as given:
         run = subprocess.Popen(command, stdin=given, stdout=write)
     os.close(write)
+    peak = 0
     with run, open(read, "rb", buffering=0) as output:
-        output.read(1)
-        status = Path(f"/proc/{run.pid}/status").read_text()
-        output.readall()
-    return 1024 * int(re.search(r"VmHWM:\s*(\d+) kB", status)[1])
+        while output.read(PAGE):
+            status = Path(f"/proc/{run.pid}/status").read_text()
+            # A process that has ended has no such line.
+            if found := re.search(r"VmHWM:\s*(\d+) kB", status):
+                peak = 1024 * int(found[1])
+    return peak
 
 
 def main(program, by_cargo, shape, commands, script, report, *workers):

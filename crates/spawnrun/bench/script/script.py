@@ -21,8 +21,9 @@ NAMED = 10_000  # births that a system of the shape `births` names
 class World:
     """The living entities: their components by birth, in the order of births."""
 
-    def __init__(self, least):
+    def __init__(self, least, part):
         self.least = least  # commands, or entities of the shape `births`
+        self.part = part  # The fixed counts of a shape are divided by it.
         self.entities = {}
 
     def having(self, component):
@@ -149,7 +150,7 @@ def names(system, choice):
 def each(system, choice):
     """A thousand entities, all of which each frame changes by one operation."""
     if system.frame == 0 and system.number == 0:
-        system.spawn_many(1000, {"hp": 1})
+        system.spawn_many(1000 // system.world.part, {"hp": 1})
     elif system.number == 0:
         system.insert({"mp": choice.randint(1, 99)}, {"each": "hp"})
 
@@ -157,7 +158,8 @@ def each(system, choice):
 def crowd(system, choice):
     """Half a million entities come at once, all change at once, and half of them go at once."""
     if system.frame == 0:
-        system.spawn_many(MOST, {"hp": 8, "mp" if system.number % 2 else "age": 1})
+        bundle = {"hp": 8, "mp" if system.number % 2 else "age": 1}
+        system.spawn_many(MOST // system.world.part, bundle)
     elif system.frame == 1 and system.number == 0:
         system.insert({"speed": 1}, {"each": "hp"})
     elif system.frame > 1 and system.number == 0:
@@ -166,13 +168,13 @@ def crowd(system, choice):
 
 def spawns(system, choice):
     """Many systems spawn ten thousand entities each, one by one."""
-    for hp in range(SPAWNS):
+    for hp in range(SPAWNS // system.world.part):
         system.spawn({"hp": hp})
 
 
 def flocks(system, choice):
     """Many systems spawn ten thousand entities each, all at once."""
-    system.spawn_many(SPAWNS, {"hp": 8})
+    system.spawn_many(SPAWNS // system.world.part, {"hp": 8})
 
 
 def births(system, choice):
@@ -183,7 +185,7 @@ def births(system, choice):
         for first in range(0, least, MOST):
             system.spawn_many(min(MOST, least - first), {"hp": 1})
     else:
-        for value in range(NAMED):
+        for value in range(NAMED // system.world.part):
             system.insert_at({"mp": value}, (0, 0, choice.randrange(least * 5 // 4)))
 
 
@@ -200,15 +202,16 @@ SHAPES = {
 }
 
 
-def frames(shape, least):
+def frames(shape, least, part=1):
     """The frames until there are so many commands, of which a spawn of many is one for each of its
-    handles.
+    handles. With a greater `part` all counts are divided by it.
 
     Each as the operations of its systems, the lines that it must print, and the number of its
     commands.
     """
     write, count, fewest = SHAPES[shape]
-    world, choice = World(least), random.Random(SEED)
+    least //= part
+    world, choice = World(least, part), random.Random(SEED)
     frame = commands = 0
     while frame < fewest or commands < least:
         systems = [System(world, frame, number) for number in range(count)]
@@ -220,6 +223,18 @@ def frames(shape, least):
     yield None, world.lines(), 0
 
 
+def pieces(shape, least, part=1):
+    """The pieces of a script's text, each with the lines that must come of it, and the number of
+    its commands."""
+    yield f'{{"format":2,"components":{json.dumps(COMPONENTS)},"frames":[', [], 0
+    comma = ""
+    for systems, lines, issued in frames(shape, least, part):
+        text = "" if systems is None else comma + json.dumps(systems, separators=(",", ":"))
+        yield text, lines, issued
+        comma = ","
+    yield "]}\n", [], 0
+
+
 def main():
     parser = argparse.ArgumentParser(description=__doc__)
     parser.add_argument(
@@ -229,15 +244,11 @@ def main():
     parser.add_argument("--report", default=os.devnull, help="the file for what must come of it")
     wanted = parser.parse_args()
     total = 0
-    sys.stdout.write(f'{{"format":2,"components":{json.dumps(COMPONENTS)},"frames":[')
     with open(wanted.report, "w", encoding="ascii") as report:
-        for systems, lines, issued in frames(wanted.shape, wanted.commands):
-            if systems is not None:
-                sys.stdout.write("," if total else "")
-                sys.stdout.write(json.dumps(systems, separators=(",", ":")))
+        for text, lines, issued in pieces(wanted.shape, wanted.commands):
+            sys.stdout.write(text)
             report.writelines(f"{line}\n" for line in lines)
             total += issued
-    sys.stdout.write("]}\n")
     print(total, file=sys.stderr)
 
 

@@ -17,6 +17,7 @@ mod frames;
 mod images;
 mod layouts;
 mod logs;
+mod memory;
 mod orders;
 mod peers;
 #[path = "../plain/mod.rs"]
@@ -112,6 +113,10 @@ fn main() {
     let is_named = |name: &str| named.iter().any(|it| it == name);
     if is_named("layouts") {
         layouts::table();
+        println!();
+    }
+    if is_named("memory") {
+        memory::table();
         println!();
     }
     if wanted("walks") {

@@ -2,6 +2,7 @@
 
 use crate::clones::TakesOver;
 use crate::components::Components;
+use crate::memory;
 use crate::{Places, Run};
 
 /// What a slot map does.
@@ -14,6 +15,7 @@ pub struct Slots {
     pub scattered: Option<Places>,
     pub components: Option<Components>,
     pub taken_over: Option<fn(u32) -> TakesOver>,
+    pub memory: Option<memory::Peer>,
 }
 
 #[cfg(not(slotmap))]
@@ -26,6 +28,7 @@ pub const SLOTS: Slots = Slots {
     scattered: None,
     components: None,
     taken_over: None,
+    memory: None,
 };
 
 #[cfg(sharded_slab)]
@@ -42,8 +45,9 @@ mod slots {
     use crate::clones::TakesOver;
     use crate::components::{Components, Side, Walked};
     use crate::entities::{by_step, READS, SCATTERED};
+    use crate::memory::{of_turns, Component, Held, Peer};
     use crate::{places, shift, timed, Run, COUNT};
-    use slotmap::{DefaultKey, Key, SecondaryMap, SlotMap};
+    use slotmap::{DefaultKey, Key, SecondaryMap, SlotMap, SparseSecondaryMap};
     use std::hint::black_box;
 
     pub const SLOTS: Slots = Slots {
@@ -55,6 +59,11 @@ mod slots {
         scattered: Some(places!(scattered)),
         components: Some(Components::of::<Both>()),
         taken_over: Some(taken_over),
+        memory: Some(Peer {
+            secondary: [in_map::<u32>, in_map::<u64>, in_map::<[u64; 3]>],
+            sparse: [in_sparse::<u32>, in_sparse::<u64>, in_sparse::<[u64; 3]>],
+            births: with_births,
+        }),
     };
 
     /// A slot map of keys alone, and a secondary map for the values.
@@ -174,6 +183,48 @@ mod slots {
                 target.len() as u64
             })
         })
+    }
+
+    fn in_map<T: Component>() -> Held {
+        of_turns(
+            |(keys, values): &mut (SlotMap<DefaultKey, ()>, SecondaryMap<DefaultKey, T>)| {
+                let key = keys.insert(());
+                values.insert(key, T::default());
+                key
+            },
+            |(keys, values), key| {
+                assert!(values.remove(key).is_some() && keys.remove(key).is_some());
+            },
+        )
+    }
+
+    fn in_sparse<T: Component>() -> Held {
+        of_turns(
+            |(keys, values): &mut (SlotMap<DefaultKey, ()>, SparseSecondaryMap<DefaultKey, T>)| {
+                let key = keys.insert(());
+                values.insert(key, T::default());
+                key
+            },
+            |(keys, values), key| {
+                assert!(values.remove(key).is_some() && keys.remove(key).is_some());
+            },
+        )
+    }
+
+    fn with_births() -> Held {
+        of_turns(
+            |(births, values): &mut (
+                SlotMap<DefaultKey, (u64, u32, u32)>,
+                SecondaryMap<DefaultKey, i64>,
+            )| {
+                let key = births.insert((0, 0, 0));
+                values.insert(key, 1);
+                key
+            },
+            |(births, values), key| {
+                assert!(values.remove(key).is_some() && births.remove(key).is_some());
+            },
+        )
     }
 
     fn rising<const PLACE: usize>() -> Run {
