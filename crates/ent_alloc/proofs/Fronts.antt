@@ -3,7 +3,8 @@
 use Rattle.ent_alloc.proofs.Common.{rules, ◌≡◌, ◌≢◌, ◌⊎◌, inl, inr, ℕ, zero, suc, ◌+◌, ◌-◌, ◌<◌}
 use Rattle.ent_alloc.proofs.Common.{◌≤◌, refl, sym, ◌∙◌, List, [], ◌∷◌, ◌++◌, length, get_or, set}
 use Rattle.ent_alloc.proofs.Common.{take, drop, map, reverse, All, AllPairs, IsPermutation, arith}
-use Rattle.ent_alloc.proofs.Common.{true, is_pending_from, false, None, common_steps, cases_lt, cases_eq, length-set}
+use Rattle.ent_alloc.proofs.Common.{true, is_pending_from}
+use Rattle.ent_alloc.proofs.Common.{false, None, common_steps, cases_lt, cases_eq, length-set}
 use Rattle.ent_alloc.proofs.Common.{get_or-set_same, get_or-set_other, get_or-map, length-map}
 use Rattle.ent_alloc.proofs.Common.{length-drop, get_or-drop, length-take-le, get_or-reverse}
 use Rattle.ent_alloc.proofs.Common.{All-tail, All-cons, All-permutation, Handle, Limits, Roster}
