@@ -7,7 +7,8 @@ doesn't.
     .ci/scripts_in_blocks.py [--scripts N] [--seed N] [--program FILE] [--jobs N]
 
 The scripts name handles, births and names, spawn one and many, past the block and past the slots,
-despawn, insert and remove. It takes the toolchain's build, or with `--program` that by cargo.
+despawn, insert and remove. The systems of some are so long that their frames start threads. It
+takes the toolchain's build, or with `--program` that by cargo.
 """
 
 import argparse
@@ -21,6 +22,9 @@ import tempfile
 
 WORKERS = (1, 2, 3, 8, 64)
 NAMES = ("hp", "mp", "x_1", "speed")
+# Does nothing, as nobody has that birth. `spawnrun` starts a thread for 4,096 operations.
+IDLE = {"despawn": {"birth": "0.255.0"}}
+IDLE_IN_A_LONG_SYSTEM = 4_200
 
 
 class Scripts:
@@ -86,6 +90,10 @@ class Scripts:
             [self.system(names, frame) for _ in range(self.random.randrange(5))]
             for frame in range(self.random.randrange(1, 6))
         ]
+        if self.chance(0.04):
+            for system in (system for frame in frames[1:] for system in frame):
+                at = self.random.randrange(len(system) + 1)
+                system[at:at] = [IDLE] * IDLE_IN_A_LONG_SYSTEM
         script = {"format": 2, "components": names, "frames": frames}
         if self.chance(0.4):
             script["slots"] = self.random.randrange(1, 16)
