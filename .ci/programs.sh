@@ -1,8 +1,8 @@
 #!/usr/bin/env bash
-# The programs `spawnrun` and `tracecheck` as cargo builds them, without a network: their kit beside an independent reader of JSON, their cases,
-# the changed answers, the pictures that they draw, and the scripts of examples/ that run a program. `spawnrun run` has to print what the program
-# prints that docs/PERFORMANCE.md measures it beside, which is of Debian's crates. If the gate has built the programs, both builds have to do the
-# same on random input.
+# The programs `spawnrun` and `tracecheck` as cargo builds them, without a network: their kit beside an independent reader of JSON, their
+# cases, the changed answers, the pictures that they draw, and the scripts of examples/ that run a program. `spawnrun run` has to print the
+# same as its peer in docs/PERFORMANCE.md, which is built with Debian's crates. If the gate has built the programs, both builds have to do
+# the same on random input.
 #
 #     programs.sh [CASES]     so many random cases for each comparison, by default 600
 set -eu
@@ -33,12 +33,17 @@ python3 .ci/changed_replies.py --program "$PROGRAMS/tracecheck"
 python3 .ci/changed_answers.py --program "$PROGRAMS/tracecheck"
 python3 .ci/pictures.py --check
 .ci/debian.sh
-peer=crates/spawnrun/bench/script/peer
-cargo build --offline --quiet --config .ci/debian.toml --manifest-path $peer/Cargo.toml
+peer() {
+    command=$1
+    shift
+    cargo "$command" --config .ci/debian.toml --offline --quiet --manifest-path crates/spawnrun/bench/script/peer/Cargo.toml \
+        --target-dir rust/offline/target/peer "$@"
+}
+peer build
 if cargo clippy --version >/dev/null 2>&1; then
-    cargo clippy --offline --quiet --config .ci/debian.toml --manifest-path $peer/Cargo.toml -- -D warnings
+    peer clippy -- -D warnings
 fi
-python3 .ci/peer.py --program "$PROGRAMS/spawnrun" --peer $peer/target/debug/peer
+python3 .ci/peer.py --program "$PROGRAMS/spawnrun" --peer rust/offline/target/peer/debug/peer
 scripts=$(grep -l 'PROGRAMS:-' examples/*.sh)
 printf '%s\n' "$scripts" | sed 's,.*/,,' | python3 .ci/picks.py .ci/programs.sh scripts
 for script in $scripts; do

@@ -5,6 +5,7 @@
 set -eu
 here=$(cd "$(dirname "$0")" && pwd)
 top=$here/../../../..
+target=$top/rust/offline/target
 cargo build --offline --quiet --profile programs --features programs --manifest-path "$top/rust/offline/Cargo.toml"
-cargo build --offline --quiet --release --config "$top/.ci/debian.toml" --manifest-path "$here/peer/Cargo.toml"
-python3 "$here/beside_peer.py" "$top/rust/offline/target/programs/spawnrun" "$here/peer/target/release/peer"
+cargo build --offline --quiet --release --config "$top/.ci/debian.toml" --manifest-path "$here/peer/Cargo.toml" --target-dir "$target/peer"
+python3 "$here/beside_peer.py" "$target/programs/spawnrun" "$target/peer/release/peer"
