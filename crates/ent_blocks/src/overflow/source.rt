@@ -1,4 +1,4 @@
-use crate::overflow::ended::Ended;
+use crate::ended::Ended;
 use crate::overflow::phase::Overflow;
 use crate::overflow::reserver::OverflowReserver;
 use ent_alloc::{Entities, Phased, Refused, Reserved, Source};

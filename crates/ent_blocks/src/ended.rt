@@ -1,11 +1,10 @@
 ghost use Rattle.std.specs.Prelude.{◌≡◌, ◌≢◌, ◌<◌, ◌⊎◌, ◌↔◌, IfOk, IfErr, OnErr, All, AllPairs};
-ghost use Rattle.std.specs.Prelude.{Contains, length};
+ghost use Rattle.std.specs.Prelude.{◌≤◌, Contains, length, max};
 ghost use Rattle.ent_handle.specs.Handle.{Handle as HandleValue};
-ghost use Rattle.ent_alloc.specs.Sequential.{after_flush};
+ghost use Rattle.ent_alloc.specs.Sequential.{after_flush, top};
 ghost use Rattle.ent_alloc.specs.Sound.{IsLive};
 ghost use Rattle.ent_alloc.specs.Entities.{HasRowsOfLiving};
-ghost use Rattle.ent_blocks.specs.Blocks.{after_blocks};
-ghost use Rattle.ent_blocks.specs.Overflow.{AreUsedOf};
+ghost use Rattle.ent_blocks.specs.Blocks.{AreUsedOf, after_blocks, dealt};
 
 use crate::closing::take_used;
 use crate::part::Part;
@@ -36,7 +35,7 @@ pub struct Ended {
 }
 
 impl Model for Ended {
-    ghost use Rattle.ent_blocks.specs.Overflow.{Ended, ended_code, AreUsedOf};
+    ghost use Rattle.ent_blocks.specs.Blocks.{Ended, ended_code, AreUsedOf};
 
     ghost Value = { Ended };
 
@@ -59,7 +58,7 @@ impl Model for Ended {
 }
 
 impl Ended {
-    pub(super) fn new(entities: Entities, parts: Vec<Part>, requested: u64) -> Self
+    pub(crate) fn new(entities: Entities, parts: Vec<Part>, requested: u64) -> Self
         requires { AreUsedOf (record {
           start = entities.allocator;
           rows = entities.rows;
@@ -122,7 +121,7 @@ impl Ended {
     /// Returns the allocator, in which what was used is reserved: a flush brings it to life. What
     /// is left of the blocks can be given again, and comes before the rest of the pool.
     ///
-    /// It takes time and memory as [`Blocks::close`](ent_blocks::Blocks::close) does.
+    /// It takes time and memory as the gaps among the handles that were used ask for.
     ///
     /// ```
     /// use forgeni::Entities;
@@ -147,6 +146,8 @@ impl Ended {
             ≡ after_blocks self.phase.start self.phase.blocks) }
         ensures rows { IfOk result (λ entities. entities.rows ≡ self.phase.rows) }
         ensures rows_of_living { IfOk result HasRowsOfLiving }
+        ensures waiting { IfOk result (λ entities.
+            top entities.allocator ≤ max (top self.phase.start) (dealt self.phase.blocks)) }
 
         // No handle was given twice, and none was alive.
         ensures distinct { IfOk result (λ entities.
