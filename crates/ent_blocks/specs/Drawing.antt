@@ -5,7 +5,11 @@ use Rattle.ent_handle.specs.Handle.{Handle}
 use Rattle.ent_alloc.specs.Sequential.{listed}
 use Rattle.ent_alloc.specs.declared.refused.Refused.{Refused}
 use Rattle.ent_alloc.specs.declared.refused.Refused.TheVariants.{Space}
-use Rattle.ent_blocks.specs.Blocks.{Block, Blocks, Reserver, rest_of, after_use, after_refusal}
+use Rattle.ent_blocks.specs.Blocks.{Block, Blocks, Reserver, IsOf, rest_of, after_use, after_refusal}
+
+-- the reserver is one of those that came with the phase
+abbrev pub IsOfPhase : Blocks → Reserver → Type 0
+IsOfPhase phase r = IsOf phase r.block
 
 -- how many handles of a block are left
 abbrev pub left_of : Block → ℕ

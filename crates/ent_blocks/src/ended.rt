@@ -7,7 +7,7 @@ ghost use Rattle.ent_alloc.specs.Entities.{HasRowsOfLiving};
 ghost use Rattle.ent_blocks.specs.Blocks.{AreUsedOf, after_blocks, dealt};
 
 use crate::closing::take_used;
-use crate::part::Part;
+use crate::part::{Part, dealt};
 use ent_alloc::Entities;
 use ent_handle::{HandedBack, Memory};
 use std::alloc::Global;
@@ -97,6 +97,15 @@ impl Ended {
         ensures { result ≡ self.now.requested }
     {
         self.requested
+    }
+
+    /// Returns the number of handles in all blocks: no handle behind them was used.
+    pub fn dealt(&self) -> u32
+        ensures { result ≡ dealt self.now.phase.blocks }
+    {
+        // Its contract says that the state is sound, and has at most so many handles.
+        let _left = self.entities.left();
+        dealt(&self.parts)
     }
 
     /// Returns the allocator as it was when the phase was opened: nothing is reserved.

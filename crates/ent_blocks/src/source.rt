@@ -7,12 +7,11 @@ use ent_handle::Handle;
 /// A reservation takes the [next handles](Blocks::reserve) of the reserver's own block.
 impl Source for Blocks {
     ghost use Rattle.std.specs.Prelude.{◌≤◌};
-    ghost use Rattle.ent_blocks.specs.Blocks.{IsOf};
-    ghost use Rattle.ent_blocks.specs.Drawing.{IsDrawn, left_of};
+    ghost use Rattle.ent_blocks.specs.Drawing.{IsDrawn, IsOfPhase, left_of};
 
     type Reserver = BlockReserver;
 
-    ghost serves = { λ blocks reserver. IsOf blocks reserver.block };
+    ghost serves = { λ blocks reserver. IsOfPhase blocks reserver };
 
     ghost may_reply = { λ blocks before after n reply. IsDrawn blocks before after n reply };
 

@@ -17,9 +17,8 @@ ghost use Rattle.ent_blocks.specs.Overflow.{IsInOrder, MayBeServed};
 
 use crate::accounting::{account, missing};
 use crate::ended::Ended;
-use crate::overflow::dealing::dealt;
 use crate::overflow::reserver::OverflowReserver;
-use crate::part::Part;
+use crate::part::{Part, dealt};
 use crate::taking::{take_many, take_one};
 use ent_alloc::{Entities, Refused, Reserved, cancel_requests};
 use ent_handle::Handle;
