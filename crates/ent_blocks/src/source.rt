@@ -1,8 +1,11 @@
 use crate::block_reserver::BlockReserver;
 use crate::blocks::Blocks;
 use crate::ended::Ended;
+use crate::in_blocks::InBlocks;
+use crate::opening::open_in_blocks;
 use ent_alloc::{Entities, Phased, Refused, Reserved, Source};
-use ent_handle::Handle;
+use ent_handle::{Handle, Memory};
+use std::alloc::Global;
 
 /// A reservation takes the [next handles](Blocks::reserve) of the reserver's own block.
 impl Source for Blocks {
@@ -87,5 +90,55 @@ impl Phased for Blocks {
         ensures { EndsWithSome self reservers.items result }
     {
         self.close_lost(reservers)
+    }
+}
+
+/// Blocks that refuse a request for more than they have left: any number of them.
+impl InBlocks for Blocks {
+    ghost use Rattle.std.specs.Prelude.{◌≡◌};
+    ghost use Rattle.ent_blocks.specs.Blocks.{wanted_by};
+
+    ghost may_have = { λ _. Unit {0} };
+
+    ghost blocks = { λ phase. phase.blocks };
+
+    ghost block = { λ reserver. reserver.block };
+
+    ghost wants = { λ reserver. wanted_by reserver };
+
+    ghost fresh = { λ reserver. (reserver.block.used ≡ 0) × (reserver.refused ≡ 0) };
+
+    ghost ended = { λ ended. ended };
+
+    ghost start_is = { λ phase reservers ended is. rw is.is refl };
+
+    ghost rows_are = { λ phase reservers ended is. rw is.is refl };
+
+    fn fits(_count: usize) -> bool {
+        true
+    }
+
+    fn deal(
+        alloc: Global,
+        entities: Entities,
+        sizes: &[u32],
+    ) -> Result<(Self, Vec<BlockReserver>), (Entities, Memory)> {
+        open_in_blocks(alloc, entities, sizes)
+    }
+
+    fn size_of(reserver: &BlockReserver) -> u32 {
+        reserver.size()
+    }
+
+    fn used_of(reserver: &BlockReserver) -> u32 {
+        reserver.used()
+    }
+
+    fn wanted_of(reserver: &BlockReserver) -> u32 {
+        reserver.wanted()
+    }
+
+    fn into_ended(closed: Ended) -> Ended {
+        closed
     }
 }

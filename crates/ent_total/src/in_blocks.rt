@@ -1,10 +1,7 @@
-//! An allocator is dealt in blocks, and the rest of it is shared: a reserver whose block is used up
-//! goes on to the cursor of all.
-ghost use Rattle.std.specs.Prelude.{◌≡◌, ◌+◌, ◌-◌, ◌^◌, ◌<◌, ◌≤◌, ◌↔◌, [], All, length, min};
+//! An allocator is dealt in blocks, one for each reserver.
+ghost use Rattle.std.specs.Prelude.{◌≡◌, ◌-◌, ◌<◌, ◌≤◌, ◌↔◌, All, length, map};
 ghost use Rattle.std.specs.Prelude.{IfOk, IfErr, IsErrAnd};
-ghost use Rattle.ent_alloc.specs.Limits.{quota};
 ghost use Rattle.ent_blocks.specs.Blocks.{blocks_from};
-ghost use Rattle.ent_blocks.specs.Overflow.{own_blocks, past_history};
 ghost use Rattle.ent_shared.specs.Record.{requested_by};
 ghost use Rattle.ent_total.specs.declared.share_error.ShareError.TheVariants.{NeedsFlush, Count};
 
@@ -12,14 +9,13 @@ use crate::numbering::Numbering;
 use crate::opening::{Opening, begin};
 use crate::reserver::Reserver;
 use crate::share_error::ShareError;
-use crate::sharing::CALLERS;
 use ent_alloc::Entities;
-use ent_blocks::{Overflow, open_with_overflow};
+use ent_blocks::{InBlocks, Overflow};
 use ent_handle::HandedBack;
 use std::alloc::Global;
 
-/// Deals the pool's front in blocks of these sizes, one after the other, and shares the rest of it:
-/// at most 1,023 blocks. A block is smaller where the pool ends.
+/// Deals the pool's front in blocks of these sizes, one after the other: a block is smaller where
+/// the pool ends. The reservers are in the order of the sizes.
 ///
 /// No slot is made, and no list of handles. It takes time and memory for each block, however large
 /// they are.
@@ -27,50 +23,49 @@ use std::alloc::Global;
 /// # Errors
 ///
 /// [`HandedBack`] has the allocator as it was, and the first of these errors that applies:
-/// [`ShareError::NeedsFlush`], [`ShareError::Count`], [`ShareError::Memory`].
-pub fn share_behind_blocks<J: Numbering>(
+/// [`ShareError::NeedsFlush`], [`ShareError::Count`] if the source has no form for so many blocks,
+/// [`ShareError::Memory`].
+pub fn share_in<J: Numbering, S: InBlocks>(
     alloc: Global,
     entities: Entities,
     sizes: &[u32],
-) -> Result<Opening<J, Overflow>, HandedBack<Entities, ShareError>>
-    ensures start { IfOk result (λ o. o.source.shared.start ≡ entities.allocator) }
-    ensures rows { IfOk result (λ o. o.source.shared.rows ≡ entities.rows) }
+) -> Result<Opening<J, S>, HandedBack<Entities, ShareError>>
+    ensures start { IfOk result (λ o. S.start o.source ≡ entities.allocator) }
+    ensures rows { IfOk result (λ o. S.rows o.source ≡ entities.rows) }
     ensures blocks { IfOk result (λ o.
-        o.source.blocks ≡ blocks_from 0 (length entities.allocator.pool) sizes.now) }
-    ensures reservers { IfOk result (λ o. own_blocks o.returned ≡ o.source.blocks) }
-
-    // Nobody has gone past its block yet, and each has its whole quota for it.
-    ensures nothing { IfOk result (λ o. past_history o.returned ≡ []) }
-    ensures quota { IfOk result (λ o. All (λ c. c.past.own.left ≡ quota) o.returned) }
+        S.blocks o.source ≡ blocks_from 0 (length entities.allocator.pool) sizes.now) }
+    ensures reservers { IfOk result (λ o. map S.block o.returned ≡ S.blocks o.source) }
+    ensures takes { IfOk result (λ o. S.takes o.source o.returned) }
+    ensures fresh { IfOk result (λ o. All S.fresh o.returned) }
     ensures needs_flush { IsErrAnd result (λ h. h.error ≡ NeedsFlush)
         ↔ (0 < entities.allocator.asked) }
     ensures no_count { IsErrAnd result (λ h. h.error ≡ Count)
-        ↔ ((entities.allocator.asked ≡ 0) × (1024 ≤ length sizes.now)) }
+        ↔ ((entities.allocator.asked ≡ 0) × ¬ (S.may_have (length sizes.now))) }
     ensures handed_back { IfErr result (λ h. h.value ≡ entities) }
 {
     if entities.needs_flush() {
         return Err(HandedBack::new(entities, ShareError::NeedsFlush));
     }
-    if sizes.len() >= CALLERS {
+    if !S::fits(sizes.len()) {
         return Err(HandedBack::new(entities, ShareError::Count));
     }
     let Ok(reservers) = Vec::with_capacity(alloc, sizes.len()) else {
         return Err(HandedBack::new(entities, ShareError::Memory));
     };
-    let (phase, callers) = match open_with_overflow(alloc, entities, sizes) {
+    let (source, callers) = match S::deal(alloc, entities, sizes) {
         Ok(made) => made,
         Err((entities, _)) => return Err(HandedBack::new(entities, ShareError::Memory)),
     };
-    match begin(alloc, phase, callers, reservers) {
+    match begin(alloc, source, callers, reservers) {
         Ok(opening) => Ok(opening),
-        Err((phase, callers)) => {
-            let entities = phase.close(callers).cancel();
+        Err((source, callers)) => {
+            let entities = S::into_ended(source.end_with_all(callers)).cancel();
             Err(HandedBack::new(entities, ShareError::Memory))
         }
     }
 }
 
-impl<J: Numbering> Reserver<J, Overflow> {
+impl<J: Numbering, S: InBlocks> Reserver<J, S> {
     /// Returns the number of handles in its block. It is less than the requested size if the pool
     /// had no more.
     ///
@@ -85,9 +80,9 @@ impl<J: Numbering> Reserver<J, Overflow> {
     /// ```
     #[must_use]
     pub fn size(&self) -> u32
-        ensures { result ≡ self.now.reserver.block.size }
+        ensures { result ≡ (S.block self.now.reserver).size }
     {
-        self.reserver.size()
+        S::size_of(&self.reserver)
     }
 
     /// Returns the number of handles of the block that are used.
@@ -104,10 +99,10 @@ impl<J: Numbering> Reserver<J, Overflow> {
     /// ```
     #[must_use]
     pub fn used(&self) -> u32
-        ensures value { result ≡ self.now.reserver.block.used }
-        ensures within { result ≤ self.now.reserver.block.size }
+        ensures value { result ≡ (S.block self.now.reserver).used }
+        ensures within { result ≤ (S.block self.now.reserver).size }
     {
-        self.reserver.used()
+        S::used_of(&self.reserver)
     }
 
     /// Returns the number of handles that are left of the block.
@@ -125,28 +120,9 @@ impl<J: Numbering> Reserver<J, Overflow> {
     /// ```
     #[must_use]
     pub fn left(&self) -> u32
-        ensures { result ≡ self.now.reserver.block.size - self.now.reserver.block.used }
+        ensures { result ≡ (S.block self.now.reserver).size - (S.block self.now.reserver).used }
     {
-        self.reserver.left()
-    }
-
-    /// Returns the number of handles that it has requested past its block, served or refused.
-    ///
-    /// ```
-    /// use forgeni::Entities;
-    ///
-    /// let (_phase, mut reservers) = Entities::new().share_behind_blocks(&[10, 10])?;
-    /// reservers[0].reserve_many(8)?;
-    /// // The block has only two left, so all three come from the shared handles.
-    /// reservers[0].reserve_many(3)?;
-    /// assert_eq!((reservers[0].used(), reservers[0].requested_past()), (8, 3));
-    /// # Ok::<(), Box<dyn std::error::Error>>(())
-    /// ```
-    #[must_use]
-    pub fn requested_past(&self) -> u64
-        ensures { result ≡ requested_by self.now.reserver.past.own }
-    {
-        self.reserver.requested_past()
+        S::size_of(&self.reserver) - S::used_of(&self.reserver)
     }
 
     /// Returns how large its block should have been: the handles that it used, and those that it
@@ -166,9 +142,29 @@ impl<J: Numbering> Reserver<J, Overflow> {
     /// ```
     #[must_use]
     pub fn wanted(&self) -> u32
-        ensures { result ≡ min (self.now.reserver.block.used
-            + requested_by self.now.reserver.past.own) (2 ^ 32 - 1) }
+        ensures { result ≡ S.wants self.now.reserver }
     {
-        self.reserver.wanted()
+        S::wanted_of(&self.reserver)
+    }
+}
+
+impl<J: Numbering> Reserver<J, Overflow> {
+    /// Returns the number of handles that it has requested past its block, served or refused.
+    ///
+    /// ```
+    /// use forgeni::Entities;
+    ///
+    /// let (_phase, mut reservers) = Entities::new().share_behind_blocks(&[10, 10])?;
+    /// reservers[0].reserve_many(8)?;
+    /// // The block has only two left, so all three come from the shared handles.
+    /// reservers[0].reserve_many(3)?;
+    /// assert_eq!((reservers[0].used(), reservers[0].requested_past()), (8, 3));
+    /// # Ok::<(), Box<dyn std::error::Error>>(())
+    /// ```
+    #[must_use]
+    pub fn requested_past(&self) -> u64
+        ensures { result ≡ requested_by self.now.reserver.past.own }
+    {
+        self.reserver.requested_past()
     }
 }
