@@ -66,6 +66,7 @@ pub trait InBlocks: Phased {
         ensures own { IfOk result (λ made. All (Self.serves made.0) made.1.items) }
         ensures takes { IfOk result (λ made. Self.takes made.0 made.1.items) }
         ensures count { IfOk result (λ made. length made.1.items ≡ Self.count made.0) }
+        ensures many { IfOk result (λ made. length made.1.items ≡ length sizes.now) }
         ensures fresh { IfOk result (λ made. All fresh made.1.items) }
         ensures err { IfErr result (λ refused. refused.0 ≡ entities) };
 
@@ -89,6 +90,12 @@ pub trait InBlocks: Phased {
     // A phase that has ended began with the same allocator.
     ghost start_is: { (s : Self) (all : List Self.Reserver) (c : Self.Closed)
         → Self.Phased.closes s all c → (ended c).phase.start ≡ Self.Source.start s };
+
+    ghost start_lost_is: { (s : Self) (all : List Self.Reserver) (c : Self.Closed)
+        → Self.Phased.closes_lost s all c → (ended c).phase.start ≡ Self.Source.start s };
+
+    ghost rows_lost_are: { (s : Self) (all : List Self.Reserver) (c : Self.Closed)
+        → Self.Phased.closes_lost s all c → (ended c).phase.rows ≡ Self.Source.rows s };
 
     ghost rows_are: { (s : Self) (all : List Self.Reserver) (c : Self.Closed)
         → Self.Phased.closes s all c → (ended c).phase.rows ≡ Self.Source.rows s };

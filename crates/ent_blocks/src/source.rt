@@ -112,6 +112,10 @@ impl InBlocks for Blocks {
 
     ghost start_is = { λ phase reservers ended is. rw is.is refl };
 
+    ghost start_lost_is = { λ phase reservers ended is. rw is refl };
+
+    ghost rows_lost_are = { λ phase reservers ended is. rw is refl };
+
     ghost rows_are = { λ phase reservers ended is. rw is.is refl };
 
     fn fits(_count: usize) -> bool {

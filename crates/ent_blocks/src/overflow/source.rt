@@ -115,6 +115,10 @@ impl InBlocks for Overflow {
 
     ghost start_is = { λ phase callers ended is. is.start };
 
+    ghost start_lost_is = { λ phase callers ended is. is.start };
+
+    ghost rows_lost_are = { λ phase callers ended is. is.rows };
+
     ghost rows_are = { λ phase callers ended is. is.rows };
 
     fn fits(count: usize) -> bool {
