@@ -1,4 +1,4 @@
-use Rattle.ent_total.proofs.Common.{rules, arith, length, ◌≡◌, ◌∙◌, sym}
+use Rattle.ent_total.proofs.Common.{rules, arith, length, ◌≡◌, ◌∙◌, ap, sym}
 use Rattle.ent_total.specs.declared.share_error.ShareError.TheVariants.{Count, Memory}
 use Rattle.ent_total.proofs.Unused.{same_entities}
 use Rattle.ent_total.proofs.in_blocks.share_in.Goals as goal
@@ -14,7 +14,7 @@ pub returns-in-Err-begin-clause-no_count : goal.returns-in-Err-begin-clause-no_c
 returns-in-Err-begin-clause-no_count g c =
     let fits : g.S.InBlocks.may_have (length c.args.sizes.now) = search rules in
     (
-      λ is. let no : Memory ≡ Count = sym c.new-in-Err-begin.ensures.error ∙ is in absurd (cc),
+      λ is. let no : Memory ≡ Count = sym (ap (λ h. h.error) c.new-in-Err-begin.ensures) ∙ is in absurd (cc),
       λ h. absurd (h.1 fits),
     )
 
