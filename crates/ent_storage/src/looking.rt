@@ -156,7 +156,7 @@ impl Storage {
     }
 
     /// Returns the handles of all entities, ordered by birth and then by handle. It takes the time
-    /// of a sort, or of one pass if they stand in that order, as they mostly do until one despawns.
+    /// of a sort, or of one pass if they are in that order, as they mostly are until one despawns.
     ///
     /// ```
     /// use forgeni::{Birth, Storage};
