@@ -4,7 +4,9 @@ use Rattle.ent_blocks.proofs.Common.{◌∷◌, length, map, drop, get_or, arith
 use Rattle.ent_blocks.proofs.Common.{common_steps, drop_all, drop_more, get_or-map, length-map}
 use Rattle.ent_blocks.proofs.Common.{Block, unused, is_same, are_among, accounted, AreLaid}
 use Rattle.ent_blocks.proofs.Common.{Allocator, AreDealt, dealt, ◌^◌}
-use Rattle.ent_blocks.proofs.Dealing.{dealt-unused}
+use Rattle.ent_blocks.proofs.Common.{ap, ◌∙◌, All, Blocks, IsOf, Reserver, blocks_of}
+use Rattle.ent_blocks.proofs.Common.{get_or_default}
+use Rattle.ent_blocks.proofs.Dealing.{dealt-unused, none_used}
 
 same_size : (b r : Block) → is_same b r ≡ true → b.size ≡ r.size
 same_size b r same = grind (arith, common_steps)
@@ -119,3 +121,16 @@ one_left of bs rs i k past lt =
     let some = drop_more (map of rs) k (record { before = 0; size = 0; used = 0 })
     (omega (arith, length-map rs of)) in
     search (rules, drop_all, some)
+
+-- each of these reservers has a block of the phase
+pub own_of : (p : Blocks) (rs : List Reserver) → AreLaid 0 p.blocks → blocks_of rs ≡ p.blocks
+    → All (λ (r : Reserver). IsOf p r.block) rs
+own_of p rs laid is = λ k d less.
+    let b = (get_or rs k d).block in
+    let lt : k < length p.blocks =
+    omega (arith, ap length is, length-map rs (λ (r : Reserver). r.block), less) in
+    let at : get_or p.blocks k d.block ≡ b =
+    ap (λ (bs : List Block). get_or bs k d.block) (sym is)
+    ∙ get_or-map (λ (r : Reserver). r.block) rs k d d.block less in
+    let none = none_used 0 k p.blocks d.block laid lt in
+    (k, lt, grind (arith, common_steps, at, none, get_or_default))

@@ -71,12 +71,9 @@ pub record LiesIn (s : Allocator) (b : Block) : Type 0 where
   pub within : b.before + b.size ≤ length s.pool
   pub few : b.before + b.size < 2 ^ 32
 
--- a reserver's block, if its number stands for the phase
-pub lies_in : (of : ℕ → Blocks) (n number : ℕ) (p : Blocks) (b : Block) → AreDealt p.start p.blocks
-    → of number ≡ p → n ≡ number → IsOf (of n) b → LiesIn p.start b
-lies_in of n number p b are is same has =
-    let here : IsOf p b = search rules in
-    search (rules, arith, of_phase p.blocks b are.laid here, are)
+-- a reserver's block
+pub lies_in : (p : Blocks) (b : Block) → AreDealt p.start p.blocks → IsOf p b → LiesIn p.start b
+lies_in p b are has = search (rules, arith, of_phase p.blocks b are.laid has, are)
 
 -- ---- closing
 

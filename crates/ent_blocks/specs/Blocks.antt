@@ -8,7 +8,7 @@ use Rattle.std.specs.List.{flat_map, Contains}
 use Rattle.std.specs.Coded.{Coded, code_by, coded×, coded_ℕ, coded_list}
 use Rattle.std.specs.FinMap as maps
 use Rattle.ent_handle.specs.Handle.{Handle, handle_cmp, handle_code}
-use Rattle.ent_alloc.specs.Sequential.{Allocator, allocator_code, opening}
+use Rattle.ent_alloc.specs.Sequential.{Allocator, allocator_code}
 use Rattle.ent_alloc.specs.Portions.{made_for}
 use Rattle.ent_alloc.specs.declared.portion.Portion.{Portion}
 use Rattle.ent_alloc.specs.Sound.{IsSound}
@@ -82,27 +82,12 @@ pub record Blocks : Type 0 where
   pub rows : maps.FinMap handle_cmp ℕ
   pub blocks : List Block
 
--- those of an allocator that isn't used
-abbrev pub no_blocks : Blocks
-no_blocks = record {
-  start = opening (record { slots = 1; generations = 1 });
-  rows = maps.empty;
-  blocks = [];
-}
-
 -- the block is one of those of this phase
 abbrev pub IsOf : Blocks → Block → Type 0
 IsOf phase b = Contains phase.blocks (unused b)
 
--- the number that distinguishes the phase from others, and the phase
-pub record Phase : Type 0 where
-  pub number : ℕ
-  pub phase : Blocks
-
--- the number of its phase, its block, and how many handles the largest of its refused requests was
--- for
+-- the block of a reserver, and how many handles the largest of its refused requests was for
 pub record Reserver : Type 0 where
-  pub number : ℕ
   pub block : Block
   pub refused : ℕ
 
@@ -140,6 +125,13 @@ accounted (b ∷ blocks) (r ∷ reservers) =
     then record b { used = r.used } ∷ accounted blocks reservers
     else record b { used = b.size } ∷ accounted blocks (r ∷ reservers)
 
+-- A phase that has ended: the allocator as it was opened, with its rows; the blocks with what was
+-- used of each, and behind them what came from a shared cursor, as one more block; and how many
+-- handles were requested from there.
+pub record Ended : Type 0 where
+  pub phase : Blocks
+  pub requested : ℕ
+
 -- For proofs: the blocks follow one another without a gap, and none of them was used.
 abbrev pub AreLaid : ℕ → List Block → Type 0
 AreLaid before [] = Unit {0}
@@ -154,6 +146,13 @@ pub record AreDealt (s : Allocator) (blocks : List Block) : Type 0 where
   pub within : dealt blocks ≤ length s.pool
   pub few : dealt blocks < 2 ^ 32
 
+-- What was used lies in the pool of a flushed allocator.
+pub record AreUsedOf (phase : Blocks) : Type 0 where
+  pub sound : IsSound phase.start
+  pub flushed : phase.start.asked ≡ 0
+  pub laid : AreLaid 0 (map unused phase.blocks)
+  pub within : dealt phase.blocks ≤ length phase.start.pool
+
 abbrev pub block_code : Coded Block
 block_code =
     code_by (ℕ × (ℕ × ℕ)) (coded× coded_ℕ (coded× coded_ℕ coded_ℕ))
@@ -167,13 +166,12 @@ blocks_code =
     (λ b. (b.start, (b.rows, b.blocks)))
     (λ p. record { start = p.0; rows = p.1.0; blocks = p.1.1 }) (λ _. refl)
 
-abbrev pub phase_code : Coded Phase
-phase_code =
-    code_by (ℕ × Blocks) (coded× coded_ℕ blocks_code) (λ p. (p.number, p.phase))
-    (λ p. record { number = p.0; phase = p.1 }) (λ _. refl)
-
 abbrev pub reserver_code : Coded Reserver
 reserver_code =
-    code_by (ℕ × (Block × ℕ)) (coded× coded_ℕ (coded× block_code coded_ℕ))
-    (λ r. (r.number, (r.block, r.refused)))
-    (λ p. record { number = p.0; block = p.1.0; refused = p.1.1 }) (λ _. refl)
+    code_by (Block × ℕ) (coded× block_code coded_ℕ) (λ r. (r.block, r.refused))
+    (λ p. record { block = p.0; refused = p.1 }) (λ _. refl)
+
+abbrev pub ended_code : Coded Ended
+ended_code =
+    code_by (Blocks × ℕ) (coded× blocks_code coded_ℕ) (λ e. (e.phase, e.requested))
+    (λ p. record { phase = p.0; requested = p.1 }) (λ _. refl)

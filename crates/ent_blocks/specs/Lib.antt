@@ -1,5 +1,4 @@
 pub mod Blocks
-pub mod Faults
 pub mod Drawing
 pub mod Ending
 pub mod Overflow

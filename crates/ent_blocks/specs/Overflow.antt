@@ -10,7 +10,6 @@ use Rattle.ent_alloc.specs.History as history
 use Rattle.ent_alloc.specs.Sequential.{cursor, listed}
 use Rattle.ent_alloc.specs.declared.refused.Refused.{Refused}
 use Rattle.ent_alloc.specs.declared.refused.Refused.TheVariants.{Quota}
-use Rattle.ent_alloc.specs.Sound.{IsSound}
 use Rattle.ent_shared.specs.declared.record.Reservation.{Reservation}
 use Rattle.ent_shared.specs.declared.record.RecordEntry.TheVariants.{Own}
 use Rattle.ent_shared.specs.declared.record.Record.{Record}
@@ -20,8 +19,8 @@ use Rattle.ent_shared.specs.Phase.{Shared, Reserver, shared_code, reserver_code,
 use Rattle.ent_shared.specs.Phase as sharing
 use Rattle.ent_shared.specs.Replies.{Reserves}
 use Rattle.ent_shared.specs.Rule.{HasItsReply}
-use Rattle.ent_blocks.specs.Blocks.{Block, Blocks, block_code, blocks_code, dealt, unused}
-use Rattle.ent_blocks.specs.Blocks.{AreDealt, AreLaid, rest_of, after_use}
+use Rattle.ent_blocks.specs.Blocks.{Block, block_code, dealt, unused, AreDealt, rest_of}
+use Rattle.ent_blocks.specs.Blocks.{after_use}
 use Rattle.ent_blocks.specs.Drawing.{left_of}
 
 -- The phase: the shared allocator, the dealer, which reserved all blocks before any caller reserved
@@ -95,13 +94,6 @@ abbrev pub past_block : ℕ → ℕ → List Block
 past_block before given =
     if given == 0 then [] else record { before = before; size = given; used = given } ∷ []
 
--- A phase that has ended: the allocator as it was opened, with its rows; the blocks with what was
--- used of each, and then what came from the shared cursor; and how many handles were requested from
--- there.
-pub record Ended : Type 0 where
-  pub phase : Blocks
-  pub requested : ℕ
-
 -- ---- for private contracts
 
 -- The record has this one reservation, of that many handles.
@@ -131,13 +123,6 @@ pub record IsPhase (shared : Shared) (dealer : Reserver) (blocks : List Block) :
   pub mark : dealer.own.mark ≤ℤ (cursor shared.start -ℤ pos (dealt blocks))
   pub count : shared.count ≡ length blocks + 1
 
--- What was used lies in the pool of a flushed allocator.
-pub record AreUsedOf (phase : Blocks) : Type 0 where
-  pub sound : IsSound phase.start
-  pub flushed : phase.start.asked ≡ 0
-  pub laid : AreLaid 0 (map unused phase.blocks)
-  pub within : dealt phase.blocks ≤ length phase.start.pool
-
 abbrev pub overflow_code : Coded Overflow
 overflow_code =
     code_by (Shared × (Reserver × List Block))
@@ -149,8 +134,3 @@ abbrev pub caller_code : Coded Caller
 caller_code =
     code_by (Block × Reserver) (coded× block_code reserver_code) (λ c. (c.block, c.past))
     (λ p. record { block = p.0; past = p.1 }) (λ _. refl)
-
-abbrev pub ended_code : Coded Ended
-ended_code =
-    code_by (Blocks × ℕ) (coded× blocks_code coded_ℕ) (λ e. (e.phase, e.requested))
-    (λ p. record { phase = p.0; requested = p.1 }) (λ _. refl)

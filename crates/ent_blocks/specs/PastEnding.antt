@@ -9,8 +9,8 @@ use Rattle.ent_alloc.specs.History.{IsLegal, given_in, requests_of}
 use Rattle.ent_shared.specs.Order.{reservations_of, handles_given, handles_of, own_of_all}
 use Rattle.ent_shared.specs.Record.{requested_by}
 use Rattle.ent_shared.specs.Phase.{Reserver}
-use Rattle.ent_blocks.specs.Blocks.{dealt, lesser, unused, accounted}
-use Rattle.ent_blocks.specs.Overflow.{Overflow, Caller, Ended, IsInOrder, own_blocks, past_of}
+use Rattle.ent_blocks.specs.Blocks.{Ended, dealt, lesser, unused, accounted}
+use Rattle.ent_blocks.specs.Overflow.{Overflow, Caller, IsInOrder, own_blocks, past_of}
 use Rattle.ent_blocks.specs.Overflow.{past_records, past_history, past_block, behind_blocks}
 
 -- The phase ended with all its callers. Behind the blocks, with what was used of each, comes what

@@ -4,22 +4,8 @@ ghost use Rattle.std.specs.Prelude.{All, length, map, vec_len};
 ghost use Rattle.std.specs.Vec.{vec_capacity};
 ghost use Rattle.ent_blocks.specs.Blocks.{are_among, accounted};
 
-use crate::block_reserver::BlockReserver;
 use crate::held::Held;
-use crate::numbering::BlockNumbering;
 use crate::part::Part;
-
-/// Whether all reservers are of the phase of this number.
-pub(crate) fn are_of<J: BlockNumbering>(number: u64, reservers: &[BlockReserver<J>]) -> bool
-    ensures { IsTrue result ↔ All (λ r. r.number ≡ number) reservers.now }
-{
-    for reserver in reservers {
-        if reserver.number != number {
-            return false;
-        }
-    }
-    true
-}
 
 /// How many blocks are held by nothing here. `None` if what is here doesn't hold some of the
 /// blocks, in their order.

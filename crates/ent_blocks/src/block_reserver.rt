@@ -1,11 +1,9 @@
 ghost use Rattle.std.specs.Prelude.{◌≡◌};
 
-use crate::block_error::BlockError;
-use crate::blocks::Blocks;
 use crate::held::Held;
-use crate::numbering::BlockNumbering;
 use crate::part::Part;
-use std::marker::{Model, PhantomData};
+use ent_alloc::Refused;
+use std::marker::Model;
 
 /// One caller's right to the handles of its block.
 ///
@@ -22,31 +20,26 @@ use std::marker::{Model, PhantomData};
 /// # Ok::<(), Box<dyn std::error::Error + Send + Sync>>(())
 /// ```
 #[derive(Drop)]
-pub struct BlockReserver<J: BlockNumbering> {
+pub struct BlockReserver {
     pub(crate) part: Part,
     /// How many handles the largest of the refused requests was for.
     pub(crate) refused: u32,
-    pub(crate) number: u64,
-    pub(crate) of: PhantomData<J>,
 }
 
-impl<J: BlockNumbering> Model for BlockReserver<J> {
-    ghost use Rattle.ent_blocks.specs.Blocks.{Reserver, reserver_code, IsOf};
+impl Model for BlockReserver {
+    ghost use Rattle.ent_blocks.specs.Blocks.{Reserver, reserver_code};
 
     ghost Value = { Reserver };
 
     ghost coded = { reserver_code };
 
-    ghost view = { λ r. record { number = r.number; block = r.part; refused = r.refused } };
-
-    // Its block is one of those of the phase.
-    ghost invariant = { λ r. IsOf (J.blocks_of r.number) r.part };
+    ghost view = { λ r. record { block = r.part; refused = r.refused } };
 }
 
-impl<J: BlockNumbering> BlockReserver<J> {
-    ghost use Rattle.std.specs.Prelude.{◌≡◌, ◌↔◌, ◌-◌, ◌≤◌, IsTrue};
+impl BlockReserver {
+    ghost use Rattle.std.specs.Prelude.{◌≡◌, ◌-◌, ◌≤◌};
     ghost use Rattle.ent_blocks.specs.Blocks.{after_refusal, wanted_by};
-    ghost use Rattle.ent_blocks.specs.declared.block_error.BlockError.TheVariants as why;
+    ghost use Rattle.ent_alloc.specs.declared.refused.Refused.TheVariants as why;
 
     /// Returns the number of handles in the block. It is less than the requested size if the pool
     /// had no more.
@@ -132,34 +125,16 @@ impl<J: BlockNumbering> BlockReserver<J> {
     }
 
     /// Remembers a request for `wanted` handles, of which only `left` are left.
-    pub(crate) fn refuse(&mut self, wanted: u32, left: u32) -> BlockError
+    pub(crate) fn refuse(&mut self, wanted: u32, left: u32) -> Refused
         ensures remembers { self.new ≡ after_refusal self.old wanted }
         ensures error { result ≡ why.Space wanted left }
     {
         self.refused = self.refused.max(wanted);
-        BlockError::Space { wanted, left }
-    }
-
-    /// Returns `true` if it belongs to this phase.
-    ///
-    /// ```
-    /// use forgeni::{BlockError, Entities};
-    ///
-    /// let (blocks, mut reservers) = Entities::new().open_in_blocks(&[10])?;
-    /// let (others, _) = Entities::new().open_in_blocks(&[10])?;
-    /// assert!(reservers[0].is_of(&blocks) && !reservers[0].is_of(&others));
-    /// assert_eq!(others.reserve(&mut reservers[0]), Err(BlockError::OtherPhase));
-    /// # Ok::<(), Box<dyn std::error::Error>>(())
-    /// ```
-    #[must_use]
-    pub fn is_of(&self, blocks: &Blocks<J>) -> bool
-        ensures { IsTrue result ↔ (self.now.number ≡ blocks.now.number) }
-    {
-        self.number == blocks.number()
+        Refused::Space { wanted, left }
     }
 }
 
-impl<J: BlockNumbering> Held for BlockReserver<J> {
+impl Held for BlockReserver {
     ghost block = { λ r. r.block };
 
     fn part(&self) -> &Part {
@@ -171,13 +146,11 @@ impl<J: BlockNumbering> Held for BlockReserver<J> {
 /// them has to be dropped unused, and no contract sees to that. It is for `ent_runner` alone: a
 /// frame owns the reservers of its systems, makes another one for a job, which is done once, and
 /// drops its own.
-pub fn again<J: BlockNumbering>(reserver: &BlockReserver<J>) -> BlockReserver<J>
+pub fn again(reserver: &BlockReserver) -> BlockReserver
     ensures { result ≡ reserver.now }
 {
     BlockReserver {
         part: reserver.part.with_used(reserver.part.used()),
         refused: reserver.refused,
-        number: reserver.number,
-        of: PhantomData,
     }
 }

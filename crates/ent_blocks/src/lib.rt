@@ -3,15 +3,13 @@
 #![tactic(auto, using(crate::proofs::Laws::laws))]
 
 mod accounting;
-mod block_error;
 mod block_reserver;
 mod block_size;
 mod blocks;
 mod closing;
-mod deal_error;
-mod end_error;
+mod ended;
 mod held;
-mod numbering;
+mod in_blocks;
 mod opening;
 mod overflow;
 mod part;
@@ -19,12 +17,10 @@ mod source;
 mod taking;
 
 pub use crate::overflow::open_with_overflow;
-pub use block_error::BlockError;
 pub use block_reserver::{BlockReserver, again};
 pub use block_size::BlockSize;
-pub use blocks::{Blocks, reserve_iter};
-pub use deal_error::DealError;
-pub use end_error::EndError;
-pub use numbering::BlockNumbering;
-pub use opening::{Deal, open_in_blocks};
-pub use overflow::{Ended, Overflow, OverflowReserver};
+pub use blocks::Blocks;
+pub use ended::Ended;
+pub use in_blocks::InBlocks;
+pub use opening::open_in_blocks;
+pub use overflow::{Overflow, OverflowReserver};

@@ -3,13 +3,11 @@
 #![tactic(auto, using(crate::proofs::Laws::past_laws))]
 
 mod dealing;
-mod ended;
 mod opening;
 mod phase;
 mod reserver;
 mod source;
 
-pub use ended::Ended;
 pub use opening::open_with_overflow;
 pub use phase::Overflow;
 pub use reserver::OverflowReserver;

@@ -1,3 +1,6 @@
+ghost use Rattle.std.specs.Prelude.{◌≡◌, ◌^◌, ◌<◌};
+ghost use Rattle.ent_blocks.specs.Blocks.{dealt};
+
 use ent_alloc::Portion;
 use std::marker::Model;
 
@@ -104,4 +107,16 @@ impl Part {
             used,
         }
     }
+}
+
+/// How many handles the blocks have in all.
+pub(crate) fn dealt(parts: &[Part]) -> u32
+    requires { dealt parts.now < 2 ^ 32 }
+    ensures { result ≡ dealt parts.now }
+{
+    let mut count = 0;
+    for part in parts {
+        count += part.size();
+    }
+    count
 }

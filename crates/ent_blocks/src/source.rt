@@ -1,15 +1,18 @@
 use crate::block_reserver::BlockReserver;
-use crate::blocks::{Blocks, reserve_iter};
-use crate::numbering::BlockNumbering;
-use ent_alloc::{Refused, Reserved, Source};
-use ent_handle::Handle;
+use crate::blocks::Blocks;
+use crate::ended::Ended;
+use crate::in_blocks::InBlocks;
+use crate::opening::open_in_blocks;
+use ent_alloc::{Entities, Phased, Refused, Reserved, Source};
+use ent_handle::{Handle, Memory};
+use std::alloc::Global;
 
 /// A reservation takes the [next handles](Blocks::reserve) of the reserver's own block.
-impl<J: BlockNumbering> Source for Blocks<J> {
+impl Source for Blocks {
     ghost use Rattle.std.specs.Prelude.{◌≤◌};
     ghost use Rattle.ent_blocks.specs.Drawing.{IsDrawn, IsOfPhase, left_of};
 
-    type Reserver = BlockReserver<J>;
+    type Reserver = BlockReserver;
 
     ghost serves = { λ blocks reserver. IsOfPhase blocks reserver };
 
@@ -17,38 +20,129 @@ impl<J: BlockNumbering> Source for Blocks<J> {
 
     ghost may_give = { λ blocks reserver n. n ≤ left_of reserver.block };
 
-    ghost start = { λ blocks. blocks.phase.start };
+    ghost start = { λ blocks. blocks.start };
 
-    ghost rows = { λ blocks. blocks.phase.rows };
+    ghost rows = { λ blocks. blocks.rows };
 
     fn was_alive(&self, handle: Handle) -> bool {
-        self.is_alive(handle)
+        self.opened().is_alive(handle)
     }
 
     fn had_row(&self, handle: Handle) -> Option<u32> {
-        self.row(handle)
+        self.opened().row(handle)
     }
 
-    fn may_serve(&self, reserver: &BlockReserver<J>, n: u32) -> bool {
+    fn may_serve(&self, reserver: &BlockReserver, n: u32) -> bool {
         n <= reserver.left()
     }
 
     #[inline(always)]
-    fn serve_one(&self, reserver: &mut BlockReserver<J>) -> Result<Handle, Refused> {
-        // The reserver is of the phase, so the block is used up if it gives none.
-        let Ok(handle) = self.reserve(reserver) else {
-            return Err(Refused::Space { wanted: 1, left: 0 });
-        };
-        Ok(handle)
+    fn serve_one(&self, reserver: &mut BlockReserver) -> Result<Handle, Refused> {
+        self.reserve(reserver)
     }
 
     #[inline(always)]
-    fn serve_many(&self, reserver: &mut BlockReserver<J>, n: u32) -> Result<Reserved<'_>, Refused> {
-        // The reserver is of the phase, so too few are left of the block if it gives none.
-        let left = reserver.left();
-        let Ok(handles) = reserve_iter(self, reserver, n) else {
-            return Err(Refused::Space { wanted: n, left });
-        };
-        Ok(handles)
+    fn serve_many(&self, reserver: &mut BlockReserver, n: u32) -> Result<Reserved<'_>, Refused> {
+        self.reserve_many(reserver, n)
+    }
+}
+
+/// Phases in which no handle depends on a thread.
+impl Phased for Blocks {
+    ghost use Rattle.std.specs.Prelude.{◌≡◌, All, IsTrue, length};
+    ghost use Rattle.ent_blocks.specs.Blocks.{IsOf, are_among, blocks_of};
+    ghost use Rattle.ent_blocks.specs.Ending.{EndsWithAll, EndsWithSome};
+
+    type Closed = Ended;
+
+    ghost count = { λ phase. length phase.blocks };
+
+    ghost takes = { λ phase reservers. IsTrue (are_among phase.blocks (blocks_of reservers)) };
+
+    ghost closes = { λ phase reservers ended. EndsWithAll phase reservers ended };
+
+    ghost closes_lost = { λ phase reservers ended. EndsWithSome phase reservers ended };
+
+    fn callers(&self) -> usize {
+        self.count()
+    }
+
+    fn as_opened(&self) -> &Entities {
+        self.opened()
+    }
+
+    fn may_take(&self, reservers: &[BlockReserver]) -> bool {
+        self.has_in_order(reservers)
+    }
+
+    fn end_with_all(self, reservers: Vec<BlockReserver>) -> Ended
+        requires own { All (λ r. IsOf self r.block) reservers.items }
+        requires among { IsTrue (are_among self.blocks (blocks_of reservers.items)) }
+        requires all { length reservers.items ≡ length self.blocks }
+        ensures { EndsWithAll self reservers.items result }
+    {
+        self.close(reservers)
+    }
+
+    fn end_with_some(self, reservers: Vec<BlockReserver>) -> Ended
+        requires own { All (λ r. IsOf self r.block) reservers.items }
+        requires among { IsTrue (are_among self.blocks (blocks_of reservers.items)) }
+        ensures { EndsWithSome self reservers.items result }
+    {
+        self.close_lost(reservers)
+    }
+}
+
+/// Blocks that refuse a request for more than they have left: any number of them.
+impl InBlocks for Blocks {
+    ghost use Rattle.std.specs.Prelude.{◌≡◌};
+    ghost use Rattle.ent_blocks.specs.Blocks.{wanted_by};
+
+    ghost may_have = { λ _. Unit {0} };
+
+    ghost blocks = { λ phase. phase.blocks };
+
+    ghost block = { λ reserver. reserver.block };
+
+    ghost wants = { λ reserver. wanted_by reserver };
+
+    ghost fresh = { λ reserver. (reserver.block.used ≡ 0) × (reserver.refused ≡ 0) };
+
+    ghost ended = { λ ended. ended };
+
+    ghost start_is = { λ phase reservers ended is. rw is.is refl };
+
+    ghost start_lost_is = { λ phase reservers ended is. rw is refl };
+
+    ghost rows_lost_are = { λ phase reservers ended is. rw is refl };
+
+    ghost rows_are = { λ phase reservers ended is. rw is.is refl };
+
+    fn fits(_count: usize) -> bool {
+        true
+    }
+
+    fn deal(
+        alloc: Global,
+        entities: Entities,
+        sizes: &[u32],
+    ) -> Result<(Self, Vec<BlockReserver>), (Entities, Memory)> {
+        open_in_blocks(alloc, entities, sizes)
+    }
+
+    fn size_of(reserver: &BlockReserver) -> u32 {
+        reserver.size()
+    }
+
+    fn used_of(reserver: &BlockReserver) -> u32 {
+        reserver.used()
+    }
+
+    fn wanted_of(reserver: &BlockReserver) -> u32 {
+        reserver.wanted()
+    }
+
+    fn into_ended(closed: Ended) -> Ended {
+        closed
     }
 }

@@ -27,7 +27,7 @@ pub use Rattle.ent_alloc.specs.Serving.{AreServed, Replying, Request, SaysWanted
 pub use Rattle.ent_alloc.specs.declared.refused.Refused.{Refused as Refusal}
 pub use Rattle.ent_alloc.specs.declared.refused.Refused.TheVariants.{Quota, Space}
 pub use Rattle.ent_alloc.specs.declared.reserve_error.ReserveError.{ReserveError as QueueFault}
-pub use Rattle.ent_blocks.specs.Blocks.{Block, Phase, after_use}
+pub use Rattle.ent_blocks.specs.Blocks.{Block, after_use}
 pub use Rattle.ent_blocks.specs.Drawing.{IsDrawn}
 pub use Rattle.ent_handle.specs.Handle.{Handle, IsHandle, bits}
 pub use Rattle.ent_handle.specs.declared.component.ComponentId.{ComponentId}

@@ -1,12 +1,12 @@
 -- What commands draw from a block, one by one and together.
 use Rattle.ent_queue.proofs.Common.{rules, ◌≡◌, refl, ℕ, ◌+◌, List, [], ◌∷◌, ◌++◌, take, arith, Ok}
 use Rattle.ent_queue.proofs.Common.{Err, common_steps, sum_by-append, sum_by-cons, Handle}
-use Rattle.ent_queue.proofs.Common.{Allocator, listed, Refusal, Space, Quota, Block, Phase}
+use Rattle.ent_queue.proofs.Common.{Allocator, listed, Refusal, Space, Quota, Block}
 use Rattle.ent_queue.proofs.Common.{after_use, Command, Spawn, SpawnMany, IsDrawn, IsDrawnBy}
 use Rattle.ent_queue.proofs.Common.{AreDrawnBy, Draws, used_by, after_commands, Insert, Remove}
 use Rattle.ent_queue.proofs.Common.{Despawn, Refused, AreServed, requests_of, served_parts}
-use Rattle.ent_queue.proofs.Common.{one_served, flat_map, length, ◌∙◌}
-use Rattle.ent_blocks.specs.Blocks.{Reserver}
+use Rattle.ent_queue.proofs.Common.{one_served, flat_map, length}
+use Rattle.ent_blocks.specs.Blocks.{Blocks, Reserver}
 
 pub first_listed : (made : ℕ) (rest : List Handle) (h : Handle) → h ∷ [] ≡ listed made (take 1 rest)
     → h ∷ [] ≡ take 1 rest
@@ -48,34 +48,28 @@ draws_then s a b c cs ds first second =
 space_is : (n m k left : ℕ) → Space m left ≡ Space n k → (m ≡ n) × (left ≡ k)
 space_is n m k left same = (cc, cc)
 
--- what commands drew from the block of a reserver, which is the same one
-record Drawn (s : Allocator) (before : Reserver) (commands : List Command) (after : Reserver) :
-    Type 0 where
-  number : after.number ≡ before.number
-  draws : Draws s before.block commands after.block
-
-module _ (phase : Phase) where
+module _ (phase : Blocks) where
   abbrev start : Allocator
-  start = phase.phase.start
+  start = phase.start
 
   module _ (before after : Reserver) where
     served : (n : ℕ) (hs : List Handle) (c : Command) → IsDrawn phase before after n (Ok hs)
-        → IsDrawnBy start before.block c → used_by c ≡ n → Drawn start before (c ∷ []) after
+        → IsDrawnBy start before.block c → used_by c ≡ n → Draws start before.block (c ∷ []) after.block
     served n hs c replied is many = search (rules, draws_one)
 
     refused : (n : ℕ) (why : Refusal) → IsDrawn phase before after n (Err why)
-        → Drawn start before (Refused n why ∷ []) after
+        → Draws start before.block (Refused n why ∷ []) after.block
     refused n (Space wanted left) replied = search (rules, draws_still, replied, space_is)
     refused n (Quota left) replied = let no = replied.refused.0 in absurd (cc)
 
     -- a command for which nothing was requested
     still : (c : Command) → IsDrawnBy start before.block c → used_by c ≡ 0 → before ≡ after
-        → Drawn start before (c ∷ []) after
+        → Draws start before.block (c ∷ []) after.block
     still c is none same =
-        rw same (record { number = refl; draws = draws_still start _ c (rw same at is) none })
+        rw same (draws_still start _ c (rw same at is) none)
 
     drawn_at : (c : Command) → AreServed (IsDrawn phase) before (requests_of c) after
-        → Drawn start before (c ∷ []) after
+        → Draws start before.block (c ∷ []) after.block
     drawn_at (Spawn h items) was =
         let replied = one_served (IsDrawn phase) was in
         served 1 (h ∷ []) (Spawn h items) replied (first_listed start.made _ h replied.given) refl
@@ -87,23 +81,14 @@ module _ (phase : Phase) where
     drawn_at (Despawn h) was = still (Despawn h) tt refl was
     drawn_at (Refused wanted why) was = refused wanted why (one_served (IsDrawn phase) was)
 
-  drawn : (before after : Reserver) (commands : List Command)
-      → AreServed (IsDrawn phase) before (flat_map requests_of commands) after
-      → Drawn start before commands after
-  drawn before after [] was = rw was (record { number = refl; draws = draws_nothing start _ })
-  drawn before after (c ∷ commands) was =
-      let parts =
-      served_parts (IsDrawn phase) before after (requests_of c) (flat_map requests_of commands)
-      was in
-      let first = drawn_at before parts.0 c parts.1 in
-      let rest = drawn parts.0 after commands parts.2 in
-      record {
-        number = rest.number ∙ first.number;
-        draws = draws_then start _ _ _ (c ∷ []) commands first.draws rest.draws;
-      }
-
   -- So what commands drew that blocks served is the next of the block.
   pub draws_of : (before after : Reserver) (commands : List Command)
       → AreServed (IsDrawn phase) before (flat_map requests_of commands) after
-      → Draws phase.phase.start before.block commands after.block
-  draws_of before after commands was = (drawn before after commands was).draws
+      → Draws phase.start before.block commands after.block
+  draws_of before after [] was = rw was (draws_nothing start _)
+  draws_of before after (c ∷ commands) was =
+      let parts =
+      served_parts (IsDrawn phase) before after (requests_of c) (flat_map requests_of commands)
+      was in
+      draws_then start _ _ _ (c ∷ []) commands (drawn_at before parts.0 c parts.1)
+      (draws_of parts.0 after commands parts.2)

@@ -3,11 +3,10 @@ ghost use Rattle.std.specs.Prelude.{◌≡◌};
 ghost use Rattle.ent_blocks.specs.Drawing.{left_of};
 ghost use Rattle.ent_queue.specs.Commands.{reserver_of};
 
-use crate::BlockNumbering;
 use crate::commands::Commands;
 use ent_blocks::Blocks;
 
-impl<O, J: BlockNumbering> Commands<'_, O, Blocks<J>> {
+impl<O> Commands<'_, O, Blocks> {
     /// Returns the number of handles that are left of the block.
     ///
     /// ```

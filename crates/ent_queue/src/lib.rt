@@ -21,7 +21,6 @@ pub use bundle::Bundle;
 pub use bundle_ref::{BundleItems, BundleRef};
 pub use commands::Commands;
 pub use ent_alloc::ReserveError as QueueFault;
-pub use ent_blocks::BlockNumbering;
 pub use entries::Entries;
 pub use entry::Entry;
 pub use handles_ref::{Handles, HandlesRef};

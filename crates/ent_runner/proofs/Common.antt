@@ -92,11 +92,8 @@ pub use Rattle.ent_shared.specs.Replies.{IsReturned, Tells}
 pub use Rattle.ent_shared.specs.declared.record.Record.{Record}
 pub use Rattle.ent_shared.specs.declared.record.RecordEntry.TheVariants.{Own}
 pub use Rattle.ent_shared.specs.declared.record.Reservation.{Reservation}
-pub use Rattle.ent_blocks.specs.Blocks.{Block, Phase, after_use, are_among, blocks_of, is_same}
-pub use Rattle.ent_blocks.specs.Blocks.{rest_of, unused}
+pub use Rattle.ent_blocks.specs.Blocks.{Block, Blocks, after_use, blocks_of, rest_of}
 pub use Rattle.ent_blocks.specs.Drawing.{IsDrawn, IsOfPhase, left_of}
-pub use Rattle.ent_blocks.specs.Faults.{IsMissing}
-pub use Rattle.ent_blocks.specs.declared.end_error.EndError.{EndError}
 pub use Rattle.ent_queue.proofs.Gaining.{gains_nothing, gains_of, gains_then}
 pub use Rattle.ent_queue.specs.Command.{Command}
 pub use Rattle.ent_queue.specs.Commands.{Extends, output_of, reserver_of, source_of}
@@ -121,7 +118,6 @@ pub use native.Mathlib.Decide.{ℕ_discrete}
 pub use Rattle.ent_runner.specs.Blocks.{HaveFilled, blocks_after}
 pub use Rattle.ent_runner.specs.Blocks.Filling.{Draws, FitBlock}
 pub use Rattle.ent_runner.specs.Blocks.Queues.{HaveIssued, HaveStopped, blocks_after_queues}
-pub use Rattle.ent_runner.specs.Blocks.Unframed.{IsWhyUnended}
 pub use Rattle.ent_runner.specs.Crew.{AreBrokenOff, AreDone, Crew, DidAll, DidUntil, DoesAt, Ended}
 pub use Rattle.ent_runner.specs.Crew.{OfEach, Stopped}
 pub use Rattle.ent_runner.specs.Crew.Claims.{AreFirst, Claimer, Claims, IsClaimedBy}

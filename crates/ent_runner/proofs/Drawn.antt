@@ -2,7 +2,7 @@
 use Rattle.ent_runner.proofs.Common.{rules, ◌≡◌, ◌∙◌, ap, refl, sym, subst, ℕ, ◌+◌, ◌-◌, ◌<◌, ◌≤◌}
 use Rattle.ent_runner.proofs.Common.{zero, suc, List, [], ◌∷◌, take, drop, length, length-drop}
 use Rattle.ent_runner.proofs.Common.{length-take, arith, flat_map, common_steps, Handle, Refused}
-use Rattle.ent_runner.proofs.Common.{Block, Phase, rest_of, after_use, left_of, IsDrawn, AreServed}
+use Rattle.ent_runner.proofs.Common.{Block, Blocks, rest_of, after_use, left_of, IsDrawn, AreServed}
 use Rattle.ent_runner.proofs.Common.{Entry, Spawn, spawned_in, Logs, request_of, Draws, FitBlock}
 use Rattle.ent_runner.proofs.Common.{IsFilled, Command}
 use Rattle.ent_blocks.specs.Blocks.{Reserver}
@@ -51,9 +51,9 @@ used_up : (b : Block) (why : Refused) → (why ≡ refused.Space 1 (left_of b)) 
 used_up b why is within =
     let none : left_of b ≡ 0 = omega (arith, is.1) in (rw none at is.0, omega (arith, none, within))
 
-module _ (phase : Phase) where
+module _ (phase : Blocks) where
   abbrev pool : List Handle
-  pool = phase.phase.start.pool
+  pool = phase.start.pool
 
   module _ {C : Type 0} where
     drawn : (entries : List (Entry C)) (before after : Reserver)
@@ -102,15 +102,15 @@ module _ (phase : Phase) where
         }
 
 -- So the spawns of a system have the next handles of its block.
-module _ (phase : Phase) (before after : Reserver) where
+module _ (phase : Blocks) (before after : Reserver) where
   pub log_draws : {C : Type 0} (log : List (Entry C))
       → IsFilled Logs [] (IsDrawn phase) before log after
-      → Draws phase.phase.start.pool before.block log after.block
+      → Draws phase.start.pool before.block log after.block
   log_draws log f =
       rw f.adds.log (drawn phase f.adds.added before after (rw f.adds.requests_are at f.served))
 
   pub queue_draws : (queue : List Command) → IsFilled Issues [] (IsDrawn phase) before queue after
-      → drawing.Draws phase.phase.start before.block queue after.block
+      → drawing.Draws phase.start before.block queue after.block
   queue_draws queue f =
       rw f.adds.queue
       (queued.draws_of phase before after f.adds.added (rw f.adds.requests_are at f.served))

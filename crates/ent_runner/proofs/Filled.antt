@@ -4,7 +4,7 @@ use Rattle.ent_runner.proofs.Common.{StopShort, get_or, slice_get, [], zero, suc
 use Rattle.ent_runner.proofs.Common.{List, Option, Some, rules, arith, inl, inr, length, map, refl}
 use Rattle.ent_runner.proofs.Common.{sym, ℕ, ⊎_elim, ◌<◌, ◌∙◌, ◌∷◌, ◌≡◌, ◌⊎◌, length-map}
 use Rattle.ent_runner.proofs.Common.{get_or_from_slice_get, slice_get-get_or, slice_get_within}
-use Rattle.ent_runner.proofs.Common.{Block, Phase, after_use, blocks_of, spawned_in, Entry, Command}
+use Rattle.ent_runner.proofs.Common.{Block, Blocks, IsOfPhase, after_use, blocks_of, spawned_in, Entry, Command}
 use Rattle.ent_runner.proofs.Common.{after_commands, AreBrokenOff, AreDone, Draws, AreReady}
 use Rattle.ent_runner.proofs.Common.{IsDealt, Logs, HaveFilled, blocks_after, Ended, Stopped, None}
 use Rattle.ent_runner.proofs.Common.{ap, first_error, SystemMayIssue, SystemMayLeave, View}
@@ -61,11 +61,11 @@ module _ {E : Type 0} where
     )
     blocks_are _ _ same _ = absurd (omega arith)
 
-    module _ (number : ℕ) (reservers : List Reserver) where
+    module _ (OfPhase : Reserver → Type 0) (reservers : List Reserver) where
       -- the job of this number filled the list from its own block, and hands back the list and the
       -- reserver
       abbrev Fills : (ℕ → List E → Type 0) → ℕ → List E × Reserver → Type 0
-      Fills May n one = May n one.0 × (one.1.number ≡ number)
+      Fills May n one = May n one.0 × OfPhase one.1
           × ((r : Reserver) → slice_get reservers n ≡ Some r
           → Drawn r.block one.0 × (one.1.block ≡ use_one r.block one.0))
 
@@ -93,7 +93,7 @@ module _ {E : Type 0} where
             × ((n : ℕ) (block : Block) → slice_get (blocks_of reservers) n ≡ Some block
             → Drawn block (get_or (filled_of all) n []))
             × (blocks_of (reservers_of all) ≡ use_all (blocks_of reservers) (filled_of all))
-            × All (λ (r : Reserver). r.number ≡ number) (reservers_of all)
+            × All OfPhase (reservers_of all)
         done_all all done =
             let each : (n : ℕ) → n < length all → HoldsAt (Fills May) all n = λ n less one at.
             fits n one
@@ -115,7 +115,7 @@ module _ {E : Type 0} where
               blocks_are reservers all (omega (arith, done.count))
                   (λ n r one at there.
                   ((each n (slice_get_within all n one there) one there).2 r at).1),
-              All-map (λ (r : Reserver). r.number ≡ number) (λ (one : List E × Reserver). one.1) all
+              All-map OfPhase (λ (one : List E × Reserver). one.1) all
                   of_phase,
             )
 
@@ -169,7 +169,7 @@ module _ {E : Type 0} where
               )
 
 -- logs
-module _ {C S L : Type 0} (may : S → List (Entry C) → Type 0) (systems : List S) (phase : Phase)
+module _ {C S L : Type 0} (may : S → List (Entry C) → Type 0) (systems : List S) (phase : Blocks)
     (reservers : List Reserver) (ready : AreReady phase (length systems) reservers)
     (before after : List L)
     (same : length after ≡ length before) where
@@ -177,11 +177,11 @@ module _ {C S L : Type 0} (may : S → List (Entry C) → Type 0) (systems : Lis
   uses block log = after_use block (length (spawned_in log))
 
   abbrev DrawsLog : Block → List (Entry C) → Type 0
-  DrawsLog block log = Draws phase.phase.start.pool block log (uses block log)
+  DrawsLog block log = Draws phase.start.pool block log (uses block log)
 
   fits_log : (may : S → List (Entry C) → Type 0) (n : ℕ) (one : List (Entry C) × Reserver)
       → IsDealt Logs [] (SystemMayLog may systems) phase reservers n one
-      → Fills DrawsLog uses blocks_after refl (λ b bs l ls. refl) phase.number reservers
+      → Fills DrawsLog uses blocks_after refl (λ b bs l ls. refl) (IsOfPhase phase) reservers
       (SystemMayLog may systems) n one
   fits_log may n one f =
       (f.system, f.of_phase, λ r at. search (rules, log_draws phase r one.1 one.0 (f.filled r at)))
@@ -189,12 +189,12 @@ module _ {C S L : Type 0} (may : S → List (Entry C) → Type 0) (systems : Lis
   pub filled_done : (all : List (List (Entry C) × Reserver))
       → AreDone (λ n a one b. IsDealt Logs [] (SystemMayLog may systems) phase reservers n one)
       (length systems) before all after
-      → HaveFilled may systems phase.phase.start.pool (blocks_of reservers) (filled_of all)
+      → HaveFilled may systems phase.start.pool (blocks_of reservers) (filled_of all)
       (blocks_of (reservers_of all))
-      × All (λ (r : Reserver). r.number ≡ phase.number) (reservers_of all)
+      × All (IsOfPhase phase) (reservers_of all)
   filled_done all done =
       let d =
-      done_all DrawsLog uses blocks_after refl (λ b bs l ls. refl) phase.number reservers before
+      done_all DrawsLog uses blocks_after refl (λ b bs l ls. refl) (IsOfPhase phase) reservers before
       after same _
       ready.count _ _ (fits_log may) all done in
       (search (rules, d.0, d.1, d.2, done.count, length-map, slice_get_within), d.3)
@@ -206,11 +206,11 @@ module _ {C S L : Type 0} (may : S → List (Entry C) → Type 0) (systems : Lis
       (Stopped
       (λ n a one error b. IsDealt Logs [] (λ n log. LoggerMayLeave leave systems n log error) phase
       reservers n one)) (length systems) before left after
-      → IsBrokenOff may leave systems workers phase.phase.start.pool (blocks_of reservers)
+      → IsBrokenOff may leave systems workers phase.start.pool (blocks_of reservers)
       (first_error left)
   lost_off leave workers team left done =
       let d =
-      lost_all DrawsLog uses blocks_after refl (λ b bs l ls. refl) phase.number reservers before
+      lost_all DrawsLog uses blocks_after refl (λ b bs l ls. refl) (IsOfPhase phase) reservers before
       after same _
       ready.count _ _ (fits_log may) _ (LoggerMayLeave leave systems)
       (λ n one error. fits_log (λ s log. leave s log error) n one) left done in
@@ -226,14 +226,14 @@ module _ {C S L : Type 0} (may : S → List (Entry C) → Type 0) (systems : Lis
 
 -- queues
 module _ {S L : Type 0} (may : S → View → List Command → Type 0) (systems : List S) (view : View)
-    (phase : Phase)
+    (phase : Blocks)
     (reservers : List Reserver) (ready : AreReady phase (length systems) reservers)
     (before after : List L)
     (same : length after ≡ length before) where
   fits_queue : (may : S → View → List Command → Type 0) (n : ℕ) (one : List Command × Reserver)
       → IsDealt Issues [] (SystemMayIssue may systems view) phase reservers n one
-      → Fills (AreDrawnBy phase.phase.start) after_commands
-      blocks_after_queues refl (λ b bs l ls. refl) phase.number reservers
+      → Fills (AreDrawnBy phase.start) after_commands
+      blocks_after_queues refl (λ b bs l ls. refl) (IsOfPhase phase) reservers
       (SystemMayIssue may systems view) n one
   fits_queue may n one f = (
     f.system,
@@ -246,14 +246,14 @@ module _ {S L : Type 0} (may : S → View → List Command → Type 0) (systems 
       → AreDone
       (λ n a one b. IsDealt Issues [] (SystemMayIssue may systems view) phase reservers n one)
       (length systems) before all after
-      → HaveIssued may systems view phase.phase.start (blocks_of reservers) (filled_of all)
+      → HaveIssued may systems view phase.start (blocks_of reservers) (filled_of all)
       (blocks_of (reservers_of all))
-      × All (λ (r : Reserver). r.number ≡ phase.number) (reservers_of all)
+      × All (IsOfPhase phase) (reservers_of all)
   issued_done all done =
       let d =
-      done_all (AreDrawnBy phase.phase.start) after_commands blocks_after_queues refl
+      done_all (AreDrawnBy phase.start) after_commands blocks_after_queues refl
       (λ b bs l ls. refl)
-      phase.number reservers before after same _ ready.count _ _ (fits_queue may) all done in
+      (IsOfPhase phase) reservers before after same _ ready.count _ _ (fits_queue may) all done in
       (search (rules, d.0, d.1, d.2, done.count, length-map, slice_get_within), d.3)
 
   pub issued_lost : {F : Type 0} (leave : S → View → List Command → F → Type 0) (workers : ℕ)
@@ -265,13 +265,13 @@ module _ {S L : Type 0} (may : S → View → List Command → Type 0) (systems 
       (λ n a one error b. IsDealt Issues []
       (λ n queue. SystemMayLeave leave systems view n queue error) phase reservers n one)) (length
       systems) before left after
-      → HaveStopped may leave systems workers view phase.phase.start (blocks_of reservers)
+      → HaveStopped may leave systems workers view phase.start (blocks_of reservers)
       (first_error left)
   issued_lost leave workers team left done =
       let d =
-      lost_all (AreDrawnBy phase.phase.start) after_commands blocks_after_queues refl
+      lost_all (AreDrawnBy phase.start) after_commands blocks_after_queues refl
       (λ b bs l ls. refl)
-      phase.number reservers before after same _ ready.count _ _ (fits_queue may) _
+      (IsOfPhase phase) reservers before after same _ ready.count _ _ (fits_queue may) _
       (SystemMayLeave leave systems view)
       (λ n one error. fits_queue (λ s v queue. leave s v queue error) n one) left done in
       record {

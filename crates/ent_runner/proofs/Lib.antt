@@ -21,6 +21,5 @@ pub mod Reserved
 pub mod Nothing
 pub mod Drawn
 pub mod Filled
-pub mod Whole
 pub mod Staged
 pub mod Common

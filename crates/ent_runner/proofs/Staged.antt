@@ -1,7 +1,7 @@
 -- What a system filled that began with nothing, as a job of a crew: if it ended, and if it stopped.
 use Rattle.ent_runner.proofs.Common.{rules, ◌≡◌, ◌∙◌, ap, ℕ, List, Result, Ok, Err, IfErr, OnOk}
 use Rattle.ent_runner.proofs.Common.{Some, slice_get, get_or, get_or_from_slice_get, Replying}
-use Rattle.ent_runner.proofs.Common.{Request, Phase, IsDrawn, IsOfPhase, Commands, Extends}
+use Rattle.ent_runner.proofs.Common.{Request, Blocks, IsDrawn, IsOfPhase, Commands, Extends}
 use Rattle.ent_runner.proofs.Common.{output_of, reserver_of, source_of, IsDealt, IsFilled}
 use Rattle.ent_blocks.specs.Blocks.{Reserver}
 
@@ -50,7 +50,7 @@ module _ {O : Type 0} (Adds : O → List Request → O → Type 0) (empty : O) w
       filled_err Q (Err error) ran = fills (λ output. Q output error) ran
 
   -- with the reserver at its number
-  module _ (phase : Phase) (reservers : List Reserver) (n : ℕ) (a b : Commands O Phase Reserver)
+  module _ (phase : Blocks) (reservers : List Reserver) (n : ℕ) (a b : Commands O Blocks Reserver)
       (none : output_of a ≡ empty) (e : Extends Adds IsOfPhase IsDrawn a b)
       (source : source_of a ≡ phase)
       (is : (r : Reserver) → slice_get reservers n ≡ Some r → reserver_of a ≡ r) (output : O)
@@ -62,7 +62,7 @@ module _ {O : Type 0} (Adds : O → List Request → O → Type 0) (empty : O) w
     dealt : (may : ℕ → O → Type 0) → may n (output_of b) → Dealt may
     dealt may ran = rw (same, last) (record {
       system = ran;
-      of_phase = e.ready ∙ ap (λ (p : Phase). p.number) (e.source ∙ source);
+      of_phase = rw (e.source ∙ source) at e.ready;
       filled = λ r at. rw (source, is r at) at (filled IsOfPhase IsDrawn a b none e);
     })
 

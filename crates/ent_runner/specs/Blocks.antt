@@ -3,8 +3,6 @@
 -- they were broken off.
 pub mod Filling
 pub mod Queues
-pub mod Frame
-pub mod Unframed
 pub mod Refusing
 use Rattle.std.specs.Prelude.{◌≡◌, ℕ, ◌<◌, List, [], ◌∷◌, length, Option, slice_get, Some}
 use Rattle.ent_handle.specs.Handle.{Handle}

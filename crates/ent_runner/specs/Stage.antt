@@ -2,8 +2,8 @@
 use Rattle.std.specs.Prelude.{◌≡◌, ℕ, List, length, slice_get, Some}
 use Rattle.std.specs.List.{All}
 use Rattle.ent_alloc.specs.Serving.{Request, Replying, AreServed}
-use Rattle.ent_blocks.specs.Blocks.{Phase, Reserver}
-use Rattle.ent_blocks.specs.Drawing.{IsDrawn}
+use Rattle.ent_blocks.specs.Blocks.{Blocks, Reserver}
+use Rattle.ent_blocks.specs.Drawing.{IsDrawn, IsOfPhase}
 
 module _ {O : Type 0} (Adds : O → List Request → O → Type 0) (empty : O) where
   -- The output was filled from nothing on, and the reserver has made exactly the requests that it
@@ -16,14 +16,14 @@ module _ {O : Type 0} (Adds : O → List Request → O → Type 0) (empty : O) w
 
   -- The system of this number filled the output from its own block, and hands back the output and
   -- the reserver.
-  pub record IsDealt (may : ℕ → O → Type 0) (phase : Phase) (reservers : List Reserver) (n : ℕ)
+  pub record IsDealt (may : ℕ → O → Type 0) (phase : Blocks) (reservers : List Reserver) (n : ℕ)
       (done : O × Reserver) : Type 0 where
     pub system : may n done.0
-    pub of_phase : done.1.number ≡ phase.number
+    pub of_phase : IsOfPhase phase done.1
     pub filled : (r : Reserver) → slice_get reservers n ≡ Some r
         → IsFilled (IsDrawn phase) r done.0 done.1
 
 -- each system has a reserver of the phase
-pub record AreReady (phase : Phase) (systems : ℕ) (reservers : List Reserver) : Type 0 where
+pub record AreReady (phase : Blocks) (systems : ℕ) (reservers : List Reserver) : Type 0 where
   pub count : length reservers ≡ systems
-  pub of_phase : All (λ (r : Reserver). r.number ≡ phase.number) reservers
+  pub of_phase : All (IsOfPhase phase) reservers

@@ -2,13 +2,11 @@
 //! which handles a system gets depends on no other system, and on no thread.
 
 mod filling;
-mod frame;
 mod room;
 mod run_error;
 mod running;
 mod splitting;
 
 pub use crate::blocks::filling::fill_in_blocks;
-pub use crate::blocks::frame::{Unframed, run_frame_in_blocks};
 pub use crate::blocks::run_error::RunError;
 pub use crate::blocks::running::run_in_blocks;

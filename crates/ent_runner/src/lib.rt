@@ -9,10 +9,9 @@ mod logs;
 mod stage;
 mod systems;
 
-pub use blocks::{RunError, Unframed, fill_in_blocks, run_frame_in_blocks, run_in_blocks};
+pub use blocks::{RunError, fill_in_blocks, run_in_blocks};
 pub use crew::{ClaimRecord, Claimer, Claims, Crew, Jobs};
 pub use either::{Either, Left, Right};
-pub use ent_blocks::BlockNumbering;
 pub use frame::gate::{Gate, NoGate};
 pub use frame::report::{FrameFault, FrameReport};
 pub use frame::run_frame;

@@ -4,7 +4,6 @@ ghost use Rattle.ent_shared.specs.Phase.{IsOf};
 ghost use Rattle.ent_shared.specs.Replies.{IsReturned};
 ghost use Rattle.ent_runner.specs.Stage.{IsFilled, IsDealt, AreReady};
 
-use crate::BlockNumbering;
 use crate::crew::Jobs;
 use crate::systems::Systems;
 use ent_blocks::{BlockReserver, Blocks, again};
@@ -43,20 +42,17 @@ impl<O: Output, E, T: Systems<O, Shared, E>> Jobs<O, Reserver, E> for SharedStag
 
 /// Systems in blocks, each with the reserver at its number.
 #[derive(Drop)]
-pub(crate) struct BlockStage<'b, 'r, 's, J: BlockNumbering, T> {
+pub(crate) struct BlockStage<'b, 'r, 's, T> {
     pub(crate) alloc: Global,
-    pub(crate) blocks: &'b Blocks<J>,
-    pub(crate) reservers: &'r [BlockReserver<J>],
+    pub(crate) blocks: &'b Blocks,
+    pub(crate) reservers: &'r [BlockReserver],
     pub(crate) systems: &'s T,
 }
 
 /// Nothing is lent to them: each has its own reserver. So there is nothing that workers share but
 /// the claims.
-impl<J: BlockNumbering, O: Output, E, T: Systems<O, Blocks<J>, E>> Jobs<
-    (O, BlockReserver<J>),
-    (),
-    E,
-> for BlockStage<'_, '_, '_, J, T> {
+impl<O: Output, E, T: Systems<O, Blocks, E>> Jobs<(O, BlockReserver), (), E>
+    for BlockStage<'_, '_, '_, T> {
     ghost count = { λ stage. T.count stage.systems.now };
 
     ghost may_have = { λ stage nothing.
@@ -71,7 +67,7 @@ impl<J: BlockNumbering, O: Output, E, T: Systems<O, Blocks<J>, E>> Jobs<
 
     /// Runs the system of this number, which is run once. Its output has what it added, also if it
     /// stopped.
-    fn run(&self, number: usize, lent: &mut ()) -> ((O, BlockReserver<J>), Result<(), E>) {
+    fn run(&self, number: usize, lent: &mut ()) -> ((O, BlockReserver), Result<(), E>) {
         let mut reserver = again(&self.reservers[number]);
         let mut commands = Commands::new(self.alloc, self.blocks, &mut reserver);
         let ran = self.systems.run_at(number, self.alloc, &mut commands);

@@ -2,6 +2,7 @@
 use Rattle.ent_total.proofs.Common.{rules, ◌≡◌, List, [], ◌∷◌, refl, All, All-head, All-tail}
 use Rattle.ent_total.proofs.Common.{Allocator, after_history, Reserver, records_of, own_of_all}
 use Rattle.ent_total.proofs.Common.{history_of}
+use Rattle.ent_alloc.specs.Entities.{Entities}
 
 abbrev IsUnused : Reserver → Type 0
 IsUnused r = r.own.entries ≡ []
@@ -15,3 +16,7 @@ pub nothing-reserved : (s : Allocator) (rs : List Reserver)
     → All (λ (r : Reserver). r.own.entries ≡ []) rs
     → after_history s (history_of (records_of rs)) ≡ s
 nothing-reserved s rs unused = search (rules, own-none)
+
+-- entities of the same allocator with the same rows
+pub same_entities : (a b : Entities) → a.allocator ≡ b.allocator → a.rows ≡ b.rows → a ≡ b
+same_entities a b allocators rows = λ i. record { allocator = allocators i; rows = rows i }

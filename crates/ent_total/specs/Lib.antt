@@ -7,4 +7,4 @@ pub mod Issuing
 pub mod Phases
 pub mod Reserving
 pub mod Image
-pub mod Unframed
+pub mod InWorld

@@ -17,7 +17,6 @@ use Rattle.ent_world.proofs.Kept.{keys-components, same_keys-components}
 use Rattle.ent_world.proofs.PlacedRows.{anyhow, end_taken_back, on_err, on_ok, some_entity}
 use Rattle.ent_world.proofs.PlacedRows.{taken_back, new_later, stands_nowhere}
 use Rattle.ent_world.proofs.Born.{named-append, named_before}
-use Rattle.ent_world.proofs.Worlds.{some_wanted}
 
 pub ruleset laws = (
   common_steps,
@@ -55,7 +54,6 @@ pub ruleset laws = (
   slice_get_read,
   some_entity,
   some_left,
-  some_wanted,
   stands_nowhere,
   stop_takes_memory,
   take-append-drop,

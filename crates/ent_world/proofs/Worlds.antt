@@ -90,29 +90,6 @@ top-after_history s history sound = search (rules, after_history-takes, top-afte
 
 -- The room that a world in blocks has for the slots that wait.
 
-dealt_wanted : (before left : ℕ) (sizes : List ℕ)
-    → dealt (blocks_from before left sizes) ≤ sum_by (λ n. n) sizes
-dealt_wanted before left [] = omega arith
-dealt_wanted before left (n ∷ sizes) =
-    grind (
-      arith,
-      common_steps,
-      sum_by-cons,
-      dealt_wanted (before + lesser n left) (left - lesser n left) sizes,
-    )
-
--- so much room is enough for all that is dealt
-pub enough : (left wanted : ℕ) (sizes : List ℕ) → left < 2 ^ 32
-    → (sum_by (λ n. n) sizes ≤ wanted) ⊎ (wanted ≡ 2 ^ 32 - 1)
-    → dealt (blocks_from 0 left sizes) ≤ min wanted left
-enough left wanted sizes few some =
-    grind (arith, common_steps, dealt_wanted 0 left sizes, dealt_from 0 left sizes)
-
--- sizes that want something are some
-pub some_wanted : (wanted : ℕ) (sizes : List ℕ) → wanted ≤ sum_by (λ n. n) sizes → 0 < wanted
-    → 0 < length sizes
-some_wanted wanted sizes within some = grind (arith, common_steps)
-
 -- what is reserved is born
 pub after_births-world : (queues : List (List Command)) (w : World) → IsWorld w
     → IsWorld (after_births queues w)

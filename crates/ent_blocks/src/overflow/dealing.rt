@@ -1,24 +1,10 @@
 //! The dealer reserves all blocks, and every other reserver comes after it.
-ghost use Rattle.std.specs.Prelude.{◌≡◌, ◌^◌, ◌<◌, pos, ◌-ℤ◌, ◌≤ℤ◌};
+ghost use Rattle.std.specs.Prelude.{pos, ◌-ℤ◌, ◌≤ℤ◌};
 ghost use Rattle.ent_alloc.specs.Sequential.{cursor};
-ghost use Rattle.ent_blocks.specs.Blocks.{dealt};
 ghost use Rattle.ent_shared.specs.Phase.{IsOf as IsReserverOf};
 ghost use Rattle.ent_blocks.specs.Overflow.{IsDealer, IsFresh};
 
-use crate::part::Part;
 use ent_shared::{Reserver, Shared};
-
-/// How many handles the blocks have in all.
-pub(super) fn dealt(parts: &[Part]) -> u32
-    requires { dealt parts.now < 2 ^ 32 }
-    ensures { result ≡ dealt parts.now }
-{
-    let mut count = 0;
-    for part in parts {
-        count += part.size();
-    }
-    count
-}
 
 /// Reserves that many handles, as the first reservation of the phase if no other reserver has
 /// begun.

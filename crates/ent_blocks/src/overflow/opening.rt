@@ -9,10 +9,10 @@ ghost use Rattle.ent_blocks.specs.Overflow.{IsCallerOf, IsFresh, IsPhase, Overfl
 ghost use Rattle.ent_blocks.specs.Overflow.{past_history};
 
 use crate::opening::parts_of;
-use crate::overflow::dealing::{deal, dealt};
+use crate::overflow::dealing::deal;
 use crate::overflow::phase::Overflow;
 use crate::overflow::reserver::OverflowReserver;
-use crate::part::Part;
+use crate::part::{Part, dealt};
 use ent_alloc::Entities;
 use ent_handle::Memory;
 use ent_shared::{Reserver, Shared, share};

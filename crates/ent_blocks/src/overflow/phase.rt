@@ -10,16 +10,15 @@ ghost use Rattle.ent_alloc.specs.Sequential.{listed_alone, after_take, before_re
 ghost use Rattle.ent_alloc.specs.History.{IsLegal, given_in, requests_of};
 ghost use Rattle.ent_shared.specs.Order.{reservations_of, handles_given, handles_of, own_of_all};
 ghost use Rattle.ent_shared.specs.Record.{requested_by};
-ghost use Rattle.ent_blocks.specs.Blocks.{unused, dealt, lesser, are_among, accounted};
+ghost use Rattle.ent_blocks.specs.Blocks.{AreUsedOf, unused, dealt, lesser, are_among, accounted};
 ghost use Rattle.ent_blocks.specs.Overflow.{IsCallerOf, IsPhase, IsServed, own_blocks, past_of};
 ghost use Rattle.ent_blocks.specs.Overflow.{past_records, past_history, past_block, behind_blocks};
-ghost use Rattle.ent_blocks.specs.Overflow.{IsInOrder, AreUsedOf, MayBeServed};
+ghost use Rattle.ent_blocks.specs.Overflow.{IsInOrder, MayBeServed};
 
 use crate::accounting::{account, missing};
-use crate::overflow::dealing::dealt;
-use crate::overflow::ended::Ended;
+use crate::ended::Ended;
 use crate::overflow::reserver::OverflowReserver;
-use crate::part::Part;
+use crate::part::{Part, dealt};
 use crate::taking::{take_many, take_one};
 use ent_alloc::{Entities, Refused, Reserved, cancel_requests};
 use ent_handle::Handle;

@@ -1,8 +1,11 @@
-use crate::overflow::ended::Ended;
+use crate::ended::Ended;
+use crate::in_blocks::InBlocks;
+use crate::overflow::opening::open_with_overflow;
 use crate::overflow::phase::Overflow;
 use crate::overflow::reserver::OverflowReserver;
 use ent_alloc::{Entities, Phased, Refused, Reserved, Source};
-use ent_handle::Handle;
+use ent_handle::{Handle, Memory};
+use std::alloc::Global;
 
 /// A reservation takes the next handles of the reserver's own block as long as it lasts. Past it,
 /// it is one atomic step of the cursor that all reservers share.
@@ -88,5 +91,61 @@ impl Phased for Overflow {
         ensures { EndsWithSome self callers.items result }
     {
         self.close_lost(callers)
+    }
+}
+
+/// Blocks whose reservers go on to one cursor that all share: at most 1,023 of them.
+impl InBlocks for Overflow {
+    ghost use Rattle.std.specs.Prelude.{◌≡◌, ◌+◌, ◌-◌, ◌<◌, ◌^◌, [], min};
+    ghost use Rattle.ent_alloc.specs.Limits.{quota};
+    ghost use Rattle.ent_shared.specs.Record.{requested_by};
+
+    ghost may_have = { λ count. count < 1024 };
+
+    ghost blocks = { λ phase. phase.blocks };
+
+    ghost block = { λ caller. caller.block };
+
+    ghost wants = { λ caller. min (caller.block.used + requested_by caller.past.own) (2 ^ 32 - 1) };
+
+    ghost fresh = { λ caller. (caller.block.used ≡ 0) × (caller.past.own.entries ≡ [])
+        × (caller.past.own.left ≡ quota) };
+
+    ghost ended = { λ ended. ended };
+
+    ghost start_is = { λ phase callers ended is. is.start };
+
+    ghost start_lost_is = { λ phase callers ended is. is.start };
+
+    ghost rows_lost_are = { λ phase callers ended is. is.rows };
+
+    ghost rows_are = { λ phase callers ended is. is.rows };
+
+    fn fits(count: usize) -> bool {
+        count < 1024
+    }
+
+    fn deal(
+        alloc: Global,
+        entities: Entities,
+        sizes: &[u32],
+    ) -> Result<(Self, Vec<OverflowReserver>), (Entities, Memory)> {
+        open_with_overflow(alloc, entities, sizes)
+    }
+
+    fn size_of(caller: &OverflowReserver) -> u32 {
+        caller.size()
+    }
+
+    fn used_of(caller: &OverflowReserver) -> u32 {
+        caller.used()
+    }
+
+    fn wanted_of(caller: &OverflowReserver) -> u32 {
+        caller.wanted()
+    }
+
+    fn into_ended(closed: Ended) -> Ended {
+        closed
     }
 }

@@ -1,22 +1,21 @@
 -- When systems in blocks are refused before any of them runs, as one fact: each field is a clause
 -- of `run_frame_in_blocks`, `fill_in_blocks` and `run_in_blocks`.
-use Rattle.std.specs.Prelude.{◌≡◌, ◌≢◌, ◌<◌, ◌≤◌, ◌^◌, ◌↔◌, ◌⊎◌, ℕ, List, length, All, Option}
-use Rattle.ent_blocks.specs.Blocks.{Reserver}
+use Rattle.std.specs.Prelude.{◌≡◌, ◌≢◌, ◌<◌, ◌≤◌, ◌^◌, ◌↔◌, ◌⊎◌, ℕ, Option}
 use Rattle.ent_runner.specs.declared.blocks.run_error.RunError.{RunError}
 use Rattle.ent_runner.specs.declared.blocks.run_error.RunError.TheVariants as failed
 
--- That many systems run on that many workers, with these reservers in the phase of this number. The
--- run is refused for an error if this holds of it.
-pub record IsRefused {E : Type 0} (workers systems number : ℕ) (reservers : List Reserver)
+-- That many systems run on that many workers, with so many reservers, which are of the phase if
+-- that is so. The run is refused for an error if this holds of it.
+pub record IsRefused {E : Type 0} (workers systems reservers : ℕ) (AreOf : Type 0)
     (refuses : RunError E → Type 0) : Type 0 where
   pub workers_are : refuses failed.Workers ↔ ((workers ≡ 0) ⊎ (64 < workers))
   pub systems_are : refuses failed.Systems
       ↔ ((0 < workers) × (workers ≤ 64) × (2 ^ 16 < systems))
   pub reservers_are : refuses failed.Reservers
-      ↔ ((0 < workers) × (workers ≤ 64) × (systems ≤ 2 ^ 16) × (length reservers ≢ systems))
+      ↔ ((0 < workers) × (workers ≤ 64) × (systems ≤ 2 ^ 16) × (reservers ≢ systems))
   pub other_phase : refuses failed.OtherPhase
-      ↔ ((0 < workers) × (workers ≤ 64) × (systems ≤ 2 ^ 16) × (length reservers ≡ systems)
-      × ¬ (All (λ (r : Reserver). r.number ≡ number) reservers))
+      ↔ ((0 < workers) × (workers ≤ 64) × (systems ≤ 2 ^ 16) × (reservers ≡ systems)
+      × ¬ AreOf)
 
 -- what holds if the systems were broken off, with this error if there is one
 abbrev pub IfLost : {E : Type 0} → (Option E → Type 0) → RunError E → Type 0

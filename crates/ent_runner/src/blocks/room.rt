@@ -4,13 +4,11 @@ ghost use Rattle.std.specs.Prelude.{◌≡◌, ◌≢◌, ◌<◌, ◌≤◌, �
 ghost use Rattle.std.specs.Prelude.{IfErr, OnOk, IsErrOf};
 ghost use Rattle.std.specs.Prelude.{IsTrue, vec_capacity};
 ghost use Rattle.ent_runner.specs.Blocks.Refusing.{IfLost};
-ghost use Rattle.ent_runner.specs.Stage.{AreReady};
 ghost use Rattle.ent_runner.specs.declared.blocks.run_error.RunError.TheVariants as failed;
 
-use crate::BlockNumbering;
 use crate::blocks::run_error::RunError;
 use crate::crew::Crew;
-use ent_blocks::{BlockReserver, Blocks};
+use ent_blocks::BlockReserver;
 use ent_handle::Memory;
 use std::alloc::Global;
 
@@ -22,10 +20,10 @@ const SYSTEMS: usize = 65_536;
 
 /// A crew whose jobs hand back an `O` each, and a reserver, and a list for all of either.
 #[derive(Drop)]
-pub(super) struct Room<J: BlockNumbering, O, E> {
-    pub(super) crew: Crew<(O, BlockReserver<J>), E>,
+pub(super) struct Room<O, E> {
+    pub(super) crew: Crew<(O, BlockReserver), E>,
     pub(super) outputs: Vec<O>,
-    pub(super) reservers: Vec<BlockReserver<J>>,
+    pub(super) reservers: Vec<BlockReserver>,
 }
 
 /// Whether that many systems may run, each with a reserver of the phase.
@@ -34,26 +32,22 @@ pub(super) struct Room<J: BlockNumbering, O, E> {
 ///
 /// Any [`RunError`] but [`RunError::Memory`] and [`RunError::Lost`]. Of those, the first that
 /// holds.
-pub(super) fn check<J: BlockNumbering, E>(
-    blocks: &Blocks<J>,
-    reservers: &[BlockReserver<J>],
+pub(super) fn check<E>(
+    reservers: &[BlockReserver],
     systems: usize,
     workers: usize,
 ) -> Result<(), RunError<E>>
     ensures some { OnOk result (0 < workers) }
     ensures few { OnOk result (workers ≤ 64) }
     ensures within { OnOk result (systems ≤ 2 ^ 16) }
-    ensures ready { OnOk result (AreReady blocks.now systems reservers.now) }
+    ensures ready { OnOk result (length reservers.now ≡ systems) }
     ensures of_workers { IsErrOf result failed.Workers ↔ ((workers ≡ 0) ⊎ (64 < workers)) }
     ensures of_systems { IsErrOf result failed.Systems
         ↔ ((0 < workers) × (workers ≤ 64) × (2 ^ 16 < systems)) }
     ensures of_reservers { IsErrOf result failed.Reservers
         ↔ ((0 < workers) × (workers ≤ 64) × (systems ≤ 2 ^ 16)
         × (length reservers.now ≢ systems)) }
-    ensures other_phase { IsErrOf result failed.OtherPhase
-        ↔ ((0 < workers) × (workers ≤ 64) × (systems ≤ 2 ^ 16)
-        × (length reservers.now ≡ systems)
-        × ¬ (All (λ r. r.number ≡ blocks.now.number) reservers.now)) }
+    ensures not_other { ¬ (IsErrOf result failed.OtherPhase) }
     ensures not_memory { ¬ (IsErrOf result failed.Memory) }
     ensures not_lost { IfErr result (IfLost (λ _. ⊥)) }
 {
@@ -66,9 +60,6 @@ pub(super) fn check<J: BlockNumbering, E>(
     if reservers.len() != systems {
         return Err(RunError::Reservers);
     }
-    if !are_of(blocks, reservers) {
-        return Err(RunError::OtherPhase);
-    }
     Ok(())
 }
 
@@ -77,11 +68,11 @@ pub(super) fn check<J: BlockNumbering, E>(
 /// # Errors
 ///
 /// `Memory`, if there isn't enough memory for it.
-pub(super) fn prepare<J: BlockNumbering, O: Drop, E: Drop>(
+pub(super) fn prepare<O: Drop, E: Drop>(
     alloc: Global,
     systems: usize,
     workers: usize,
-) -> Result<Room<J, O, E>, Memory>
+) -> Result<Room<O, E>, Memory>
     requires some { 0 < workers }
     requires few { workers ≤ 64 }
     requires within { systems ≤ 2 ^ 16 }
@@ -96,16 +87,4 @@ pub(super) fn prepare<J: BlockNumbering, O: Drop, E: Drop>(
         outputs: Vec::with_capacity(alloc, systems)?,
         reservers: Vec::with_capacity(alloc, systems)?,
     })
-}
-
-/// Whether all reservers are of this phase.
-fn are_of<J: BlockNumbering>(blocks: &Blocks<J>, reservers: &[BlockReserver<J>]) -> bool
-    ensures { IsTrue result ↔ All (λ r. r.number ≡ blocks.now.number) reservers.now }
-{
-    for reserver in reservers {
-        if !reserver.is_of(blocks) {
-            return false;
-        }
-    }
-    true
 }

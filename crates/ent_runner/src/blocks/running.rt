@@ -1,12 +1,11 @@
 ghost use Rattle.std.specs.Prelude.{◌≡◌, ◌≢◌, ◌<◌, ◌≤◌, ◌^◌, ◌↔◌, ◌⊎◌, [], length, All, IfOk};
-ghost use Rattle.std.specs.Prelude.{IfErr};
+ghost use Rattle.std.specs.Prelude.{IfErr, IsErrAnd};
 ghost use Rattle.ent_blocks.specs.Blocks.{blocks_of};
-ghost use Rattle.ent_blocks.specs.Faults.{IsErrWith};
+ghost use Rattle.ent_blocks.specs.Drawing.{IsOfPhase};
 ghost use Rattle.ent_runner.specs.Blocks.{HaveFilled, IsBrokenOff};
 ghost use Rattle.ent_runner.specs.Blocks.Refusing.{IfLost, IfNotLost};
 ghost use Rattle.ent_runner.specs.declared.blocks.run_error.RunError.TheVariants as failed;
 
-use crate::BlockNumbering;
 use crate::blocks::room::{Room, WORKERS, check, prepare};
 use crate::blocks::run_error::RunError;
 use crate::blocks::splitting::split;
@@ -79,7 +78,7 @@ use std::thread::Threads;
 /// applies.
 ///
 /// - [`RunError::Workers`], [`RunError::Systems`], [`RunError::Reservers`],
-///   [`RunError::OtherPhase`], [`RunError::Memory`]: no system ran, and the reservers are handed
+///   [`RunError::Memory`]: no system ran, and the reservers are handed
 ///   back as they were. With no systems, it doesn't allocate.
 /// - [`RunError::Lost`]: a system returned an error, and this has the first one in the order of the
 ///   systems. Or some systems didn't run, since no worker has memory for another one: then it has
@@ -89,45 +88,43 @@ use std::thread::Threads;
 ///
 /// If a system panics, the panic is propagated when all workers have ended. Logs and reservers are
 /// dropped then too.
-pub fn run_in_blocks<R, J: BlockNumbering + Send + Sync, C, S, E>(
+pub fn run_in_blocks<R, C, S, E>(
     rt: &R,
     alloc: Global,
-    blocks: &Blocks<J>,
-    reservers: Vec<BlockReserver<J>>,
+    blocks: &Blocks,
+    reservers: Vec<BlockReserver>,
     systems: &[S],
     workers: usize,
-) -> Result<(Vec<Log<C>>, Vec<BlockReserver<J>>), HandedBack<Vec<BlockReserver<J>>, RunError<E>>>
+) -> Result<(Vec<Log<C>>, Vec<BlockReserver>), HandedBack<Vec<BlockReserver>, RunError<E>>>
 where
     R: Threads + Sync,
     C: Drop + Send,
-    S: LogSystem<C, Blocks<J>, E> + Sync,
+    S: LogSystem<C, Blocks, E> + Sync,
     E: Drop + Send,
-    ensures ok { IfOk result (λ ran. HaveFilled S.may_log systems.now blocks.now.phase.start.pool
+    requires own { All (IsOfPhase blocks.now) reservers.items }
+    ensures ok { IfOk result (λ ran. HaveFilled S.may_log systems.now blocks.now.start.pool
         (blocks_of reservers.items) ran.0.items (blocks_of ran.1.items)) }
-    ensures of { IfOk result (λ ran. All (λ r. r.number ≡ blocks.now.number) ran.1.items) }
-    ensures workers { IsErrWith result (λ h. h.error ≡ failed.Workers)
+    ensures own { IfOk result (λ ran. All (IsOfPhase blocks.now) ran.1.items) }
+    ensures workers { IsErrAnd result (λ h. h.error ≡ failed.Workers)
         ↔ ((workers ≡ 0) ⊎ (64 < workers)) }
-    ensures systems { IsErrWith result (λ h. h.error ≡ failed.Systems)
+    ensures systems { IsErrAnd result (λ h. h.error ≡ failed.Systems)
         ↔ ((0 < workers) × (workers ≤ 64) × (2 ^ 16 < length systems.now)) }
-    ensures reservers { IsErrWith result (λ h. h.error ≡ failed.Reservers)
+    ensures reservers { IsErrAnd result (λ h. h.error ≡ failed.Reservers)
         ↔ ((0 < workers) × (workers ≤ 64) × (length systems.now ≤ 2 ^ 16)
         × (length reservers.items ≢ length systems.now)) }
-    ensures other_phase { IsErrWith result (λ h. h.error ≡ failed.OtherPhase)
-        ↔ ((0 < workers) × (workers ≤ 64) × (length systems.now ≤ 2 ^ 16)
-        × (length reservers.items ≡ length systems.now)
-        × ¬ (All (λ r. r.number ≡ blocks.now.number) reservers.items)) }
-    ensures memory_some { IsErrWith result (λ h. h.error ≡ failed.Memory)
+    ensures not_other { IfErr result (λ h. h.error ≢ failed.OtherPhase) }
+    ensures memory_some { IsErrAnd result (λ h. h.error ≡ failed.Memory)
         → 0 < length systems.now }
     ensures handed_back { IfErr result (λ h.
         IfNotLost (h.value.items ≡ reservers.items) h.error) }
 
     // What is left if the systems were broken off.
     ensures lost { IfErr result (λ h. IfLost (IsBrokenOff S.may_log S.may_leave systems.now workers
-        blocks.now.phase.start.pool (blocks_of reservers.items)) h.error) }
+        blocks.now.start.pool (blocks_of reservers.items)) h.error) }
     ensures lost_some { IfErr result (λ h. IfLost (λ _. 0 < length systems.now) h.error) }
     ensures lost_reservers { IfErr result (λ h. IfLost (λ _. h.value.items ≡ []) h.error) }
 {
-    if let Err(error) = check(blocks, &reservers, systems.len(), workers) {
+    if let Err(error) = check(&reservers, systems.len(), workers) {
         return Err(HandedBack::new(reservers, error));
     }
     if systems.is_empty() {

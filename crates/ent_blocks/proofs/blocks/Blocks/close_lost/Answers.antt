@@ -1,10 +1,17 @@
-use Rattle.std.specs.Prelude.{IsSome, IsTrue}
-use Rattle.ent_blocks.proofs.Common.{rules, ◌↔◌, are_among, blocks_of}
+use Rattle.ent_blocks.proofs.Common.{rules, blocks_of}
+use Rattle.ent_blocks.proofs.Accounts.{closing, unused_accounted}
 use Rattle.ent_blocks.proofs.blocks.Blocks.close_lost.Goals as goal
 
-pub returns-clause-order : goal.returns-clause-order
-returns-clause-order g c =
-    let among : IsSome c.missing.result
-    ↔ IsTrue (are_among c.deref-2.result.now (blocks_of c.deref-3.result.now)) =
-    c.missing.ensures.among in
-    search rules
+pub new-requires : goal.new-requires
+new-requires c =
+    let closes =
+    closing c.self.inside.entities.allocator c.self.inside.parts.items
+    (blocks_of c.args.reservers.items) c.self.invariant.0 in
+    search (rules, closes)
+
+pub returns-clause-all : goal.returns-clause-all
+returns-clause-all c =
+    let all =
+    unused_accounted 0 c.self.inside.parts.items (blocks_of c.args.reservers.items)
+    c.self.invariant.0.laid in
+    search (rules, all)

@@ -1,10 +1,12 @@
-use Rattle.ent_blocks.proofs.Common.{rules, arith}
+use Rattle.ent_blocks.proofs.Common.{rules}
 use Rattle.ent_blocks.proofs.Dealing.{lies_in}
 use Rattle.ent_blocks.proofs.blocks.Blocks.reserve.Goals as goal
 
 pub take_one-requires : goal.take_one-requires
-take_one-requires g c =
-    let lies = lies_in g.J.BlockNumbering.blocks_of c.reserver.inside.number c.self.inside.number _
-    c.reserver.inside.part c.self.invariant.0 c.self.invariant.1 (omega arith)
-    c.reserver.invariant in
+take_one-requires c =
+    let lies = lies_in (record {
+      start = c.self.inside.entities.allocator;
+      rows = c.self.inside.entities.rows;
+      blocks = c.self.inside.parts.items;
+    }) c.reserver.inside.part c.self.invariant.0 (search rules) in
     search (rules, lies)

@@ -1,0 +1,44 @@
+-- What contracts see of a world in a phase, and of one whose phase has ended.
+use Rattle.std.specs.Prelude.{◌≡◌, ℕ, refl}
+use Rattle.std.specs.Coded.{Coded, code_by, coded×, coded_ℕ}
+use Rattle.ent_blocks.specs.Blocks.{Ended, ended_code}
+use Rattle.ent_world.specs.InBlocks.{WorldRest, rest_code}
+
+-- what serves the reservers, the rest of the world, by which number queues know it, and how many
+-- entities were spawned since the last flush
+pub record InWorld (S : Type 0) : Type 0 where
+  pub source : S
+  pub rest : WorldRest
+  pub of_world : ℕ
+  pub spawned : ℕ
+
+-- the same after the end of the phase
+pub record EndedWorld : Type 0 where
+  pub ended : Ended
+  pub rest : WorldRest
+  pub of_world : ℕ
+  pub spawned : ℕ
+
+-- The phase of the world ended so, with a source that ended as this says.
+pub record IsEndOf {S C : Type 0} (w : InWorld S) (end : EndedWorld) (Closes : C → Type 0)
+    (ended_of : C → Ended) : Type 0 where
+  pub closed : C
+  pub closes : Closes closed
+  pub ended : end.ended ≡ ended_of closed
+  pub rest : end.rest ≡ w.rest
+  pub of_world : end.of_world ≡ w.of_world
+  pub spawned : end.spawned ≡ w.spawned
+
+-- each is stored as the tuple of its parts
+abbrev pub in_world_code : {S : Type 0} → Coded S → Coded (InWorld S)
+in_world_code {S} s =
+    code_by (S × (WorldRest × (ℕ × ℕ))) (coded× s (coded× rest_code (coded× coded_ℕ coded_ℕ)))
+    (λ w. (w.source, (w.rest, (w.of_world, w.spawned))))
+    (λ t. record { source = t.0; rest = t.1.0; of_world = t.1.1.0; spawned = t.1.1.1 }) (λ _. refl)
+
+abbrev pub ended_world_code : Coded EndedWorld
+ended_world_code =
+    code_by (Ended × (WorldRest × (ℕ × ℕ)))
+    (coded× ended_code (coded× rest_code (coded× coded_ℕ coded_ℕ)))
+    (λ w. (w.ended, (w.rest, (w.of_world, w.spawned))))
+    (λ t. record { ended = t.0; rest = t.1.0; of_world = t.1.1.0; spawned = t.1.1.1 }) (λ _. refl)

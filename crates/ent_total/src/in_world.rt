@@ -1,0 +1,329 @@
+//! A world in a phase in blocks.
+ghost use Rattle.std.specs.Prelude.{◌≡◌, ◌<◌, ◌↔◌, All, IfOk, IfErr, IsErrAnd, length, map};
+ghost use Rattle.ent_blocks.specs.Blocks.{blocks_from};
+ghost use Rattle.ent_blocks.specs.Ending.{TakesAnew};
+ghost use Rattle.ent_total.specs.declared.share_error.ShareError.TheVariants.{NeedsFlush, Count};
+ghost use Rattle.ent_world.specs.InBlocks.{world_with, world_after};
+ghost use Rattle.ent_world.specs.World.{IsWorld};
+
+use crate::numbering::Numbering;
+use crate::opening::{Opening, begin};
+use crate::share_error::ShareError;
+use crate::world::World;
+use ent_alloc::{Entities, Phased, Refused, Reserved, Source};
+use ent_blocks::{Ended, InBlocks};
+use ent_handle::{HandedBack, Handle, Memory};
+use ent_world::{View, WorldRest};
+use std::alloc::Global;
+use std::marker::Model;
+
+/// The source of a world's phase: it serves as `S` does, and has the rest of the world.
+///
+/// ```
+/// use forgeni::World;
+///
+/// let (phase, mut reservers) = World::new().open_in_blocks(&[10; 4])?;
+/// std::thread::scope(|scope| {
+///     for mine in &mut reservers {
+///         scope.spawn(|| mine.reserve_many(10));
+///     }
+/// });
+/// let mut world = phase.close(reservers)?.into_world()?;
+/// world.flush()?;
+/// assert_eq!(world.len(), 40);
+/// # Ok::<(), Box<dyn std::error::Error + Send + Sync>>(())
+/// ```
+#[derive(Drop)]
+pub struct InWorld<S: InBlocks> {
+    pub(crate) source: S,
+    pub(crate) rest: WorldRest,
+    pub(crate) of_world: u64,
+    pub(crate) spawned: u32,
+}
+
+impl<S: InBlocks> Model for InWorld<S> {
+    ghost use Rattle.ent_total.specs.InWorld.{InWorld, in_world_code};
+    ghost use Rattle.ent_world.specs.InBlocks.{BelongTogether};
+
+    ghost Value = { InWorld S };
+
+    ghost coded = { in_world_code S.code };
+
+    ghost view = { λ w. record {
+      source = w.source;
+      rest = w.rest;
+      of_world = w.of_world;
+      spawned = w.spawned;
+    } };
+
+    ghost invariant = { λ w. BelongTogether (S.start w.source) (S.rows w.source) w.rest };
+}
+
+impl<S: InBlocks> Source for InWorld<S> {
+    type Reserver = S::Reserver;
+
+    ghost serves = { λ w reserver. S.serves w.source reserver };
+
+    ghost may_reply = { λ w before after n reply. S.may_reply w.source before after n reply };
+
+    ghost may_give = { λ w reserver n. S.may_give w.source reserver n };
+
+    ghost start = { λ w. S.start w.source };
+
+    ghost rows = { λ w. S.rows w.source };
+
+    fn was_alive(&self, handle: Handle) -> bool {
+        self.source.was_alive(handle)
+    }
+
+    fn had_row(&self, handle: Handle) -> Option<u32> {
+        self.source.had_row(handle)
+    }
+
+    fn may_serve(&self, reserver: &S::Reserver, n: u32) -> bool {
+        self.source.may_serve(reserver, n)
+    }
+
+    #[inline(always)]
+    fn serve_one(&self, reserver: &mut S::Reserver) -> Result<Handle, Refused> {
+        self.source.serve_one(reserver)
+    }
+
+    #[inline(always)]
+    fn serve_many(&self, reserver: &mut S::Reserver, n: u32) -> Result<Reserved<'_>, Refused> {
+        self.source.serve_many(reserver, n)
+    }
+}
+
+impl<S: InBlocks> Phased for InWorld<S> {
+    ghost use Rattle.std.specs.Prelude.{◌≡◌, All, length};
+    ghost use Rattle.ent_total.specs.InWorld.{IsEndOf};
+
+    type Closed = EndedWorld;
+
+    ghost count = { λ w. S.count w.source };
+
+    ghost takes = { λ w reservers. S.takes w.source reservers };
+
+    ghost closes = { λ w reservers end.
+        IsEndOf w end (λ closed. S.closes w.source reservers closed) S.ended };
+
+    ghost closes_lost = { λ w reservers end.
+        IsEndOf w end (λ closed. S.closes_lost w.source reservers closed) S.ended };
+
+    fn callers(&self) -> usize {
+        self.source.callers()
+    }
+
+    fn as_opened(&self) -> &Entities {
+        self.source.as_opened()
+    }
+
+    fn may_take(&self, reservers: &[S::Reserver]) -> bool {
+        self.source.may_take(reservers)
+    }
+
+    fn end_with_all(self, reservers: Vec<S::Reserver>) -> EndedWorld
+        requires own { All (S.serves self.source) reservers.items }
+        requires takes { S.takes self.source reservers.items }
+        requires all { length reservers.items ≡ S.count self.source }
+        ensures { IsEndOf self result (λ closed. S.closes self.source reservers.items closed)
+            S.ended }
+    {
+        let InWorld {
+            source,
+            rest,
+            of_world,
+            spawned,
+        } = self;
+        EndedWorld {
+            ended: S::into_ended(source.end_with_all(reservers)),
+            rest,
+            of_world,
+            spawned,
+        }
+    }
+
+    fn end_with_some(self, reservers: Vec<S::Reserver>) -> EndedWorld
+        requires own { All (S.serves self.source) reservers.items }
+        requires takes { S.takes self.source reservers.items }
+        ensures { IsEndOf self result (λ closed. S.closes_lost self.source reservers.items closed)
+            S.ended }
+    {
+        let InWorld {
+            source,
+            rest,
+            of_world,
+            spawned,
+        } = self;
+        EndedWorld {
+            ended: S::into_ended(source.end_with_some(reservers)),
+            rest,
+            of_world,
+            spawned,
+        }
+    }
+}
+
+/// Deals the front of the world's pool in blocks of these sizes, one after the other: a block is
+/// smaller where the pool ends. The reservers are in the order of the sizes.
+///
+/// # Errors
+///
+/// [`HandedBack`] has the world as it was, and the first of these errors that applies:
+/// [`ShareError::NeedsFlush`], [`ShareError::Count`] if the source has no form for so many blocks,
+/// [`ShareError::Memory`].
+pub fn open_in<J: Numbering, S: InBlocks>(
+    alloc: Global,
+    world: World,
+    sizes: &[u32],
+) -> Result<Opening<J, InWorld<S>>, HandedBack<World, ShareError>>
+    ensures world { IfOk result (λ o.
+        world_with (S.start o.source.source) o.source.rest ≡ world.world) }
+    ensures same { IfOk result (λ o.
+        (o.source.of_world ≡ world.number) × (o.source.spawned ≡ world.spawned)) }
+    ensures blocks { IfOk result (λ o. S.blocks o.source.source
+        ≡ blocks_from 0 (length world.world.allocator.pool) sizes.now) }
+    ensures reservers { IfOk result (λ o. map S.block o.returned ≡ S.blocks o.source.source) }
+    ensures takes { IfOk result (λ o. S.takes o.source.source o.returned) }
+    ensures fresh { IfOk result (λ o. All S.fresh o.returned) }
+    ensures needs_flush { IsErrAnd result (λ h. h.error ≡ NeedsFlush)
+        ↔ (0 < world.world.allocator.asked) }
+    ensures no_count { IsErrAnd result (λ h. h.error ≡ Count)
+        ↔ ((world.world.allocator.asked ≡ 0) × ¬ (S.may_have (length sizes.now))) }
+    ensures handed_back { IfErr result (λ h. h.value ≡ world) }
+{
+    if world.needs_flush() {
+        return Err(HandedBack::new(world, ShareError::NeedsFlush));
+    }
+    if !S::fits(sizes.len()) {
+        return Err(HandedBack::new(world, ShareError::Count));
+    }
+    let Ok(reservers) = Vec::with_capacity(alloc, sizes.len()) else {
+        return Err(HandedBack::new(world, ShareError::Memory));
+    };
+    let World {
+        world,
+        number: of_world,
+        spawned,
+    } = world;
+    let (entities, rest) = world.apart();
+    let (source, callers) = match S::deal(alloc, entities, sizes) {
+        Ok(made) => made,
+        Err((entities, _)) => {
+            let world = World {
+                world: rest.with(entities),
+                number: of_world,
+                spawned,
+            };
+            return Err(HandedBack::new(world, ShareError::Memory));
+        }
+    };
+    let source = InWorld {
+        source,
+        rest,
+        of_world,
+        spawned,
+    };
+    match begin(alloc, source, callers, reservers) {
+        Ok(opening) => Ok(opening),
+        Err((source, callers)) => {
+            let world = source.end_with_all(callers).cancel();
+            Err(HandedBack::new(world, ShareError::Memory))
+        }
+    }
+}
+
+/// A world whose phase in blocks has ended, in which what was used is not yet reserved.
+#[must_use]
+#[derive(Drop)]
+pub struct EndedWorld {
+    ended: Ended,
+    rest: WorldRest,
+    of_world: u64,
+    spawned: u32,
+}
+
+impl Model for EndedWorld {
+    ghost use Rattle.ent_total.specs.InWorld.{EndedWorld, ended_world_code};
+    ghost use Rattle.ent_world.specs.InBlocks.{BelongTogether};
+
+    ghost Value = { EndedWorld };
+
+    ghost coded = { ended_world_code };
+
+    ghost view = { λ w. record {
+      ended = w.ended;
+      rest = w.rest;
+      of_world = w.of_world;
+      spawned = w.spawned;
+    } };
+
+    ghost invariant = { λ w. BelongTogether w.ended.phase.start w.ended.phase.rows w.rest };
+}
+
+impl EndedWorld {
+    /// Returns the number of handles that were requested past a block, as
+    /// [`Ended::requested_past`](ent_blocks::Ended::requested_past) does.
+    pub fn requested_past(&self) -> u64
+        ensures { result ≡ self.now.ended.requested }
+    {
+        self.ended.requested_past()
+    }
+
+    /// Returns the world as it was when the phase was opened: nothing is reserved.
+    pub fn cancel(self) -> World
+        ensures world { result.world ≡ world_with self.ended.phase.start self.rest }
+        ensures same { (result.number ≡ self.of_world) × (result.spawned ≡ self.spawned) }
+    {
+        World {
+            world: self.rest.with(self.ended.cancel()),
+            number: self.of_world,
+            spawned: self.spawned,
+        }
+    }
+
+    /// Returns the world, in which what was used is reserved: a flush or a sync point brings it to
+    /// life. What is left of the blocks is given next, in the same order.
+    ///
+    /// # Errors
+    ///
+    /// [`HandedBack`] has this value, if an allocation fails, and for no other reason. The call can
+    /// be tried again.
+    pub fn into_world(self) -> Result<World, HandedBack<Self, Memory>>
+        ensures after { IfOk result (λ w. w.world
+            ≡ world_after (world_with self.ended.phase.start self.rest) self.ended.phase.blocks) }
+        ensures world { IfOk result (λ w. IsWorld w.world
+            × TakesAnew self.ended.phase.start w.world.allocator) }
+        ensures same { IfOk result (λ w.
+            (w.number ≡ self.of_world) × (w.spawned ≡ self.spawned)) }
+        ensures ended { IfErr result (λ h. (h.value.ended ≡ self.ended)
+            × (h.value.of_world ≡ self.of_world) × (h.value.spawned ≡ self.spawned)) }
+        ensures rest { IfErr result (λ h. (h.value.rest.phase ≡ self.rest.phase)
+            × (h.value.rest.store.entities ≡ self.rest.store.entities)) }
+    {
+        let EndedWorld {
+            ended,
+            rest,
+            of_world,
+            spawned,
+        } = self;
+        match rest.settle(ended) {
+            Ok(world) => Ok(World {
+                world,
+                number: of_world,
+                spawned,
+            }),
+            Err(back) => {
+                let ((rest, ended), error) = back.into_parts();
+                let world = EndedWorld {
+                    ended,
+                    rest,
+                    of_world,
+                    spawned,
+                };
+                Err(HandedBack::new(world, error))
+            }
+        }
+    }
+}

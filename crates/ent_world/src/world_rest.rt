@@ -1,0 +1,139 @@
+//! A world is taken apart while its allocator is in a phase, and put together again.
+ghost use Rattle.std.specs.Prelude.{◌≡◌, IfOk, IfErr, length, ◌<◌};
+ghost use Rattle.ent_blocks.specs.Ending.{TakesAnew};
+ghost use Rattle.ent_world.specs.World.{IsWorld};
+ghost use Rattle.ent_world.specs.InBlocks.{BelongTogether, world_with, world_after};
+
+use crate::view::View;
+use crate::world::World;
+use ent_alloc::Entities;
+use ent_blocks::Ended;
+use ent_handle::{HandedBack, Memory};
+use ent_storage::Storage;
+use std::alloc::Global;
+use std::marker::Model;
+
+/// A world without its allocator, which is in a phase.
+#[derive(Drop)]
+pub struct WorldRest {
+    storage: Storage,
+    phase: u64,
+    alloc: Global,
+}
+
+impl Model for WorldRest {
+    ghost use Rattle.ent_world.specs.InBlocks.{WorldRest, rest_code};
+
+    ghost Value = { WorldRest };
+
+    ghost coded = { rest_code };
+
+    ghost view = { λ w. record { store = w.storage; phase = w.phase } };
+}
+
+impl World {
+    /// Takes the world apart: its allocator, and the rest.
+    pub fn apart(self) -> (Entities, WorldRest)
+        ensures world { world_with result.0.allocator result.1 ≡ self }
+        ensures parts { BelongTogether result.0.allocator result.0.rows result.1 }
+    {
+        let World {
+            entities,
+            storage,
+            phase,
+            alloc,
+        } = self;
+        let rest = WorldRest {
+            storage,
+            phase,
+            alloc,
+        };
+        (entities, rest)
+    }
+}
+
+impl WorldRest {
+    /// The world as it was when its phase was opened.
+    pub fn view(&self) -> View<'_>
+        ensures phase { result.phase ≡ self.now.phase }
+        ensures entities { result.entities ≡ self.now.store.entities }
+    {
+        View::new(&self.storage, self.phase)
+    }
+
+    /// Puts the world together with an allocator that belongs to it, such as the one that it was
+    /// taken apart from.
+    pub fn with(self, entities: Entities) -> World
+        requires parts { BelongTogether entities.allocator entities.rows self }
+        ensures world { result ≡ world_with entities.allocator self }
+        ensures is { IsWorld result }
+    {
+        let WorldRest {
+            storage,
+            phase,
+            alloc,
+        } = self;
+        World {
+            entities,
+            storage,
+            phase,
+            alloc,
+        }
+    }
+
+    /// Puts the world together with its allocator, whose phase in blocks has ended: what was used
+    /// is reserved. It makes room for an entity of each handle up to the last one that was used.
+    ///
+    /// # Errors
+    ///
+    /// [`HandedBack`] has both, as they were except for the room, if an allocation fails, and for
+    /// no other reason. The call can be tried again.
+    pub fn settle(self, ended: Ended) -> Result<World, HandedBack<(Self, Ended), Memory>>
+        requires parts { BelongTogether ended.phase.start ended.phase.rows self }
+        ensures after { IfOk result (λ w.
+            w ≡ world_after (world_with ended.phase.start self) ended.phase.blocks) }
+        ensures world { IfOk result IsWorld }
+        ensures anew { IfOk result (λ w. TakesAnew ended.phase.start w.allocator) }
+        ensures ended { IfErr result (λ h. h.value.1 ≡ ended) }
+        ensures same { IfErr result (λ h. (h.value.0.phase ≡ self.phase)
+            × (h.value.0.store.entities ≡ self.store.entities)) }
+        ensures parts { IfErr result (λ h.
+            BelongTogether ended.phase.start ended.phase.rows h.value.0) }
+        ensures memory { IfErr result (λ _. 0 < length ended.phase.blocks) }
+    {
+        let WorldRest {
+            mut storage,
+            phase,
+            alloc,
+        } = self;
+        let Ok(()) = storage.reserve(ended.dealt() as usize) else {
+            let rest = WorldRest {
+                storage,
+                phase,
+                alloc,
+            };
+            return Err(HandedBack::new((rest, ended), Memory));
+        };
+        match ended.into_entities(alloc) {
+            Ok(entities) => {
+                // Its contract says that the state is sound.
+                let _cursor = entities.cursor();
+                Ok(World {
+                    entities,
+                    storage,
+                    phase,
+                    alloc,
+                })
+            }
+            Err(unended) => {
+                let (ended, error) = unended.into_parts();
+                let rest = WorldRest {
+                    storage,
+                    phase,
+                    alloc,
+                };
+                Err(HandedBack::new((rest, ended), error))
+            }
+        }
+    }
+}
