@@ -9,6 +9,7 @@ use Rattle.ent_blocks.proofs.Common.{after_reservation, own_reservations, after_
 use Rattle.ent_blocks.proofs.Common.{opened_record, opened_records, records_of, Record, Shared}
 use Rattle.ent_blocks.proofs.Common.{SharedReserver, IsReserverOf, Reserves, own_of_all, All-left}
 use Rattle.ent_blocks.proofs.Common.{All-right, Overflow, Caller, IsCallerOf, IsFresh, IsPhase}
+use Rattle.ent_blocks.specs.Overflow.{IsUnused}
 use Rattle.ent_blocks.proofs.Common.{HasDealt, IsDealer, past_records, past_history, own_blocks}
 use Rattle.ent_blocks.proofs.Dealing.{none_used, are_dealt, length-from}
 
@@ -48,11 +49,6 @@ dealt_mark s old new n result did at =
 
 pub none_dealt_mark : (a b : ℤ) → a ≡ b → a ≤ℤ (b -ℤ pos 0)
 none_dealt_mark a b same = omega (arith, ints)
-
--- a caller that has gone past its block with nothing
-pub record IsUnused (c : Caller) : Type 0 where
-  pub nothing : own_reservations c.past.own.entries ≡ []
-  pub whole : c.past.own.left ≡ quota
 
 -- a reserver that has met the dealer, and a block
 module _ (p : Overflow) (laid : AreLaid 0 p.blocks) (k : ℕ) (b : Block) (lt : k < length p.blocks)

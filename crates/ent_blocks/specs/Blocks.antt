@@ -100,6 +100,11 @@ after_refusal r n = record r { refused = max r.refused n }
 abbrev pub wanted_by : Reserver → ℕ
 wanted_by r = min (r.block.used + r.refused) (2 ^ 32 - 1)
 
+-- It has requested nothing yet.
+pub record IsUnused (r : Reserver) : Type 0 where
+  pub none : r.block.used ≡ 0
+  pub none_refused : r.refused ≡ 0
+
 abbrev pub blocks_of : List Reserver → List Block
 blocks_of reservers = map (λ (r : Reserver). r.block) reservers
 

@@ -7,6 +7,7 @@ use Rattle.std.specs.List.{All, Contains}
 use Rattle.std.specs.Coded.{Coded, code_by, coded×, coded_ℕ, coded_list}
 use Rattle.ent_handle.specs.Handle.{Handle}
 use Rattle.ent_alloc.specs.History as history
+unfoldable use Rattle.ent_alloc.specs.Limits.{quota}
 use Rattle.ent_alloc.specs.Sequential.{cursor, listed}
 use Rattle.ent_alloc.specs.declared.refused.Refused.{Refused}
 use Rattle.ent_alloc.specs.declared.refused.Refused.TheVariants.{Quota}
@@ -113,6 +114,12 @@ pub record IsFresh (shared : Shared) (r : Reserver) : Type 0 where
   pub of : sharing.IsOf shared r
   pub nothing : r.own.entries ≡ []
   pub mark : r.own.mark ≡ cursor shared.start
+
+-- It has requested nothing yet, and has its whole quota.
+pub record IsUnused (c : Caller) : Type 0 where
+  pub none : c.block.used ≡ 0
+  pub nothing : own_reservations c.past.own.entries ≡ []
+  pub whole : c.past.own.left ≡ quota
 
 -- The blocks are dealt, the dealer reserved them, and each has a reserver.
 pub record IsPhase (shared : Shared) (dealer : Reserver) (blocks : List Block) : Type 0 where

@@ -1,7 +1,7 @@
 //! An allocator is dealt in blocks.
 ghost use Rattle.std.specs.Prelude.{◌≡◌, ◌^◌, ◌<◌, ◌≤◌, IfOk, IfErr, OnErr, All, IsTrue, [], length};
 ghost use Rattle.std.specs.Vec.{vec_capacity};
-ghost use Rattle.ent_blocks.specs.Blocks.{IsOf, are_among, blocks_from, blocks_of, dealt, lesser};
+ghost use Rattle.ent_blocks.specs.Blocks.{IsOf, IsUnused, are_among, blocks_from, blocks_of, dealt, lesser};
 
 use crate::block_reserver::BlockReserver;
 use crate::blocks::Blocks;
@@ -32,7 +32,7 @@ pub fn open_in_blocks(
         ≡ blocks_from 0 (length entities.allocator.pool) sizes.now) }
     ensures reservers { IfOk result (λ made. blocks_of made.1.items ≡ made.0.blocks) }
     ensures own { IfOk result (λ made. All (λ r. IsOf made.0 r.block) made.1.items) }
-    ensures none_refused { IfOk result (λ made. All (λ r. r.refused ≡ 0) made.1.items) }
+    ensures unused { IfOk result (λ made. All IsUnused made.1.items) }
     ensures many { IfOk result (λ made. length made.1.items ≡ length sizes.now) }
     ensures among { IfOk result (λ made.
         IsTrue (are_among made.0.blocks (blocks_of made.1.items))) }
@@ -60,7 +60,7 @@ fn hand_out(parts: &[Part], reservers: &mut Vec<BlockReserver>)
     requires none { reservers.old.items ≡ [] }
     requires room { length parts.now ≤ vec_capacity reservers.old }
     ensures reservers { blocks_of reservers.new.items ≡ parts.now }
-    ensures none_refused { All (λ r. r.refused ≡ 0) reservers.new.items }
+    ensures unused { All IsUnused reservers.new.items }
 {
     for part in parts {
         reservers.push_reserved(BlockReserver {

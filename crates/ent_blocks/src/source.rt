@@ -95,8 +95,8 @@ impl Phased for Blocks {
 
 /// Blocks that refuse a request for more than they have left: any number of them.
 impl InBlocks for Blocks {
-    ghost use Rattle.std.specs.Prelude.{◌≡◌};
-    ghost use Rattle.ent_blocks.specs.Blocks.{wanted_by};
+    ghost use Rattle.std.specs.Prelude.{◌≡◌, refl};
+    ghost use Rattle.ent_blocks.specs.Blocks.{IsUnused, wanted_by};
 
     ghost may_have = { λ _. Unit {0} };
 
@@ -106,7 +106,7 @@ impl InBlocks for Blocks {
 
     ghost wants = { λ reserver. wanted_by reserver };
 
-    ghost fresh = { λ reserver. (reserver.block.used ≡ 0) × (reserver.refused ≡ 0) };
+    ghost fresh = { λ reserver. IsUnused reserver };
 
     ghost ended = { λ ended. ended };
 

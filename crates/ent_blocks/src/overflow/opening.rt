@@ -2,11 +2,10 @@
 ghost use Rattle.std.specs.Prelude.{◌≡◌, ◌+◌, ◌<◌, ◌≤◌, ◌++◌, [], IfOk, IfErr, IsTrue, All, length};
 ghost use Rattle.std.specs.Prelude.{vec_len};
 ghost use Rattle.std.specs.Vec.{vec_capacity};
-ghost use Rattle.ent_alloc.specs.Limits.{quota};
 ghost use Rattle.ent_blocks.specs.Blocks.{are_among, blocks_from};
 ghost use Rattle.ent_shared.specs.Phase.{IsOf as IsReserverOf};
-ghost use Rattle.ent_blocks.specs.Overflow.{IsCallerOf, IsFresh, IsPhase, Overflow, own_blocks};
-ghost use Rattle.ent_blocks.specs.Overflow.{past_history};
+ghost use Rattle.ent_blocks.specs.Overflow.{IsCallerOf, IsFresh, IsPhase, IsUnused, Overflow};
+ghost use Rattle.ent_blocks.specs.Overflow.{own_blocks, past_history};
 
 use crate::opening::parts_of;
 use crate::overflow::dealing::deal;
@@ -45,9 +44,8 @@ pub fn open_with_overflow(
     ensures many { IfOk result (λ made. length made.1.items ≡ length sizes.now) }
     ensures among { IfOk result (λ made.
         IsTrue (are_among made.0.blocks (own_blocks made.1.items))) }
-    // Nobody has gone past its block yet, and each has its whole quota for it.
     ensures nothing { IfOk result (λ made. past_history made.1.items ≡ []) }
-    ensures quota { IfOk result (λ made. All (λ c. c.past.own.left ≡ quota) made.1.items) }
+    ensures unused { IfOk result (λ made. All IsUnused made.1.items) }
     ensures err { IfErr result (λ refused. refused.0 ≡ entities) }
 {
     let count = sizes.len();
@@ -96,7 +94,7 @@ fn hand_out(
       blocks = parts.now;
     })) callers.new.items }
     ensures nothing { past_history callers.new.items ≡ [] }
-    ensures quota { All (λ c. c.past.own.left ≡ quota) callers.new.items }
+    ensures unused { All IsUnused callers.new.items }
 {
     for part in parts {
         let Some(mut past) = reservers.pop() else {

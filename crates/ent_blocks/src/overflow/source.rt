@@ -96,8 +96,8 @@ impl Phased for Overflow {
 
 /// Blocks whose reservers go on to one cursor that all share: at most 1,023 of them.
 impl InBlocks for Overflow {
-    ghost use Rattle.std.specs.Prelude.{◌≡◌, ◌+◌, ◌-◌, ◌<◌, ◌^◌, [], min};
-    ghost use Rattle.ent_alloc.specs.Limits.{quota};
+    ghost use Rattle.std.specs.Prelude.{◌≡◌, ◌+◌, ◌-◌, ◌<◌, ◌^◌, min};
+    ghost use Rattle.ent_blocks.specs.Overflow.{IsUnused};
     ghost use Rattle.ent_shared.specs.Record.{requested_by};
 
     ghost may_have = { λ count. count < 1024 };
@@ -108,8 +108,7 @@ impl InBlocks for Overflow {
 
     ghost wants = { λ caller. min (caller.block.used + requested_by caller.past.own) (2 ^ 32 - 1) };
 
-    ghost fresh = { λ caller. (caller.block.used ≡ 0) × (caller.past.own.entries ≡ [])
-        × (caller.past.own.left ≡ quota) };
+    ghost fresh = { λ caller. IsUnused caller };
 
     ghost ended = { λ ended. ended };
 

@@ -1,5 +1,5 @@
 -- When systems in blocks are refused before any of them runs, as one fact: each field is a clause
--- of `run_frame_in_blocks`, `fill_in_blocks` and `run_in_blocks`.
+-- of `fill_in_blocks` and `run_in_blocks`.
 use Rattle.std.specs.Prelude.{◌≡◌, ◌≢◌, ◌<◌, ◌≤◌, ◌^◌, ◌↔◌, ◌⊎◌, ℕ, Option}
 use Rattle.ent_runner.specs.declared.blocks.run_error.RunError.{RunError}
 use Rattle.ent_runner.specs.declared.blocks.run_error.RunError.TheVariants as failed

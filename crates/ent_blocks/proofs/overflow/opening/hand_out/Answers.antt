@@ -1,8 +1,9 @@
 use Rattle.ent_blocks.proofs.Common.{◌≡◌, ◌∙◌, [], ◌∷◌, ◌++◌, ap, arith, length, length-append}
 use Rattle.ent_blocks.proofs.Common.{All-push, after_meeting, unused, Overflow, Caller, IsCallerOf}
 use Rattle.ent_blocks.proofs.Common.{rules}
-use Rattle.ent_blocks.proofs.Dealers.{IsUnused, of_block, unused_of_block, last_fresh, others_fresh}
+use Rattle.ent_blocks.proofs.Dealers.{of_block, unused_of_block, last_fresh, others_fresh}
 use Rattle.ent_blocks.proofs.Dealers.{blocks_more}
+use Rattle.ent_blocks.specs.Overflow.{IsUnused}
 use Rattle.ent_blocks.proofs.overflow.opening.hand_out.Goals as goal
 
 pub meet-requires-clause-first : goal.meet-requires-clause-first

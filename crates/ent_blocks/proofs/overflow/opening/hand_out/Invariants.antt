@@ -1,6 +1,6 @@
 use Rattle.ent_blocks.proofs.Common.{◌≡◌, ◌+◌, ◌≤◌, length, take, vec_len, All, vec_capacity}
 use Rattle.ent_blocks.proofs.Common.{IsCallerOf, IsFresh, own_blocks}
-use Rattle.ent_blocks.proofs.Dealers.{IsUnused}
+use Rattle.ent_blocks.specs.Overflow.{IsUnused}
 use Rattle.ent_blocks.proofs.overflow.opening.hand_out.Given as goal
 
 -- so far each block has a reserver, and there is one for each block that is left
