@@ -95,6 +95,10 @@ pub record Reserver : Type 0 where
 abbrev pub after_refusal : Reserver → ℕ → Reserver
 after_refusal r n = record r { refused = max r.refused n }
 
+-- nothing is left of its block
+abbrev pub used_up : Reserver → Reserver
+used_up r = record r { block = record r.block { used = r.block.size } }
+
 -- How many handles would have been enough: those that were used, and the largest request that was
 -- refused. A number of 32 bits holds it.
 abbrev pub wanted_by : Reserver → ℕ

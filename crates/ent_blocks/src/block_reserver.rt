@@ -5,19 +5,16 @@ use crate::part::Part;
 use ent_alloc::Refused;
 use std::marker::Model;
 
-/// One caller's right to the handles of its block.
-///
-/// [`Entities::open_in_blocks`](forgeni::Entities::open_in_blocks) makes them, and
-/// [`Blocks::close`](Blocks::close) takes them back. It is a few numbers: it has no list of
-/// handles, and may go to any thread.
+/// One caller's right to the handles of its block. It is a few numbers: it has no list of handles,
+/// and may go to any thread.
 ///
 /// ```
-/// use forgeni::Entities;
+/// use forgeni::{BlockReserver, Blocks, Source};
 ///
-/// let (blocks, mut reservers) = Entities::new().open_in_blocks(&[10, 20])?;
-/// blocks.reserve(&mut reservers[1])?;
-/// assert_eq!((reservers[1].size(), reservers[1].used(), reservers[1].left()), (20, 1, 19));
-/// # Ok::<(), Box<dyn std::error::Error + Send + Sync>>(())
+/// /// Code for the reservers of blocks that refuse.
+/// fn refuses<S: Source<Reserver = BlockReserver>>() {}
+///
+/// refuses::<Blocks>();
 /// ```
 #[derive(Drop)]
 pub struct BlockReserver {
@@ -38,21 +35,11 @@ impl Model for BlockReserver {
 
 impl BlockReserver {
     ghost use Rattle.std.specs.Prelude.{◌≡◌, ◌-◌, ◌≤◌};
-    ghost use Rattle.ent_blocks.specs.Blocks.{after_refusal, wanted_by};
+    ghost use Rattle.ent_blocks.specs.Blocks.{after_refusal, used_up, wanted_by};
     ghost use Rattle.ent_alloc.specs.declared.refused.Refused.TheVariants as why;
 
     /// Returns the number of handles in the block. It is less than the requested size if the pool
     /// had no more.
-    ///
-    /// ```
-    /// use forgeni::{Entities, Limits};
-    ///
-    /// let entities = Entities::with_limits(Limits::new(100, 1).unwrap());
-    /// let (_blocks, reservers) = entities.open_in_blocks(&[64, 64])?;
-    /// // The pool ends within the second block.
-    /// assert_eq!((reservers[0].size(), reservers[1].size()), (64, 36));
-    /// # Ok::<(), Box<dyn std::error::Error>>(())
-    /// ```
     #[must_use]
     pub fn size(&self) -> u32
         ensures { result ≡ self.now.block.size }
@@ -61,19 +48,6 @@ impl BlockReserver {
     }
 
     /// Returns the number of handles of the block that are used.
-    ///
-    /// ```
-    /// use forgeni::Entities;
-    ///
-    /// let (blocks, mut reservers) = Entities::new().open_in_blocks(&[10, 10])?;
-    /// blocks.reserve_many(&mut reservers[0], 2)?;
-    /// blocks.reserve_many(&mut reservers[1], 3)?;
-    /// let used: u32 = reservers.iter().map(|one| one.used()).sum();
-    /// let mut entities = blocks.close(reservers)?;
-    /// entities.flush(&mut Vec::new())?;
-    /// assert_eq!((used, entities.len()), (5, 5));
-    /// # Ok::<(), Box<dyn std::error::Error>>(())
-    /// ```
     #[must_use]
     pub fn used(&self) -> u32
         ensures value { result ≡ self.now.block.used }
@@ -83,18 +57,6 @@ impl BlockReserver {
     }
 
     /// Returns the number of handles that are left of the block.
-    ///
-    /// ```
-    /// use forgeni::Entities;
-    ///
-    /// let (blocks, mut reservers) = Entities::new().open_in_blocks(&[10])?;
-    /// let mine = &mut reservers[0];
-    /// blocks.reserve_many(mine, 7)?;
-    /// // As many sparks as the block still has, at most 50.
-    /// let sparks = blocks.reserve_many(mine, mine.left().min(50))?;
-    /// assert_eq!((sparks.len(), mine.left()), (3, 0));
-    /// # Ok::<(), Box<dyn std::error::Error>>(())
-    /// ```
     #[must_use]
     pub fn left(&self) -> u32
         ensures value { result ≡ self.now.block.size - self.now.block.used }
@@ -106,22 +68,21 @@ impl BlockReserver {
     /// Returns how many handles would have been enough: those that are used, plus the largest of
     /// the requests that were refused because too few were left. It is at most 4,294,967,295.
     /// [`BlockSize::adapt`](crate::BlockSize::adapt) takes it.
-    ///
-    /// ```
-    /// use forgeni::Entities;
-    ///
-    /// let (blocks, mut reservers) = Entities::new().open_in_blocks(&[64])?;
-    /// blocks.reserve_many(&mut reservers[0], 10)?;
-    /// assert_eq!(reservers[0].wanted(), 10);
-    /// assert!(blocks.reserve_many(&mut reservers[0], 100).is_err());
-    /// assert_eq!((reservers[0].used(), reservers[0].wanted()), (10, 110));
-    /// # Ok::<(), Box<dyn std::error::Error + Send + Sync>>(())
-    /// ```
     #[must_use]
     pub fn wanted(&self) -> u32
         ensures { result ≡ wanted_by self.now }
     {
         self.part.used().saturating_add(self.refused)
+    }
+
+    /// Takes the reserver out, and leaves one of the same block that is used up.
+    pub fn take(&mut self) -> Self
+        ensures taken { result ≡ self.old }
+        ensures used_up { self.new ≡ used_up self.old }
+    {
+        let taken = again(self);
+        self.part = self.part.with_used(self.part.size());
+        taken
     }
 
     /// Remembers a request for `wanted` handles, of which only `left` are left.

@@ -1,7 +1,7 @@
 ghost use Rattle.std.specs.Prelude.{◌≡◌, ◌*◌, ◌≤◌, min, max};
 
 /// The size of a caller's block in the next phase: twice what it
-/// [wanted](crate::BlockReserver::wanted) in this one, at least 64, and at most a limit. So the
+/// [wanted](forgeni::Reserver::wanted) in this one, at least 64, and at most a limit. So the
 /// size depends only on earlier phases, and is the same on every machine.
 ///
 /// What a caller wanted is what it used, plus the largest of its requests that were refused. So the
@@ -11,9 +11,9 @@ ghost use Rattle.std.specs.Prelude.{◌≡◌, ◌*◌, ◌≤◌, min, max};
 /// use forgeni::{BlockSize, Entities};
 ///
 /// let mut sizes = [BlockSize::new(1000); 2];
-/// let (blocks, mut reservers) = Entities::new().open_in_blocks(&sizes.map(|it| it.size()))?;
-/// blocks.reserve_many(&mut reservers[0], 50)?;
-/// assert!(blocks.reserve_many(&mut reservers[1], 100).is_err());
+/// let (_phase, mut reservers) = Entities::new().share_in_blocks(&sizes.map(|it| it.size()))?;
+/// reservers[0].reserve_many(50)?;
+/// assert!(reservers[1].reserve_many(100).is_err());
 /// for (size, reserver) in sizes.iter_mut().zip(&reservers) {
 ///     size.adapt(reserver.wanted());
 /// }
@@ -75,7 +75,7 @@ impl BlockSize {
     ///
     /// let mut sizes = [BlockSize::new(1_000); 3];
     /// sizes[2].adapt(400);
-    /// let (_blocks, reservers) = Entities::new().open_in_blocks(&sizes.map(|it| it.size()))?;
+    /// let (_phase, reservers) = Entities::new().share_in_blocks(&sizes.map(|it| it.size()))?;
     /// assert_eq!(reservers.iter().map(|one| one.size()).collect::<Vec<_>>(), [64, 64, 800]);
     /// # Ok::<(), Box<dyn std::error::Error>>(())
     /// ```

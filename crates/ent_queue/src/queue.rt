@@ -71,24 +71,6 @@ impl CommandQueue {
     }
 
     /// Returns the number of commands.
-    ///
-    /// ```
-    /// # #[cfg(feature = "std")] {
-    /// use forgeni::{run_frame_in_blocks, CommandsInBlocks, OutOfMemory, StdThreads, View, World};
-    ///
-    /// fn twice(_: &View<'_>, commands: &mut CommandsInBlocks<'_>) -> Result<(), OutOfMemory> {
-    ///     for _ in 0..2 {
-    ///         commands.spawn_with(&[]).map_or_else(|refused| refused.or_memory(), |_| Ok(()))?;
-    ///     }
-    ///     Ok(())
-    /// }
-    ///
-    /// let (open, reservers) = World::new().open_in_blocks(&[10])?;
-    /// let (_world, frame) = run_frame_in_blocks(&StdThreads, open, reservers, &[twice], 1)?;
-    /// assert_eq!(frame.queues[0].len(), 2);
-    /// # }
-    /// # Ok::<(), Box<dyn std::error::Error>>(())
-    /// ```
     pub fn len(&self) -> usize
         ensures { result ≡ length self.now }
     {
@@ -96,21 +78,6 @@ impl CommandQueue {
     }
 
     /// Returns `true` if there are no commands.
-    ///
-    /// ```
-    /// # #[cfg(feature = "std")] {
-    /// use forgeni::{run_frame_in_blocks, CommandsInBlocks, OutOfMemory, StdThreads, View, World};
-    ///
-    /// fn idle(_: &View<'_>, _: &mut CommandsInBlocks<'_>) -> Result<(), OutOfMemory> {
-    ///     Ok(())
-    /// }
-    ///
-    /// let (open, reservers) = World::new().open_in_blocks(&[10])?;
-    /// let (_world, frame) = run_frame_in_blocks(&StdThreads, open, reservers, &[idle], 1)?;
-    /// assert!(frame.queues[0].is_empty());
-    /// # }
-    /// # Ok::<(), Box<dyn std::error::Error>>(())
-    /// ```
     pub fn is_empty(&self) -> bool
         ensures { IsTrue result ↔ (self.now ≡ []) }
     {

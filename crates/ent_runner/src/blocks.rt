@@ -8,5 +8,6 @@ mod running;
 mod splitting;
 
 pub use crate::blocks::filling::fill_in_blocks;
+pub use crate::blocks::room::check_run;
 pub use crate::blocks::run_error::RunError;
 pub use crate::blocks::running::run_in_blocks;

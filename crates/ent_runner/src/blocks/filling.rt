@@ -6,7 +6,7 @@ ghost use Rattle.ent_runner.specs.Blocks.Queues.{HaveIssued, HaveStopped};
 ghost use Rattle.ent_runner.specs.Blocks.Refusing.{IfLost, IfNotLost};
 ghost use Rattle.ent_runner.specs.declared.blocks.run_error.RunError.TheVariants as failed;
 
-use crate::blocks::room::{Room, WORKERS, check, prepare};
+use crate::blocks::room::{Room, WORKERS, check_run, prepare};
 use crate::blocks::run_error::RunError;
 use crate::blocks::splitting::split;
 use crate::crew::first_error;
@@ -77,7 +77,7 @@ where
     ensures lost_some { IfErr result (λ h. IfLost (λ _. 0 < length systems.now) h.error) }
     ensures lost_reservers { IfErr result (λ h. IfLost (λ _. h.value.items ≡ []) h.error) }
 {
-    if let Err(error) = check(&reservers, systems.len(), workers) {
+    if let Err(error) = check_run(reservers.len(), systems.len(), workers) {
         return Err(HandedBack::new(reservers, error));
     }
     if systems.is_empty() {

@@ -26,27 +26,27 @@ pub(super) struct Room<O, E> {
     pub(super) reservers: Vec<BlockReserver>,
 }
 
-/// Whether that many systems may run, each with a reserver of the phase.
+/// Whether that many systems may run on that many workers, with that many reservers.
 ///
 /// # Errors
 ///
-/// Any [`RunError`] but [`RunError::Memory`] and [`RunError::Lost`]. Of those, the first that
-/// holds.
-pub(super) fn check<E>(
-    reservers: &[BlockReserver],
+/// The first of these that holds: [`RunError::Workers`], [`RunError::Systems`],
+/// [`RunError::Reservers`].
+pub fn check_run<E>(
+    reservers: usize,
     systems: usize,
     workers: usize,
 ) -> Result<(), RunError<E>>
     ensures some { OnOk result (0 < workers) }
     ensures few { OnOk result (workers ≤ 64) }
     ensures within { OnOk result (systems ≤ 2 ^ 16) }
-    ensures ready { OnOk result (length reservers.now ≡ systems) }
+    ensures ready { OnOk result (reservers ≡ systems) }
     ensures of_workers { IsErrOf result failed.Workers ↔ ((workers ≡ 0) ⊎ (64 < workers)) }
     ensures of_systems { IsErrOf result failed.Systems
         ↔ ((0 < workers) × (workers ≤ 64) × (2 ^ 16 < systems)) }
     ensures of_reservers { IsErrOf result failed.Reservers
         ↔ ((0 < workers) × (workers ≤ 64) × (systems ≤ 2 ^ 16)
-        × (length reservers.now ≢ systems)) }
+        × (reservers ≢ systems)) }
     ensures not_other { ¬ (IsErrOf result failed.OtherPhase) }
     ensures not_memory { ¬ (IsErrOf result failed.Memory) }
     ensures not_lost { IfErr result (IfLost (λ _. ⊥)) }
@@ -57,7 +57,7 @@ pub(super) fn check<E>(
     if systems > SYSTEMS {
         return Err(RunError::Systems);
     }
-    if reservers.len() != systems {
+    if reservers != systems {
         return Err(RunError::Reservers);
     }
     Ok(())

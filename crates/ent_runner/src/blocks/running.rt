@@ -6,7 +6,7 @@ ghost use Rattle.ent_runner.specs.Blocks.{HaveFilled, IsBrokenOff};
 ghost use Rattle.ent_runner.specs.Blocks.Refusing.{IfLost, IfNotLost};
 ghost use Rattle.ent_runner.specs.declared.blocks.run_error.RunError.TheVariants as failed;
 
-use crate::blocks::room::{Room, WORKERS, check, prepare};
+use crate::blocks::room::{Room, WORKERS, check_run, prepare};
 use crate::blocks::run_error::RunError;
 use crate::blocks::splitting::split;
 use crate::crew::first_error;
@@ -28,49 +28,6 @@ use std::thread::Threads;
 ///
 /// Each worker takes the next system that isn't taken yet, until none is left. If a thread can't be
 /// started, another one does its work. One worker starts no thread.
-///
-/// ```
-/// # #[cfg(feature = "std")] {
-/// use forgeni::{run_in_blocks, BlockCommands, Entities, StdThreads, SyncPoint};
-///
-/// let spawn = |commands: &mut BlockCommands<'_, String>| match commands.spawn() {
-///     Ok(one) => commands.push(format!("{one}")),
-///     Err(refused) => refused.or_memory(),
-/// };
-/// let (blocks, reservers) = Entities::new().open_in_blocks(&[64, 64])?;
-/// let (mut logs, reservers) = run_in_blocks(&StdThreads, &blocks, reservers, &[spawn; 2], 4)?;
-/// let mut entities = blocks.close(reservers)?;
-/// let mut born = Vec::new();
-/// let _sync = SyncPoint::begin(&mut entities, &mut logs, &mut born)?;
-/// born.sort_unstable();
-/// assert_eq!(born.iter().map(|one| one.index()).collect::<Vec<_>>(), [0, 64]);
-/// # }
-/// # Ok::<(), Box<dyn std::error::Error + Send + Sync>>(())
-/// ```
-///
-/// If a system returns an error, the reservers are lost, and `close_lost` ends the phase:
-///
-/// ```
-/// # #[cfg(feature = "std")] {
-/// use forgeni::{run_in_blocks, BlockCommands, Entities, OutOfMemory, RunError, StdThreads};
-///
-/// fn fails(commands: &mut BlockCommands<'_, ()>) -> Result<(), OutOfMemory> {
-///     let _reserved = commands.spawn();
-///     Err(OutOfMemory)
-/// }
-///
-/// let (blocks, reservers) = Entities::new().open_in_blocks(&[2, 2])?;
-/// let run = run_in_blocks(&StdThreads, &blocks, reservers, &[fails; 2], 1);
-/// let (reservers, error) = run.err().ok_or("it ran")?.into_parts();
-/// assert_eq!((reservers.len(), error), (0, RunError::Lost(Some(OutOfMemory))));
-///
-/// // The blocks count as used up, so a flush brings all of their handles to life.
-/// let mut entities = blocks.close_lost(reservers)?;
-/// entities.flush(&mut Vec::new())?;
-/// assert_eq!(entities.len(), 4);
-/// # }
-/// # Ok::<(), Box<dyn std::error::Error + Send + Sync>>(())
-/// ```
 ///
 /// # Errors
 ///
@@ -124,7 +81,7 @@ where
     ensures lost_some { IfErr result (λ h. IfLost (λ _. 0 < length systems.now) h.error) }
     ensures lost_reservers { IfErr result (λ h. IfLost (λ _. h.value.items ≡ []) h.error) }
 {
-    if let Err(error) = check(&reservers, systems.len(), workers) {
+    if let Err(error) = check_run(reservers.len(), systems.len(), workers) {
         return Err(HandedBack::new(reservers, error));
     }
     if systems.is_empty() {
