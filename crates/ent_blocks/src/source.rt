@@ -1,5 +1,6 @@
 use crate::block_reserver::BlockReserver;
 use crate::blocks::Blocks;
+use crate::deals::Deals;
 use crate::ended::Ended;
 use crate::in_blocks::InBlocks;
 use crate::opening::open_in_blocks;
@@ -93,12 +94,8 @@ impl Phased for Blocks {
     }
 }
 
-/// Blocks that refuse a request for more than they have left: any number of them.
 impl InBlocks for Blocks {
-    ghost use Rattle.std.specs.Prelude.{◌≡◌, refl};
     ghost use Rattle.ent_blocks.specs.Blocks.{IsUnused, wanted_by};
-
-    ghost may_have = { λ _. Unit {0} };
 
     ghost blocks = { λ phase. phase.blocks };
 
@@ -107,6 +104,25 @@ impl InBlocks for Blocks {
     ghost wants = { λ reserver. wanted_by reserver };
 
     ghost fresh = { λ reserver. IsUnused reserver };
+
+    fn size_of(reserver: &BlockReserver) -> u32 {
+        reserver.size()
+    }
+
+    fn used_of(reserver: &BlockReserver) -> u32 {
+        reserver.used()
+    }
+
+    fn wanted_of(reserver: &BlockReserver) -> u32 {
+        reserver.wanted()
+    }
+}
+
+/// Blocks that refuse a request for more than they have left: any number of them.
+impl Deals for Blocks {
+    ghost use Rattle.std.specs.Prelude.{◌≡◌, refl};
+
+    ghost may_have = { λ _. Unit {0} };
 
     ghost ended = { λ ended. ended };
 
@@ -128,18 +144,6 @@ impl InBlocks for Blocks {
         sizes: &[u32],
     ) -> Result<(Self, Vec<BlockReserver>), (Entities, Memory)> {
         open_in_blocks(alloc, entities, sizes)
-    }
-
-    fn size_of(reserver: &BlockReserver) -> u32 {
-        reserver.size()
-    }
-
-    fn used_of(reserver: &BlockReserver) -> u32 {
-        reserver.used()
-    }
-
-    fn wanted_of(reserver: &BlockReserver) -> u32 {
-        reserver.wanted()
     }
 
     fn into_ended(closed: Ended) -> Ended {

@@ -2,7 +2,7 @@
 -- Declares nothing.
 pub use Rattle.std.proofs.Common.{All, Err, Global, IfErr, IsErrAnd, List, Ok, Result, Vec, [], ap}
 pub use Rattle.std.proofs.Common.{append_assoc, arith, inl, inr, length, map, refl, reverse, rules}
-pub use Rattle.std.proofs.Common.{subst, sym, take, vec_len, ℕ, ◌++◌, ◌+◌, ◌-◌, ◌<◌, ◌^◌, ◌↔◌, ◌∙◌}
+pub use Rattle.std.proofs.Common.{drop, subst, sym, take, vec_len, ℕ, ◌++◌, ◌+◌, ◌-◌, ◌<◌, ◌^◌, ◌↔◌, ◌∙◌}
 pub use Rattle.std.proofs.Common.{◌∷◌, ◌≡◌, ◌≢◌, ◌≤◌, ◌⊎◌}
 pub use Rattle.std.proofs.lemmas.Grind.{common_steps}
 pub use Rattle.std.proofs.lemmas.List.{append-nil, length-append, length-take-le, map-append}

@@ -8,3 +8,4 @@ pub mod Phases
 pub mod Reserving
 pub mod Image
 pub mod InWorld
+pub mod Lending

@@ -10,7 +10,7 @@ use crate::opening::{Opening, begin};
 use crate::reserver::Reserver;
 use crate::share_error::ShareError;
 use ent_alloc::Entities;
-use ent_blocks::{InBlocks, Overflow};
+use ent_blocks::{Deals, InBlocks, Overflow};
 use ent_handle::HandedBack;
 use std::alloc::Global;
 
@@ -25,7 +25,7 @@ use std::alloc::Global;
 /// [`HandedBack`] has the allocator as it was, and the first of these errors that applies:
 /// [`ShareError::NeedsFlush`], [`ShareError::Count`] if the source has no form for so many blocks,
 /// [`ShareError::Memory`].
-pub fn share_in<J: Numbering, S: InBlocks>(
+pub fn share_in<J: Numbering, S: Deals>(
     alloc: Global,
     entities: Entities,
     sizes: &[u32],

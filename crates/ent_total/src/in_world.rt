@@ -11,7 +11,7 @@ use crate::opening::{Opening, begin};
 use crate::share_error::ShareError;
 use crate::world::World;
 use ent_alloc::{Entities, Phased, Refused, Reserved, Source};
-use ent_blocks::{Ended, InBlocks};
+use ent_blocks::{Deals, Ended, InBlocks};
 use ent_handle::{HandedBack, Handle, Memory};
 use ent_world::{View, WorldRest};
 use std::alloc::Global;
@@ -34,14 +34,14 @@ use std::marker::Model;
 /// # Ok::<(), Box<dyn std::error::Error + Send + Sync>>(())
 /// ```
 #[derive(Drop)]
-pub struct InWorld<S: InBlocks> {
+pub struct InWorld<S: Deals> {
     pub(crate) source: S,
     pub(crate) rest: WorldRest,
     pub(crate) of_world: u64,
     pub(crate) spawned: u32,
 }
 
-impl<S: InBlocks> Model for InWorld<S> {
+impl<S: Deals> Model for InWorld<S> {
     ghost use Rattle.ent_total.specs.InWorld.{InWorld, in_world_code};
     ghost use Rattle.ent_world.specs.InBlocks.{BelongTogether};
 
@@ -59,7 +59,7 @@ impl<S: InBlocks> Model for InWorld<S> {
     ghost invariant = { λ w. BelongTogether (S.start w.source) (S.rows w.source) w.rest };
 }
 
-impl<S: InBlocks> Source for InWorld<S> {
+impl<S: Deals> Source for InWorld<S> {
     type Reserver = S::Reserver;
 
     ghost serves = { λ w reserver. S.serves w.source reserver };
@@ -95,7 +95,7 @@ impl<S: InBlocks> Source for InWorld<S> {
     }
 }
 
-impl<S: InBlocks> Phased for InWorld<S> {
+impl<S: Deals> Phased for InWorld<S> {
     ghost use Rattle.std.specs.Prelude.{◌≡◌, All, length};
     ghost use Rattle.ent_total.specs.InWorld.{IsEndOf};
 
@@ -165,6 +165,28 @@ impl<S: InBlocks> Phased for InWorld<S> {
     }
 }
 
+impl<S: Deals> InBlocks for InWorld<S> {
+    ghost blocks = { λ w. S.blocks w.source };
+
+    ghost block = { S.block };
+
+    ghost wants = { S.wants };
+
+    ghost fresh = { S.fresh };
+
+    fn size_of(reserver: &S::Reserver) -> u32 {
+        S::size_of(reserver)
+    }
+
+    fn used_of(reserver: &S::Reserver) -> u32 {
+        S::used_of(reserver)
+    }
+
+    fn wanted_of(reserver: &S::Reserver) -> u32 {
+        S::wanted_of(reserver)
+    }
+}
+
 /// Deals the front of the world's pool in blocks of these sizes, one after the other: a block is
 /// smaller where the pool ends. The reservers are in the order of the sizes.
 ///
@@ -173,7 +195,7 @@ impl<S: InBlocks> Phased for InWorld<S> {
 /// [`HandedBack`] has the world as it was, and the first of these errors that applies:
 /// [`ShareError::NeedsFlush`], [`ShareError::Count`] if the source has no form for so many blocks,
 /// [`ShareError::Memory`].
-pub fn open_in<J: Numbering, S: InBlocks>(
+pub fn open_in<J: Numbering, S: Deals>(
     alloc: Global,
     world: World,
     sizes: &[u32],

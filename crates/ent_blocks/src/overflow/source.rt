@@ -1,3 +1,4 @@
+use crate::deals::Deals;
 use crate::ended::Ended;
 use crate::in_blocks::InBlocks;
 use crate::overflow::opening::open_with_overflow;
@@ -94,13 +95,10 @@ impl Phased for Overflow {
     }
 }
 
-/// Blocks whose reservers go on to one cursor that all share: at most 1,023 of them.
 impl InBlocks for Overflow {
-    ghost use Rattle.std.specs.Prelude.{◌≡◌, ◌+◌, ◌-◌, ◌<◌, ◌^◌, min};
+    ghost use Rattle.std.specs.Prelude.{◌+◌, ◌-◌, ◌^◌, min};
     ghost use Rattle.ent_blocks.specs.Overflow.{IsUnused};
     ghost use Rattle.ent_shared.specs.Record.{requested_by};
-
-    ghost may_have = { λ count. count < 1024 };
 
     ghost blocks = { λ phase. phase.blocks };
 
@@ -109,6 +107,25 @@ impl InBlocks for Overflow {
     ghost wants = { λ caller. min (caller.block.used + requested_by caller.past.own) (2 ^ 32 - 1) };
 
     ghost fresh = { λ caller. IsUnused caller };
+
+    fn size_of(caller: &OverflowReserver) -> u32 {
+        caller.size()
+    }
+
+    fn used_of(caller: &OverflowReserver) -> u32 {
+        caller.used()
+    }
+
+    fn wanted_of(caller: &OverflowReserver) -> u32 {
+        caller.wanted()
+    }
+}
+
+/// Blocks whose reservers go on to one cursor that all share: at most 1,023 of them.
+impl Deals for Overflow {
+    ghost use Rattle.std.specs.Prelude.{◌≡◌, ◌<◌};
+
+    ghost may_have = { λ count. count < 1024 };
 
     ghost ended = { λ ended. ended };
 
@@ -130,18 +147,6 @@ impl InBlocks for Overflow {
         sizes: &[u32],
     ) -> Result<(Self, Vec<OverflowReserver>), (Entities, Memory)> {
         open_with_overflow(alloc, entities, sizes)
-    }
-
-    fn size_of(caller: &OverflowReserver) -> u32 {
-        caller.size()
-    }
-
-    fn used_of(caller: &OverflowReserver) -> u32 {
-        caller.used()
-    }
-
-    fn wanted_of(caller: &OverflowReserver) -> u32 {
-        caller.wanted()
     }
 
     fn into_ended(closed: Ended) -> Ended {

@@ -12,7 +12,7 @@ returns-in-Ok-begin-clause-fresh g c = rw c.in-Ok-begin.ensures.opening c.in-Ok-
 
 pub returns-in-Err-begin-clause-no_count : goal.returns-in-Err-begin-clause-no_count
 returns-in-Err-begin-clause-no_count g c =
-    let fits : g.S.InBlocks.may_have (length c.args.sizes.now) = search rules in
+    let fits : g.S.Deals.may_have (length c.args.sizes.now) = search rules in
     (
       λ is. let no : Memory ≡ Count = sym (ap (λ h. h.error) c.new-in-Err-begin.ensures) ∙ is in absurd (cc),
       λ h. absurd (h.1 fits),
@@ -20,6 +20,6 @@ returns-in-Err-begin-clause-no_count g c =
 
 pub returns-in-Err-begin-clause-handed_back : goal.returns-in-Err-begin-clause-handed_back
 returns-in-Err-begin-clause-handed_back g c =
-    let start = g.met.S.InBlocks.start_is _ _ _ c.end_with_all.ensures in
-    let rows = g.met.S.InBlocks.rows_are _ _ _ c.end_with_all.ensures in
+    let start = g.met.S.Deals.start_is _ _ _ c.end_with_all.ensures in
+    let rows = g.met.S.Deals.rows_are _ _ _ c.end_with_all.ensures in
     search (rules, same_entities, start, rows)

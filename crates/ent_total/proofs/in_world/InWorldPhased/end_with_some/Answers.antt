@@ -2,6 +2,6 @@ use Rattle.ent_total.proofs.in_world.InWorldPhased.end_with_some.Goals as goal
 
 pub invariant_of-result : goal.invariant_of-result
 invariant_of-result g c =
-    let start = g.met.S.InBlocks.start_lost_is _ _ _ c.end_with_some.ensures in
-    let rows = g.met.S.InBlocks.rows_lost_are _ _ _ c.end_with_some.ensures in
+    let start = g.met.S.Deals.start_lost_is _ _ _ c.end_with_some.ensures in
+    let rows = g.met.S.Deals.rows_lost_are _ _ _ c.end_with_some.ensures in
     rw (c.into_ended.ensures, start, rows) c.self.invariant

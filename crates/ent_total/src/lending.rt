@@ -1,0 +1,43 @@
+//! What reservers of blocks reserve with is lent to a run of systems, and comes back.
+ghost use Rattle.std.specs.Prelude.{◌≡◌, ◌≤◌, All, IfOk, OnErr, OnOk, length, map};
+ghost use Rattle.ent_blocks.specs.Drawing.{IsOfPhase};
+ghost use Rattle.ent_total.specs.Lending.{lent_out, returned};
+ghost use Rattle.ent_total.specs.Phases.{reservers_of};
+
+use crate::numbering::Numbering;
+use crate::of_blocks::OfBlocks;
+use crate::reserver::Reserver;
+use ent_blocks::BlockReserver;
+use ent_handle::Memory;
+use std::alloc::Global;
+
+impl<J: Numbering, S: OfBlocks> Reserver<J, S> {
+    /// Takes out what it reserves with. What it has then is used up.
+    fn lend(&mut self) -> BlockReserver
+        ensures lent { result ≡ self.old.reserver }
+        ensures left { self.new ≡ lent_out self.old }
+        ensures of { IsOfPhase (S.of self.old.source) result }
+    {
+        self.reserver.take()
+    }
+}
+
+/// Takes out what these reserve with. What they have then is used up.
+///
+/// # Errors
+///
+/// [`Memory`], and they are as they were.
+pub(crate) fn lend_all<J: Numbering, S: OfBlocks>(
+    alloc: Global,
+    reservers: &mut [Reserver<J, S>],
+) -> Result<Vec<BlockReserver>, Memory>
+    ensures lent { IfOk result (λ lent. lent.items ≡ reservers_of reservers.old) }
+    ensures left { OnOk result (reservers.new ≡ map lent_out reservers.old) }
+    ensures err { OnErr result (reservers.new ≡ reservers.old) }
+{
+    let mut lent = Vec::with_capacity(alloc, reservers.len())?;
+    for reserver in reservers.iter_mut() {
+        lent.push_reserved(reserver.lend());
+    }
+    Ok(lent)
+}

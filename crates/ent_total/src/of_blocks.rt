@@ -1,0 +1,47 @@
+ghost use Rattle.std.specs.Prelude.{◌≡◌};
+ghost use Rattle.ent_blocks.specs.Blocks.{Blocks as BlocksValue, Reserver as BlockReserverValue};
+ghost use Rattle.ent_blocks.specs.Drawing.{IsOfPhase};
+
+use crate::in_world::InWorld;
+use ent_alloc::Phased;
+use ent_blocks::{BlockReserver, Blocks, InBlocks};
+
+/// A source whose reservers are those of blocks that refuse: an allocator's, or a world's.
+pub trait OfBlocks: InBlocks<Reserver = BlockReserver> {
+    ghost of: { Self → BlocksValue };
+
+    /// Returns the blocks.
+    fn blocks(&self) -> &Blocks
+        ensures { result.now ≡ of self.now };
+
+    // It serves the reservers of the blocks, and no others.
+    ghost serves_them: { (s : Self) (r : BlockReserverValue) → IsOfPhase (of s) r
+        → Self.Source.serves s r };
+
+    ghost serves_no_others: { (s : Self) (r : BlockReserverValue)
+        → Self.Source.serves s r → IsOfPhase (of s) r };
+}
+
+impl OfBlocks for Blocks {
+    ghost of = { λ s. s };
+
+    fn blocks(&self) -> &Blocks {
+        self
+    }
+
+    ghost serves_them = { λ s r is. is };
+
+    ghost serves_no_others = { λ s r is. is };
+}
+
+impl OfBlocks for InWorld<Blocks> {
+    ghost of = { λ s. s.source };
+
+    fn blocks(&self) -> &Blocks {
+        &self.source
+    }
+
+    ghost serves_them = { λ s r is. is };
+
+    ghost serves_no_others = { λ s r is. is };
+}
