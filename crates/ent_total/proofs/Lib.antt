@@ -1,3 +1,4 @@
+pub mod Lent
 pub mod Recorded
 pub mod Unused
 pub mod Walking

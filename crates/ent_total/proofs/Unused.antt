@@ -3,6 +3,7 @@ use Rattle.ent_total.proofs.Common.{rules, ◌≡◌, List, [], ◌∷◌, refl,
 use Rattle.ent_total.proofs.Common.{Allocator, after_history, Reserver, records_of, own_of_all}
 use Rattle.ent_total.proofs.Common.{history_of}
 use Rattle.ent_alloc.specs.Entities.{Entities}
+use Rattle.ent_total.specs.declared.world.World.{World}
 
 abbrev IsUnused : Reserver → Type 0
 IsUnused r = r.own.entries ≡ []
@@ -20,3 +21,9 @@ nothing-reserved s rs unused = search (rules, own-none)
 -- entities of the same allocator with the same rows
 pub same_entities : (a b : Entities) → a.allocator ≡ b.allocator → a.rows ≡ b.rows → a ≡ b
 same_entities a b allocators rows = λ i. record { allocator = allocators i; rows = rows i }
+
+-- worlds of the same value and number, with as many births
+pub same_world : (a b : World) → a.world ≡ b.world → a.number ≡ b.number → a.spawned ≡ b.spawned
+    → a ≡ b
+same_world a b worlds numbers spawned =
+    λ i. record { world = worlds i; number = numbers i; spawned = spawned i }

@@ -1,8 +1,8 @@
 //! What reservers of blocks reserve with is lent to a run of systems, and comes back.
-ghost use Rattle.std.specs.Prelude.{◌≡◌, ◌≤◌, All, IfOk, OnErr, OnOk, length, map};
+ghost use Rattle.std.specs.Prelude.{◌≡◌, ◌<◌, ◌≤◌, All, IfOk, OnErr, OnOk, Some, length, map};
 ghost use Rattle.ent_blocks.specs.Drawing.{IsOfPhase};
 ghost use Rattle.ent_total.specs.Lending.{lent_out, returned};
-ghost use Rattle.ent_total.specs.Phases.{reservers_of};
+ghost use Rattle.ent_total.specs.Phases.{AreOf, reservers_of};
 
 use crate::numbering::Numbering;
 use crate::of_blocks::OfBlocks;
@@ -20,6 +20,14 @@ impl<J: Numbering, S: OfBlocks> Reserver<J, S> {
     {
         self.reserver.take()
     }
+
+    /// Gives it back what it reserves with.
+    fn put_back(&mut self, mine: BlockReserver)
+        requires { IsOfPhase (S.of self.old.source) mine }
+        ensures { self.new ≡ record self.old { reserver = mine } }
+    {
+        self.reserver = mine;
+    }
 }
 
 /// Takes out what these reserve with. What they have then is used up.
@@ -33,6 +41,7 @@ pub(crate) fn lend_all<J: Numbering, S: OfBlocks>(
 ) -> Result<Vec<BlockReserver>, Memory>
     ensures lent { IfOk result (λ lent. lent.items ≡ reservers_of reservers.old) }
     ensures left { OnOk result (reservers.new ≡ map lent_out reservers.old) }
+    ensures memory { OnErr result (0 < length reservers.old) }
     ensures err { OnErr result (reservers.new ≡ reservers.old) }
 {
     let mut lent = Vec::with_capacity(alloc, reservers.len())?;
@@ -40,4 +49,24 @@ pub(crate) fn lend_all<J: Numbering, S: OfBlocks>(
         lent.push_reserved(reserver.lend());
     }
     Ok(lent)
+}
+
+/// Gives the first ones of these back what they reserve with, in their order.
+pub(crate) fn put_back<J: Numbering, S: OfBlocks>(
+    reservers: &mut [Reserver<J, S>],
+    source: &S,
+    number: u64,
+    lent: Vec<BlockReserver>,
+)
+    requires stands_for { J.phase_of S number ≡ Some source.now }
+    requires of { AreOf number reservers.old }
+    requires own { All (IsOfPhase (S.of source.now)) lent.items }
+    requires few { length lent.items ≤ length reservers.old }
+    ensures { reservers.new ≡ returned reservers.old lent.items }
+{
+    let mut at = 0;
+    for mine in lent {
+        reservers[at].put_back(mine);
+        at += 1;
+    }
 }

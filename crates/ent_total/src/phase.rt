@@ -98,6 +98,13 @@ impl<J: Numbering, S: Phased> Phase<J, S> {
         }
     }
 
+    pub(crate) fn source(&self) -> &S
+        ensures source { result.now ≡ self.now.source }
+        ensures number { J.phase_of S self.now.number ≡ Some result.now }
+    {
+        &self.source
+    }
+
     /// Returns the number of reservers that the phase was opened with, whether they exist, have
     /// come back, or were lost.
     ///

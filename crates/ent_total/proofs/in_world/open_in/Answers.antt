@@ -1,7 +1,6 @@
-use Rattle.ent_total.proofs.Common.{rules, arith, length, ◌≡◌, ◌∙◌, ap, sym, All-same}
-use Rattle.ent_total.specs.declared.share_error.ShareError.{ShareError}
+use Rattle.ent_total.proofs.Common.{rules, arith, length, ◌≡◌, ◌∙◌, ap, sym}
 use Rattle.ent_total.specs.declared.share_error.ShareError.TheVariants.{Count, NeedsFlush, Memory}
-use Rattle.ent_total.proofs.Unused.{memory_alone}
+use Rattle.ent_total.proofs.Unused.{same_world}
 use Rattle.ent_total.proofs.in_world.open_in.Goals as goal
 
 pub begin-requires-clause-room : goal.begin-requires-clause-room
@@ -17,8 +16,28 @@ returns-in-Ok-begin-clause-fresh g c = rw c.in-Ok-begin.ensures.opening c.in-Ok-
 
 pub returns-in-Ok-begin-clause-needs_flush : goal.returns-in-Ok-begin-clause-needs_flush
 returns-in-Ok-begin-clause-needs_flush g c =
-    (absurd, λ some. c.if-needs_flush.false (c.needs_flush.ensures.1 some))
+    (λ no. absurd no, λ some. let yes = c.needs_flush.ensures.1 some in let no = c.if-needs_flush.false in absurd (cc))
 
 pub returns-in-Ok-begin-clause-no_count : goal.returns-in-Ok-begin-clause-no_count
 returns-in-Ok-begin-clause-no_count g c =
-    (absurd, λ many. many.1 (c.fits.ensures.0 c.if-not-fits.false))
+    (λ no. absurd no, λ many. absurd (many.1 (c.fits.ensures.0 c.if-not-fits.false)))
+
+pub returns-in-Err-begin-clause-needs_flush : goal.returns-in-Err-begin-clause-needs_flush
+returns-in-Err-begin-clause-needs_flush g c = (
+  λ is. let no : Memory ≡ NeedsFlush = sym (ap (λ h. h.error) c.new-in-Err-begin.ensures) ∙ is in
+      absurd (cc),
+  λ some. let yes = c.needs_flush.ensures.1 some in let no = c.if-needs_flush.false in absurd (cc),
+)
+
+pub returns-in-Err-begin-clause-no_count : goal.returns-in-Err-begin-clause-no_count
+returns-in-Err-begin-clause-no_count g c = (
+  λ is. let no : Memory ≡ Count = sym (ap (λ h. h.error) c.new-in-Err-begin.ensures) ∙ is in
+      absurd (cc),
+  λ many. absurd (many.1 (c.fits.ensures.0 c.if-not-fits.false)),
+)
+
+pub returns-in-Err-begin-clause-handed_back : goal.returns-in-Err-begin-clause-handed_back
+returns-in-Err-begin-clause-handed_back g c =
+    let e = c.end_with_all.ensures in
+    let start = g.met.S.Deals.start_is _ _ _ e.closes in
+    search (rules, same_world, start)

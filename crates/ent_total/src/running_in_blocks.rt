@@ -1,0 +1,135 @@
+ghost use Rattle.std.specs.Prelude.{◌≡◌, ◌<◌, length, map, IfOk, IfErr, IsErrOf};
+ghost use Rattle.ent_blocks.specs.Blocks.{blocks_of};
+ghost use Rattle.ent_runner.specs.Blocks.{HaveFilled, IsBrokenOff};
+ghost use Rattle.ent_runner.specs.Blocks.Refusing.{IfLost, IfNotLost, IsRefused};
+ghost use Rattle.ent_runner.specs.declared.blocks.run_error.RunError.TheVariants as failed;
+ghost use Rattle.ent_total.specs.Lending.{lent_out, returned};
+ghost use Rattle.ent_total.specs.Phases.{AreOf, reservers_of};
+
+use crate::lending::{lend_all, put_back};
+use crate::numbering::Numbering;
+use crate::of_blocks::OfBlocks;
+use crate::phase::Phase;
+use crate::reserver::Reserver;
+use crate::returning::are_of;
+use ent_blocks::Blocks;
+use ent_log::Log;
+use ent_runner::{LogSystem, RunError, check_run};
+use std::alloc::Global;
+use std::thread::Threads;
+
+/// Runs each system once, on that many workers side by side, 1 to 64, each with the reserver at its
+/// position and a log of its own. The logs are in the order of the systems.
+///
+/// The handles of a system's spawns are the next ones of its block, in the pool's order, whatever
+/// the others do, whichever worker runs it, and however many workers there are. So if what a system
+/// does follows from what it sees, all logs are the same each time, handles included.
+///
+/// Each worker takes the next system that isn't taken yet, until none is left. If a thread can't be
+/// started, another one does its work. One worker starts no thread.
+///
+/// ```
+/// # #[cfg(feature = "std")] {
+/// use forgeni::{run_in_blocks, BlockCommands, Entities, StdThreads, SyncPoint};
+///
+/// let spawn = |commands: &mut BlockCommands<'_, String>| match commands.spawn() {
+///     Ok(one) => commands.push(format!("{one}")),
+///     Err(refused) => refused.or_memory(),
+/// };
+/// let (phase, mut reservers) = Entities::new().share_in_blocks(&[64, 64])?;
+/// let mut logs = run_in_blocks(&StdThreads, &phase, &mut reservers, &[spawn; 2], 4)?;
+/// let mut entities = phase.close(reservers)?.into_entities()?;
+/// let mut born = Vec::new();
+/// let _sync = SyncPoint::begin(&mut entities, &mut logs, &mut born)?;
+/// born.sort_unstable();
+/// assert_eq!(born.iter().map(|one| one.index()).collect::<Vec<_>>(), [0, 64]);
+/// # }
+/// # Ok::<(), Box<dyn std::error::Error + Send + Sync>>(())
+/// ```
+///
+/// If a system returns an error, what is left of the blocks counts as used:
+///
+/// ```
+/// # #[cfg(feature = "std")] {
+/// use forgeni::{run_in_blocks, BlockCommands, Entities, OutOfMemory, RunError, StdThreads};
+///
+/// fn fails(commands: &mut BlockCommands<'_, ()>) -> Result<(), OutOfMemory> {
+///     let _reserved = commands.spawn();
+///     Err(OutOfMemory)
+/// }
+///
+/// let (phase, mut reservers) = Entities::new().share_in_blocks(&[2, 2])?;
+/// let run = run_in_blocks(&StdThreads, &phase, &mut reservers, &[fails; 2], 1);
+/// assert_eq!(run.err(), Some(RunError::Lost(Some(OutOfMemory))));
+///
+/// // A flush brings all of their handles to life.
+/// let mut entities = phase.close(reservers)?.into_entities()?;
+/// entities.flush(&mut Vec::new())?;
+/// assert_eq!(entities.len(), 4);
+/// # }
+/// # Ok::<(), Box<dyn std::error::Error + Send + Sync>>(())
+/// ```
+///
+/// # Errors
+///
+/// The first of these that applies:
+///
+/// - [`RunError::Workers`], [`RunError::Systems`] if there are more than 65,536,
+///   [`RunError::Reservers`], [`RunError::OtherPhase`], [`RunError::Memory`]: no system ran, and
+///   the reservers are as they were. With no systems, it doesn't allocate.
+/// - [`RunError::Lost`]: a system returned an error, and this has the first one in the order of the
+///   systems. Or some systems didn't run, since no worker has memory for another one: then it has
+///   none. The logs are dropped, and the blocks are used up.
+///
+/// # Panics
+///
+/// If a system panics, the panic is propagated when all workers have ended. The logs are dropped,
+/// and the blocks are used up.
+pub fn run_in_blocks<R, J: Numbering, S: OfBlocks, C, T, E>(
+    rt: &R,
+    alloc: Global,
+    phase: &Phase<J, S>,
+    reservers: &mut [Reserver<J, S>],
+    systems: &[T],
+    workers: usize,
+) -> Result<Vec<Log<C>>, RunError<E>>
+where
+    R: Threads + Sync,
+    C: Drop + Send,
+    T: LogSystem<C, Blocks, E> + Sync,
+    E: Drop + Send,
+    ensures ok { IfOk result (λ logs. HaveFilled T.may_log systems.now
+        (S.of phase.now.source).start.pool (blocks_of (reservers_of reservers.old)) logs.items
+        (blocks_of (reservers_of reservers.new))) }
+    ensures same { reservers.new ≡ returned reservers.old (reservers_of reservers.new) }
+    ensures refused { IsRefused workers (length systems.now) (length reservers.old)
+        (AreOf phase.now.number reservers.old) (λ why. IsErrOf result why) }
+    ensures memory_some { IsErrOf result failed.Memory → 0 < length systems.now }
+    ensures as_they_were { IfErr result (IfNotLost (reservers.new ≡ reservers.old)) }
+
+    // What is left if the systems were broken off.
+    ensures lost { IfErr result (IfLost (IsBrokenOff T.may_log T.may_leave systems.now workers
+        (S.of phase.now.source).start.pool (blocks_of (reservers_of reservers.old)))) }
+    ensures used_up { IfErr result (IfLost (λ _. reservers.new ≡ map lent_out reservers.old)) }
+{
+    check_run(reservers.len(), systems.len(), workers)?;
+    if !are_of(phase.number(), reservers) {
+        return Err(RunError::OtherPhase);
+    }
+    let Ok(lent) = lend_all(alloc, reservers) else {
+        return Err(RunError::Memory);
+    };
+    let blocks = phase.source().blocks();
+    match ent_runner::run_in_blocks(rt, alloc, blocks, lent, systems, workers) {
+        Ok((logs, lent)) => {
+            put_back(reservers, phase.source(), phase.number(), lent);
+            Ok(logs)
+        }
+        Err(back) => {
+            // None, if they are lost.
+            let (lent, error) = back.into_parts();
+            put_back(reservers, phase.source(), phase.number(), lent);
+            Err(error)
+        }
+    }
+}
