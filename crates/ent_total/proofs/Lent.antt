@@ -1,13 +1,14 @@
 -- What lists of reservers are while they are walked, and what they reserve with is taken or put.
-use Rattle.ent_total.proofs.Common.{rules, ◌≡◌, ◌∙◌, refl, ap, sym, ℕ, suc, zero, ◌<◌, ◌+◌, ◌≤◌, List}
-use Rattle.ent_total.proofs.Common.{[], ◌∷◌, ◌++◌, arith, length, map, take, drop, All}
-use Rattle.ent_total.specs.Lending.{returned}
-use Rattle.ent_total.specs.Phases.{Reserver}
+use Rattle.ent_total.proofs.Common.{rules, ◌≡◌, ◌∙◌, refl, ap, sym, ℕ, ◌<◌, ◌+◌, ◌≤◌, List, All}
+use Rattle.ent_total.proofs.Common.{[], ◌∷◌, ◌++◌, arith, length, map, take, drop}
+use Rattle.ent_total.specs.Lending.{AreFrom, lent_out, returned}
+use Rattle.ent_total.specs.Phases.{Reserver, reservers_of}
+use Rattle.std.specs.Prelude.{suc}
+use Rattle.std.proofs.lemmas.List.Elements.{All-cons, All-map, All-tail}
 use Rattle.ent_blocks.specs.Blocks.{Reserver as BlockReserver}
-use Rattle.std.proofs.Common.{get_or}
+use Rattle.std.proofs.Common.{get_or, set}
 use Rattle.std.proofs.lemmas.List.{length-map, length-take, drop_more, get_or_at, length-append}
 use Rattle.std.proofs.lemmas.List.{take-append-drop}
-use Rattle.std.specs.List.{set}
 
 -- the item at the place that a walk has reached is still what it was
 pub unchanged_yet : {X : Type 0} (f : X → X) (xs ys : List X) (i : ℕ) (x : X) → i < length xs
@@ -26,9 +27,50 @@ module _ {S : Type 0} where
       (record (get_or (returned rs back) (length back) d) { reserver = b })
       ≡ returned rs (back ++ b ∷ [])
   returned_more [] back d b lt = absurd (omega arith)
-  returned_more (r ∷ rs) [] d b lt = search rules
+  returned_more (r ∷ rs) [] d b lt = refl
   returned_more (r ∷ rs) (x ∷ back) d b lt =
-      search (rules, returned_more rs back d b (omega arith))
+      ap (λ l. record r { reserver = x } ∷ l) (returned_more rs back d b (omega arith))
+
+  -- what is put back changes no source
+  pub sources_stay : (s : S) (rs : List (Reserver S BlockReserver)) (back : List BlockReserver)
+      → AreFrom s rs → AreFrom s (returned rs back)
+  sources_stay s rs [] from = from
+  sources_stay s [] (b ∷ back) from = from
+  sources_stay s (r ∷ rs) (b ∷ back) from =
+      All-cons (λ (x : Reserver S BlockReserver). x.source ≡ s) _ _ (from 0 r (omega arith))
+      (sources_stay s rs back (All-tail (λ (x : Reserver S BlockReserver). x.source ≡ s) r rs from))
+
+  pub sources_lent : (s : S) (rs : List (Reserver S BlockReserver)) → AreFrom s rs
+      → AreFrom s (map lent_out rs)
+  sources_lent s rs from = All-map (λ (x : Reserver S BlockReserver). x.source ≡ s) lent_out rs from
+
+  pub length-returned : (rs : List (Reserver S BlockReserver)) (back : List BlockReserver)
+      → length (returned rs back) ≡ length rs
+  length-returned rs [] = refl
+  length-returned [] (b ∷ back) = refl
+  length-returned (r ∷ rs) (b ∷ back) = ap suc (length-returned rs back)
+
+  -- all of them are returned as they were
+  pub returned_all : (rs : List (Reserver S BlockReserver))
+      → returned rs (reservers_of rs) ≡ rs
+  returned_all [] = refl
+  returned_all (r ∷ rs) = ap (λ l. r ∷ l) (returned_all rs)
+
+  pub returned_lent : (rs : List (Reserver S BlockReserver)) (back : List BlockReserver)
+      → length back ≡ length rs → returned (map lent_out rs) back ≡ returned rs back
+  returned_lent [] [] same = refl
+  returned_lent [] (b ∷ back) same = absurd (omega arith)
+  returned_lent (r ∷ rs) [] same = absurd (omega arith)
+  returned_lent (r ∷ rs) (b ∷ back) same =
+      ap (λ l. record r { reserver = b } ∷ l) (returned_lent rs back (omega arith))
+
+  pub reservers-returned : (rs : List (Reserver S BlockReserver)) (back : List BlockReserver)
+      → length back ≡ length rs → reservers_of (returned rs back) ≡ back
+  reservers-returned [] [] same = refl
+  reservers-returned [] (b ∷ back) same = absurd (omega arith)
+  reservers-returned (r ∷ rs) [] same = absurd (omega arith)
+  reservers-returned (r ∷ rs) (b ∷ back) same =
+      ap (λ l. b ∷ l) (reservers-returned rs back (omega arith))
 
 -- a walk leaves as many items as there are
 pub walked_length : {X : Type 0} (f : X → X) (xs ys : List X) (i : ℕ)

@@ -3,6 +3,7 @@ use Rattle.std.specs.Prelude.{◌≡◌, ℕ, refl}
 use Rattle.std.specs.Coded.{Coded, code_by, coded×, coded_ℕ}
 use Rattle.ent_blocks.specs.Blocks.{Ended, ended_code}
 use Rattle.ent_world.specs.InBlocks.{WorldRest, rest_code}
+use Rattle.ent_world.specs.OpenWorld.{View}
 
 -- what serves the reservers, the rest of the world, by which number queues know it, and how many
 -- entities were spawned since the last flush
@@ -18,6 +19,10 @@ pub record EndedWorld : Type 0 where
   pub rest : WorldRest
   pub of_world : ℕ
   pub spawned : ℕ
+
+-- what systems see of the world
+abbrev pub view_in : {S : Type 0} → InWorld S → View
+view_in w = record { phase = w.rest.phase; entities = w.rest.store.entities }
 
 -- The phase of the world ended so, with a source that ended as this says.
 pub record IsEndOf {S C : Type 0} (w : InWorld S) (end : EndedWorld) (Closes : C → Type 0)

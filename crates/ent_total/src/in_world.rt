@@ -2,12 +2,14 @@
 ghost use Rattle.std.specs.Prelude.{◌≡◌, ◌<◌, ◌↔◌, All, IfOk, IfErr, IsErrAnd, length, map};
 ghost use Rattle.ent_blocks.specs.Blocks.{blocks_from};
 ghost use Rattle.ent_blocks.specs.Ending.{TakesAnew};
+ghost use Rattle.ent_total.specs.InWorld.{view_in};
 ghost use Rattle.ent_total.specs.declared.share_error.ShareError.TheVariants.{NeedsFlush, Count};
 ghost use Rattle.ent_world.specs.InBlocks.{world_with, world_after};
 ghost use Rattle.ent_world.specs.World.{IsWorld};
 
 use crate::numbering::Numbering;
 use crate::opening::{Opening, begin};
+use crate::phase::Phase;
 use crate::share_error::ShareError;
 use crate::world::World;
 use ent_alloc::{Entities, Phased, Refused, Reserved, Source};
@@ -162,6 +164,37 @@ impl<S: Deals> Phased for InWorld<S> {
             of_world,
             spawned,
         }
+    }
+}
+
+impl<J: Numbering, S: Deals> Phase<J, InWorld<S>> {
+    /// Returns a view of the world, like the one that a system of a frame gets.
+    ///
+    /// ```
+    /// use forgeni::{ComponentId, World};
+    ///
+    /// const AGE: ComponentId = ComponentId(0);
+    ///
+    /// let mut world = World::new();
+    /// let oak = world.spawn(&[(AGE, 80)])?;
+    /// let (phase, _reservers) = world.open_in_blocks(&[10])?;
+    /// assert_eq!(phase.view().get(oak, AGE), Some(80));
+    /// # Ok::<(), Box<dyn std::error::Error>>(())
+    /// ```
+    #[must_use]
+    pub fn view(&self) -> View<'_>
+        ensures { result ≡ view_in self.now.source }
+    {
+        self.source().view()
+    }
+}
+
+impl<S: Deals> InWorld<S> {
+    /// The world as it was when the phase was opened.
+    pub(crate) fn view(&self) -> View<'_>
+        ensures { result ≡ view_in self.now }
+    {
+        self.rest.view()
     }
 }
 

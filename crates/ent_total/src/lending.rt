@@ -1,11 +1,12 @@
 //! What reservers of blocks reserve with is lent to a run of systems, and comes back.
-ghost use Rattle.std.specs.Prelude.{◌≡◌, ◌<◌, ◌≤◌, All, IfOk, OnErr, OnOk, Some, length, map};
+ghost use Rattle.std.specs.Prelude.{◌≡◌, ◌↔◌, ◌<◌, ◌≤◌, All, IfOk, OnErr, OnOk, IsTrue, length, map};
 ghost use Rattle.ent_blocks.specs.Drawing.{IsOfPhase};
-ghost use Rattle.ent_total.specs.Lending.{lent_out, returned};
+ghost use Rattle.ent_total.specs.Lending.{AreFrom, lent_out, returned};
 ghost use Rattle.ent_total.specs.Phases.{AreOf, reservers_of};
 
 use crate::numbering::Numbering;
 use crate::of_blocks::OfBlocks;
+use crate::phase::Phase;
 use crate::reserver::Reserver;
 use ent_blocks::BlockReserver;
 use ent_handle::Memory;
@@ -28,6 +29,22 @@ impl<J: Numbering, S: OfBlocks> Reserver<J, S> {
     {
         self.reserver = mine;
     }
+}
+
+/// Whether these are all of the phase.
+pub(crate) fn are_of<J: Numbering, S: OfBlocks>(
+    phase: &Phase<J, S>,
+    reservers: &[Reserver<J, S>],
+) -> bool
+    ensures number { IsTrue result ↔ AreOf phase.now.number reservers.now }
+    ensures source { IsTrue result → AreFrom phase.now.source reservers.now }
+{
+    for reserver in reservers {
+        if !reserver.is_of(phase) {
+            return false;
+        }
+    }
+    true
 }
 
 /// Takes out what these reserve with. What they have then is used up.
@@ -55,11 +72,9 @@ pub(crate) fn lend_all<J: Numbering, S: OfBlocks>(
 pub(crate) fn put_back<J: Numbering, S: OfBlocks>(
     reservers: &mut [Reserver<J, S>],
     source: &S,
-    number: u64,
     lent: Vec<BlockReserver>,
 )
-    requires stands_for { J.phase_of S number ≡ Some source.now }
-    requires of { AreOf number reservers.old }
+    requires from { AreFrom source.now reservers.old }
     requires own { All (IsOfPhase (S.of source.now)) lent.items }
     requires few { length lent.items ≤ length reservers.old }
     ensures { reservers.new ≡ returned reservers.old lent.items }

@@ -99,8 +99,7 @@ impl<J: Numbering, S: Phased> Phase<J, S> {
     }
 
     pub(crate) fn source(&self) -> &S
-        ensures source { result.now ≡ self.now.source }
-        ensures number { J.phase_of S self.now.number ≡ Some result.now }
+        ensures { result.now ≡ self.now.source }
     {
         &self.source
     }

@@ -6,12 +6,11 @@ ghost use Rattle.ent_runner.specs.declared.blocks.run_error.RunError.TheVariants
 ghost use Rattle.ent_total.specs.Lending.{lent_out, returned};
 ghost use Rattle.ent_total.specs.Phases.{AreOf, reservers_of};
 
-use crate::lending::{lend_all, put_back};
+use crate::lending::{are_of, lend_all, put_back};
 use crate::numbering::Numbering;
 use crate::of_blocks::OfBlocks;
 use crate::phase::Phase;
 use crate::reserver::Reserver;
-use crate::returning::are_of;
 use ent_blocks::Blocks;
 use ent_log::Log;
 use ent_runner::{LogSystem, RunError, check_run};
@@ -113,7 +112,7 @@ where
     ensures used_up { IfErr result (IfLost (λ _. reservers.new ≡ map lent_out reservers.old)) }
 {
     check_run(reservers.len(), systems.len(), workers)?;
-    if !are_of(phase.number(), reservers) {
+    if !are_of(phase, reservers) {
         return Err(RunError::OtherPhase);
     }
     let Ok(lent) = lend_all(alloc, reservers) else {
@@ -122,13 +121,13 @@ where
     let blocks = phase.source().blocks();
     match ent_runner::run_in_blocks(rt, alloc, blocks, lent, systems, workers) {
         Ok((logs, lent)) => {
-            put_back(reservers, phase.source(), phase.number(), lent);
+            put_back(reservers, phase.source(), lent);
             Ok(logs)
         }
         Err(back) => {
             // None, if they are lost.
             let (lent, error) = back.into_parts();
-            put_back(reservers, phase.source(), phase.number(), lent);
+            put_back(reservers, phase.source(), lent);
             Err(error)
         }
     }

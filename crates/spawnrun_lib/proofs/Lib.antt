@@ -1,3 +1,4 @@
+pub mod Dealt
 pub mod OneCourse
 mod WorkedSystems
 pub mod SystemRunning

@@ -3,9 +3,9 @@ use Rattle.std.specs.Prelude.{◌≡◌, ℕ, List, [], ◌++◌, Option, length
 use Rattle.ent_handle.specs.Handle.{Handle}
 use Rattle.ent_handle.specs.declared.memory.Memory.{Memory}
 use Rattle.ent_alloc.specs.Sequential.{born}
-use Rattle.ent_blocks.specs.Blocks.{Blocks, blocks_from}
+use Rattle.ent_blocks.specs.Blocks.{blocks_from}
 use Rattle.ent_queue.specs.Command.{Command}
-use Rattle.ent_world.specs.InBlocks.{PlacedWorld, world_after}
+use Rattle.ent_world.specs.InBlocks.{world_after}
 use Rattle.ent_world.specs.Sync.{sync}
 use Rattle.ent_world.specs.World.{World}
 use Rattle.ent_world.specs.declared.fault.Fault.{Fault}
@@ -15,14 +15,6 @@ use Rattle.ent_script.specs.declared.operation.Operation.{Operation}
 use Rattle.spawnrun_lib.specs.Issuing.{MayIssue, MayStop}
 use Rattle.spawnrun_lib.specs.ReportInBlocks.{IsTextFrom}
 use Rattle.spawnrun_lib.specs.declared.show.Show.{Show}
-
--- the blocks of a world that is dealt in these sizes
-abbrev pub dealt_blocks : PlacedWorld → List ℕ → Blocks
-dealt_blocks w sizes = record {
-  start = w.world.allocator;
-  rows = w.rows;
-  blocks = blocks_from 0 (length w.world.allocator.pool) sizes;
-}
 
 -- A frame whose blocks have these sizes ended so.
 pub record EndsInBlocks (sizes : List ℕ) (systems : List (List Operation)) (w : World)

@@ -1,19 +1,17 @@
 //! One frame of a script whose systems get their handles from blocks.
-ghost use Rattle.std.specs.Prelude.{◌≡◌, ℕ, ◌<◌, ◌≤◌, length, List, IfOk, IsErrOf};
+ghost use Rattle.std.specs.Prelude.{◌≡◌, ◌<◌, ◌≤◌, length, List, IfOk, IsErrOf};
 ghost use Rattle.ent_queue.specs.Command.{Command};
 ghost use Rattle.ent_script.specs.Sizes.{most_systems};
 ghost use Rattle.spawnrun_lib.specs.ReportInBlocks.{sizes_of};
-ghost use Rattle.spawnrun_lib.specs.CourseInBlocks.{EndsInBlocks, StopsInBlocks, dealt_blocks};
+ghost use Rattle.spawnrun_lib.specs.CourseInBlocks.{EndsInBlocks, StopsInBlocks};
 
-use crate::BlockNumbering;
 use crate::script_system::{ScriptSystem, runnable};
-use ent_blocks::DealError;
+use ent_blocks::open_in_blocks;
 use ent_handle::Memory;
-use ent_runner::{RunError, Unframed, run_frame_in_blocks};
+use ent_runner::{RunError, fill_in_blocks};
 use ent_script::System;
-use ent_world::{PlacedWorld, SyncReport, World, WorldDeal};
+use ent_world::{SyncReport, World};
 use std::alloc::Global;
-use std::marker::Brand;
 use std::thread::Threads;
 
 /// When memory ran out in a frame in blocks, so that it didn't end.
@@ -36,42 +34,47 @@ fn sizes(alloc: Global, size: u32, systems: &[System]) -> Result<Vec<u32>, Memor
     Ok(sizes)
 }
 
-/// Runs the frame in the blocks that the number 0 means.
-fn run_dealt<R, J: BlockNumbering + Send + Sync>(
+/// Runs the systems in blocks of these sizes, and the sync point.
+fn run_dealt<R>(
     rt: &R,
     alloc: Global,
-    world: PlacedWorld,
+    world: World,
     sizes: &[u32],
     systems: &[ScriptSystem<'_>],
     workers: usize,
 ) -> Result<(World, SyncReport), Undone>
 where
     R: Threads + Sync,
+    requires flushed { world.allocator.asked ≡ 0 }
     requires some { 0 < workers }
     requires few { workers ≤ 64 }
     requires systems { length systems.now ≤ most_systems }
-    requires stands_for { J.blocks_of 0 ≡ dealt_blocks world sizes.now }
-    requires size { (size : ℕ) × (sizes.now ≡ sizes_of size systems.now) }
     ensures flushed { IfOk result (λ ended. ended.0.allocator.asked ≡ 0) }
     ensures went { IfOk result (λ ended. (queues : List (List Command))
-        × EndsInBlocks sizes.now systems.now world.world queues ended.0
+        × EndsInBlocks sizes.now systems.now world queues ended.0
         ended.1.born.items ended.1.faults.items) }
     ensures lost { IsErrOf result Undone.Lost
-        → StopsInBlocks sizes.now systems.now workers world.world }
+        → StopsInBlocks sizes.now systems.now workers world }
 {
-    let dealt: Result<WorldDeal<J>, (World, DealError)> = world.open_in_blocks(sizes);
-    let Ok(deal) = dealt else {
+    let (entities, rest) = world.apart();
+    let Ok((blocks, reservers)) = open_in_blocks(alloc, entities, sizes) else {
         return Err(Undone::Memory);
     };
-    let (opened, reservers) = deal.numbered(0);
-    match run_frame_in_blocks(rt, alloc, opened, reservers, systems, workers) {
-        Ok((world, report)) => Ok((world, report.sync)),
-        Err(
-            Unframed::Unrun {
-                error: RunError::Lost(_),
-                ..
-            },
-        ) => Err(Undone::Lost),
+    let filled = fill_in_blocks(rt, alloc, &blocks, reservers, rest.view(), systems, workers);
+    let (queues, reservers) = match filled {
+        Ok(filled) => filled,
+        Err(refused) => {
+            return Err(match refused.into_parts().1 {
+                RunError::Lost(_) => Undone::Lost,
+                _ => Undone::Memory,
+            });
+        }
+    };
+    let Ok(mut world) = rest.settle(blocks.close(reservers)) else {
+        return Err(Undone::Memory);
+    };
+    match world.apply(&queues) {
+        Ok(report) => Ok((world, report)),
         Err(_) => Err(Undone::Memory),
     }
 }
@@ -92,6 +95,7 @@ pub(crate) fn run<R>(
 ) -> Result<(World, SyncReport), Undone>
 where
     R: Threads + Sync,
+    requires flushed { world.allocator.asked ≡ 0 }
     requires some { 0 < workers }
     requires few { workers ≤ 64 }
     requires systems { length systems.now ≤ most_systems }
@@ -110,5 +114,5 @@ where
     let Ok(sizes) = sizes(alloc, size, systems) else {
         return Err(Undone::Memory);
     };
-    run_dealt::<R, Brand>(rt, alloc, world.placed(), &sizes, &runnable, workers)
+    run_dealt(rt, alloc, world, &sizes, &runnable, workers)
 }

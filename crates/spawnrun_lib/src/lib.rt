@@ -44,7 +44,6 @@ mod work;
 mod world_text;
 
 pub use cli::{Counted, Failed, LineFault, Sink, Source, refuse_words};
-pub use ent_blocks::BlockNumbering;
 pub use frame_text::write_frame;
 pub use product::INPUT_LIMIT;
 pub use program::execute;

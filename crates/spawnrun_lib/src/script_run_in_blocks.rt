@@ -31,6 +31,7 @@ fn run_frames<R, P: Progress>(
 ) -> Result<(World, Vec<u8>), Memory>
 where
     R: Threads + Sync,
+    requires flushed { world.allocator.asked ≡ 0 }
     requires systems { AreFew frames.items }
     requires some { 0 < workers }
     requires few { workers ≤ 64 }

@@ -1,4 +1,4 @@
-use Rattle.ent_total.proofs.Common.{◌≡◌, ◌++◌, ◌≤◌, length, All, AreOf}
+use Rattle.ent_total.proofs.Common.{◌≡◌, ◌++◌, ◌≤◌, length, All}
 use Rattle.ent_blocks.specs.Drawing.{IsOfPhase}
 use Rattle.ent_total.specs.Lending.{returned}
 use Rattle.ent_total.proofs.lending.put_back.Given as goal
@@ -10,5 +10,4 @@ invariant-loop-mine g l = record {
   at : l.at ≡ length l.yielded;
   back : l.reservers ≡ returned l.fn.reservers l.yielded;
   own : All (IsOfPhase (g.S.OfBlocks.of l.fn.source)) l.mine-iterator.rest.items;
-  few : length l.fn.lent.items ≤ length l.fn.reservers;
 }

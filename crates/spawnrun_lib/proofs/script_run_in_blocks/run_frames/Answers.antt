@@ -14,6 +14,7 @@ loop-current-preserved g c =
       few =
           others_are_few c.loop-current.yielded c.loop-current.current-iterator.rest.items
           c.next.new.self.rest.items c.in-Some.current front i.few;
+      flushed = c.in-Ok.ensures.flushed;
       run = λ names. search (
         rules,
         i.counted,

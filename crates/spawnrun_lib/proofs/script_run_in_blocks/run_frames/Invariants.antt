@@ -6,6 +6,7 @@ invariant-loop-current g l = record {
   all : l.yielded ++ l.current-iterator.rest.items ≡ l.fn.frames.items;
   counted : l.number ≡ length l.yielded;
   few : AreFew l.current-iterator.rest.items;
+  flushed : l.world.allocator.asked ≡ 0;
   run : (names : List (List ℕ))
       → HaveGoneInBlocks names l.size l.show l.fn.world l.world l.yielded l.text.items;
 }

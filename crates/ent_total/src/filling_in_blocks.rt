@@ -1,0 +1,114 @@
+ghost use Rattle.std.specs.Prelude.{◌≡◌, ◌<◌, length, map, IfOk, IfErr, IsErrOf};
+ghost use Rattle.ent_blocks.specs.Blocks.{blocks_of};
+ghost use Rattle.ent_runner.specs.Blocks.Queues.{HaveIssued, HaveStopped};
+ghost use Rattle.ent_runner.specs.Blocks.Refusing.{IfLost, IfNotLost, IsRefused};
+ghost use Rattle.ent_runner.specs.declared.blocks.run_error.RunError.TheVariants as failed;
+ghost use Rattle.ent_total.specs.InWorld.{view_in};
+ghost use Rattle.ent_total.specs.Lending.{lent_out, returned};
+ghost use Rattle.ent_total.specs.Phases.{AreOf, reservers_of};
+
+use crate::in_world::InWorld;
+use crate::lending::{are_of, lend_all, put_back};
+use crate::numbering::Numbering;
+use crate::phase::Phase;
+use crate::queues::Queues;
+use crate::reserver::Reserver;
+use ent_blocks::Blocks;
+use ent_runner::{RunError, System, check_run};
+use std::alloc::Global;
+use std::thread::Threads;
+
+/// Runs each system once, on that many workers side by side, 1 to 64, each with the reserver at its
+/// position. The world isn't changed: when the phase has ended, [`World::apply`](crate::World::apply)
+/// takes the queues, which are in the order of the systems.
+///
+/// The handles of a system's spawns are the next ones of its block, in the pool's order, whatever
+/// the others do, whichever worker runs it, and however many workers there are. The reservers say
+/// how many handles each system wanted, which can decide the size of its block in the next frame:
+///
+/// ```
+/// # #[cfg(feature = "std")] {
+/// use forgeni::{fill_in_blocks, BlockSize, CommandsInBlocks, OutOfMemory, StdThreads, View, World};
+///
+/// fn launch(_: &View<'_>, commands: &mut CommandsInBlocks<'_>) -> Result<(), OutOfMemory> {
+///     commands.spawn_many_with(100, &[]).map_or_else(|refused| refused.or_memory(), |_| Ok(()))
+/// }
+///
+/// let (mut world, mut sizes) = (World::new(), [BlockSize::new(1000); 3]);
+/// for _frame in 0..2 {
+///     let (phase, mut reservers) = world.open_in_blocks(&sizes.map(|it| it.size()))?;
+///     let queues = fill_in_blocks(&StdThreads, &phase, &mut reservers, &[launch; 3], 2)?;
+///     for (size, reserver) in sizes.iter_mut().zip(&reservers) {
+///         size.adapt(reserver.wanted());
+///     }
+///     world = phase.close(reservers)?.into_world()?;
+///     world.apply(queues)?;
+/// }
+/// // The first blocks, of 64, were too small for it.
+/// assert_eq!((world.len(), sizes[0].size()), (300, 200));
+/// # }
+/// # Ok::<(), Box<dyn std::error::Error + Send + Sync>>(())
+/// ```
+///
+/// Each worker takes the next system that isn't taken yet, until none is left. If a thread can't be
+/// started, another one does its work. One worker starts no thread.
+///
+/// # Errors
+///
+/// Those of [`run_in_blocks`](crate::run_in_blocks). After [`RunError::Lost`] the queues are
+/// dropped, and the blocks are used up.
+///
+/// # Panics
+///
+/// The same as `run_in_blocks`.
+pub fn fill_in_blocks<R, J: Numbering, T, E>(
+    rt: &R,
+    alloc: Global,
+    phase: &Phase<J, InWorld<Blocks>>,
+    reservers: &mut [Reserver<J, InWorld<Blocks>>],
+    systems: &[T],
+    workers: usize,
+) -> Result<Queues, RunError<E>>
+where
+    R: Threads + Sync,
+    T: System<Blocks, E> + Sync,
+    E: Drop + Send,
+    ensures ok { IfOk result (λ ran. HaveIssued T.may_issue systems.now
+        (view_in phase.now.source) phase.now.source.source.start
+        (blocks_of (reservers_of reservers.old)) ran.queues
+        (blocks_of (reservers_of reservers.new))) }
+    ensures world { IfOk result (λ ran. ran.world ≡ phase.now.source.of_world) }
+    ensures same { reservers.new ≡ returned reservers.old (reservers_of reservers.new) }
+    ensures refused { IsRefused workers (length systems.now) (length reservers.old)
+        (AreOf phase.now.number reservers.old) (λ why. IsErrOf result why) }
+    ensures memory_some { IsErrOf result failed.Memory → 0 < length systems.now }
+    ensures as_they_were { IfErr result (IfNotLost (reservers.new ≡ reservers.old)) }
+
+    // What is left if the systems were broken off.
+    ensures lost { IfErr result (IfLost (HaveStopped T.may_issue T.may_leave systems.now workers
+        (view_in phase.now.source) phase.now.source.source.start
+        (blocks_of (reservers_of reservers.old)))) }
+    ensures used_up { IfErr result (IfLost (λ _. reservers.new ≡ map lent_out reservers.old)) }
+{
+    check_run(reservers.len(), systems.len(), workers)?;
+    if !are_of(phase, reservers) {
+        return Err(RunError::OtherPhase);
+    }
+    let Ok(lent) = lend_all(alloc, reservers) else {
+        return Err(RunError::Memory);
+    };
+    let world = phase.source();
+    let (blocks, view) = (&world.source, world.view());
+    match ent_runner::fill_in_blocks(rt, alloc, blocks, lent, view, systems, workers) {
+        Ok((queues, lent)) => {
+            put_back(reservers, world, lent);
+            Ok(Queues::new(world.of_world, queues))
+        }
+        Err(back) => {
+            // None, if they are lost.
+            let (lent, error) = back.into_parts();
+            put_back(reservers, world, lent);
+            Err(error)
+        }
+    }
+}
