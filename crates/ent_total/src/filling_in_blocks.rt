@@ -97,7 +97,7 @@ where
     let Ok(lent) = lend_all(alloc, reservers) else {
         return Err(RunError::Memory);
     };
-    let world = phase.source();
+    let world = phase.server();
     let (blocks, view) = (&world.source, world.view());
     match ent_runner::fill_in_blocks(rt, alloc, blocks, lent, view, systems, workers) {
         Ok((queues, lent)) => {

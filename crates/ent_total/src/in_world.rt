@@ -185,7 +185,7 @@ impl<J: Numbering, S: Deals> Phase<J, InWorld<S>> {
     pub fn view(&self) -> View<'_>
         ensures { result ≡ view_in self.now.source }
     {
-        self.source().view()
+        self.server().view()
     }
 }
 

@@ -98,7 +98,8 @@ impl<J: Numbering, S: Phased> Phase<J, S> {
         }
     }
 
-    pub(crate) fn source(&self) -> &S
+    /// What serves the reservers.
+    pub(crate) fn server(&self) -> &S
         ensures { result.now ≡ self.now.source }
     {
         &self.source

@@ -118,16 +118,16 @@ where
     let Ok(lent) = lend_all(alloc, reservers) else {
         return Err(RunError::Memory);
     };
-    let blocks = phase.source().blocks();
+    let blocks = phase.server().blocks();
     match ent_runner::run_in_blocks(rt, alloc, blocks, lent, systems, workers) {
         Ok((logs, lent)) => {
-            put_back(reservers, phase.source(), lent);
+            put_back(reservers, phase.server(), lent);
             Ok(logs)
         }
         Err(back) => {
             // None, if they are lost.
             let (lent, error) = back.into_parts();
-            put_back(reservers, phase.source(), lent);
+            put_back(reservers, phase.server(), lent);
             Err(error)
         }
     }
