@@ -119,7 +119,8 @@ where
         return Err(RunError::Memory);
     };
     let source = phase.server();
-    match ent_runner::run_in_blocks(rt, alloc, source.blocks(), lent, systems, workers) {
+    let dealt = source.blocks();
+    match ent_runner::run_in_blocks(rt, alloc, dealt, lent, systems, workers) {
         Ok((logs, lent)) => {
             put_back(reservers, source, lent);
             Ok(logs)

@@ -43,9 +43,9 @@ from : (g : given.Over) (c : In-Ok g) → AreFrom c.args.phase.now.source c.args
 from g c = c.are_of.ensures.source c.if-not-are_of.false
 
 pub fill_in_blocks-requires-clause-own : goal.fill_in_blocks-requires-clause-own
-fill_in_blocks-requires-clause-own g c =
+fill_in_blocks-requires-clause-own g c κs within =
     let own = c.in-Ok.ensures.own c.args.phase.now.source
-    (from g (goal.at.fill_in_blocks-requires-clause-own g c).In-Ok) in
+    (c.are_of.ensures.source c.if-not-are_of.false) in
     rw (sym (c.world.view_is ∙ c.server-world.ensures)) at own
 
 pub put_back-requires-clause-from : goal.put_back-requires-clause-from
@@ -109,7 +109,8 @@ put_back-requires-in-Err-clause-own g c =
     let own = c.in-Ok.ensures.own c.args.phase.now.source
     (from g (goal.at.put_back-requires-in-Err-clause-own g c).In-Ok) in
     rw (c.server-world.ensures, c.into_parts-lent.ensures.value)
-    (own_if _ _ (came g (goal.at.put_back-requires-in-Err-clause-own g c).In-Err) (IsOfPhase _) own)
+    (own_if _ _ (came g (goal.at.put_back-requires-in-Err-clause-own g c).In-Err) 
+    (IsOfPhase c.args.phase.now.source.source) own)
 
 pub put_back-requires-in-Err-clause-few : goal.put_back-requires-in-Err-clause-few
 put_back-requires-in-Err-clause-few g c =
