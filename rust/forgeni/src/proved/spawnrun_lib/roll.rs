@@ -53,7 +53,9 @@ impl Roll {
             self.handles = view.by_birth()?;
         }
         let ordinal = birth.ordinal as usize;
-        let guess = ordinal.saturating_add(self.ahead).saturating_sub(self.behind);
+        let guess = ordinal
+            .saturating_add(self.ahead)
+            .saturating_sub(self.behind);
         let index = first_from(&self.handles, view, birth, guess);
         self.ahead = index.saturating_sub(ordinal);
         self.behind = ordinal.saturating_sub(index);
