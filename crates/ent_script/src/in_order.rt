@@ -1,6 +1,6 @@
 //! Scripts whose frames come last, as most do. Such a text is read once.
 //!
-//! An `Err` but `Memory` says nothing of the text: it is one that has to be read twice.
+//! An error other than `Memory` says nothing about the text, which is then read twice.
 ghost use Rattle.std.specs.Prelude.{◌≡◌, ◌∷◌, [], ℕ, ◌<◌, ◌≤◌, List, length, codes, Some, None, Ok};
 ghost use Rattle.std.specs.Prelude.{IfOk, IfSome, OnOk};
 ghost use Rattle.json.specs.Json.{value, members, read_key};
