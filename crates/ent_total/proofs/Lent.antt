@@ -5,7 +5,6 @@ use Rattle.ent_total.specs.Lending.{AreFrom, lent_out, returned}
 use Rattle.ent_total.specs.Phases.{Reserver, reservers_of}
 use Rattle.std.specs.Prelude.{suc, ◌⊎◌}
 use Rattle.std.proofs.Common.{inl, inr, ⊎_elim}
-
 use Rattle.ent_runner.specs.Blocks.Refusing.{IfLost, IfNotLost}
 use Rattle.ent_runner.specs.declared.blocks.run_error.RunError.{RunError}
 use Rattle.ent_runner.specs.declared.blocks.run_error.RunError.TheVariants as failed

@@ -109,7 +109,7 @@ put_back-requires-in-Err-clause-own g c =
     let own = c.in-Ok.ensures.own c.args.phase.now.source
     (from g (goal.at.put_back-requires-in-Err-clause-own g c).In-Ok) in
     rw (c.server-world.ensures, c.into_parts-lent.ensures.value)
-    (own_if _ _ (came g (goal.at.put_back-requires-in-Err-clause-own g c).In-Err) 
+    (own_if _ _ (came g (goal.at.put_back-requires-in-Err-clause-own g c).In-Err)
     (IsOfPhase c.args.phase.now.source.source) own)
 
 pub put_back-requires-in-Err-clause-few : goal.put_back-requires-in-Err-clause-few
