@@ -10,9 +10,8 @@ use alloc::vec::Vec;
 pub use crate::kit::thread::{Join, StdThreads};
 #[cfg(feature = "rayon")]
 pub use crate::on_rayon::Rayon;
-pub use crate::phases::{fill_in_blocks, run_frame_in_blocks};
-pub use crate::phases::{FrameError, Unframed};
-pub use crate::running::{run_in_blocks, FrameReport, LogError, RunError};
+pub use crate::phases::{fill_in_blocks, run_in_blocks, FrameError};
+pub use crate::running::{LogError, RunError};
 pub use crate::system::*;
 
 /// Runs each system once, on that many workers side by side, and then the sync point. It returns
@@ -308,7 +307,6 @@ pub fn run_logs_on<J: Join + Sync, C: Send, S: LogSystem<C, SharedSource, E> + S
 /// If a system panics, or a command panics when it is dropped: the same as [`run_logs`]. If no
 /// system panics but the `Join` does, its panic is propagated when all workers have ended. What
 /// they reserved is alive, and their logs are dropped.
-#[allow(clippy::type_complexity)]
 pub fn run_to_sync_point<J: Join + Sync, C: Send, S, E: Send>(
     join: &J,
     entities: &mut Entities,

@@ -27,7 +27,7 @@ loop-reserver-preserved g c =
       own = λ source from.
           let Own = IsOfPhase (g.S.OfBlocks.of source) in
           let is = ap (λ (r : Reserver _ _). r.source) (sym c.reserver-item.is ∙ same)
-              ∙ from at item within in
+          ∙ from at item within in
           All-same Own _ _ c.push_reserved.ensures.items
           (All-push Own _ _ (i.own source from)
           (subst (λ s. IsOfPhase (g.S.OfBlocks.of s) c.lend.result) is c.lend.ensures.of));

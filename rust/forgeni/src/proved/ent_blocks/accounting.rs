@@ -4,22 +4,8 @@
 
 use alloc::vec::Vec;
 use crate::kit::vec::FallibleVec;
-use crate::in_blocks::block_reserver::BlockReserver;
 use crate::in_blocks::held::Held;
 use crate::in_blocks::part::Part;
-
-/// Whether all reservers are of the phase of this number.
-#[inline]
-pub(super) fn are_of(number: u64, reservers: &[BlockReserver]) -> bool
-    // ensures { IsTrue result ↔ All (λ r. r.number ≡ number) reservers.now }
-{
-    for reserver in reservers {
-        if reserver.number != number {
-            return false;
-        }
-    }
-    true
-}
 
 /// How many blocks are held by nothing here. `None` if what is here doesn't hold some of the
 /// blocks, in their order.

@@ -1,46 +1,31 @@
 // Made of crates/ent_blocks/src/block_reserver.rt by rust/erase. It isn't edited by hand.
 
-use crate::in_blocks::block_error::BlockError;
-use crate::in_blocks::blocks::Blocks;
 use crate::in_blocks::held::Held;
 use crate::in_blocks::part::Part;
+use crate::allocator::Refused;
 
-/// One caller's right to the handles of its block.
-///
-/// [`Entities::open_in_blocks`](crate::Entities::open_in_blocks) makes them, and
-/// [`Blocks::close`] takes them back. It is a few numbers: it has no list of
-/// handles, and may go to any thread.
+/// One caller's right to the handles of its block. It is a few numbers: it has no list of handles,
+/// and may go to any thread.
 ///
 /// ```
-/// use forgeni::Entities;
+/// use forgeni::{BlockReserver, Blocks, Source};
 ///
-/// let (blocks, mut reservers) = Entities::new().open_in_blocks(&[10, 20])?;
-/// blocks.reserve(&mut reservers[1])?;
-/// assert_eq!((reservers[1].size(), reservers[1].used(), reservers[1].left()), (20, 1, 19));
-/// # Ok::<(), Box<dyn std::error::Error + Send + Sync>>(())
+/// /// Code for the reservers of blocks that refuse.
+/// fn refuses<S: Source<Reserver = BlockReserver>>() {}
+///
+/// refuses::<Blocks>();
 /// ```
 #[repr(align(128))]
 pub struct BlockReserver {
     pub(super) part: Part,
     /// How many handles the largest of the refused requests was for.
     pub(super) refused: u32,
-    pub(super) number: u64,
 }
 
 /// # Its block
 impl BlockReserver {
     /// Returns the number of handles in the block. It is less than the requested size if the pool
     /// had no more.
-    ///
-    /// ```
-    /// use forgeni::{Entities, Limits};
-    ///
-    /// let entities = Entities::with_limits(Limits::new(100, 1).unwrap());
-    /// let (_blocks, reservers) = entities.open_in_blocks(&[64, 64])?;
-    /// // The pool ends within the second block.
-    /// assert_eq!((reservers[0].size(), reservers[1].size()), (64, 36));
-    /// # Ok::<(), Box<dyn std::error::Error>>(())
-    /// ```
     ///
     /// <details><summary>Contract</summary>
     ///
@@ -57,19 +42,6 @@ impl BlockReserver {
 
     /// Returns the number of handles of the block that are used.
     ///
-    /// ```
-    /// use forgeni::Entities;
-    ///
-    /// let (blocks, mut reservers) = Entities::new().open_in_blocks(&[10, 10])?;
-    /// blocks.reserve_many(&mut reservers[0], 2)?;
-    /// blocks.reserve_many(&mut reservers[1], 3)?;
-    /// let used: u32 = reservers.iter().map(|one| one.used()).sum();
-    /// let mut entities = blocks.close(reservers)?;
-    /// entities.flush(&mut Vec::new())?;
-    /// assert_eq!((used, entities.len()), (5, 5));
-    /// # Ok::<(), Box<dyn std::error::Error>>(())
-    /// ```
-    ///
     /// <details><summary>Contract</summary>
     ///
     /// <code style="display: block; tab-size: 4; white-space: pre-wrap">// In the words of [contracts](crate::contracts):
@@ -85,18 +57,6 @@ impl BlockReserver {
     }
 
     /// Returns the number of handles that are left of the block.
-    ///
-    /// ```
-    /// use forgeni::Entities;
-    ///
-    /// let (blocks, mut reservers) = Entities::new().open_in_blocks(&[10])?;
-    /// let mine = &mut reservers[0];
-    /// blocks.reserve_many(mine, 7)?;
-    /// // As many sparks as the block still has, at most 50.
-    /// let sparks = blocks.reserve_many(mine, mine.left().min(50))?;
-    /// assert_eq!((sparks.len(), mine.left()), (3, 0));
-    /// # Ok::<(), Box<dyn std::error::Error>>(())
-    /// ```
     ///
     /// <details><summary>Contract</summary>
     ///
@@ -116,17 +76,6 @@ impl BlockReserver {
     /// the requests that were refused because too few were left. It is at most 4,294,967,295.
     /// [`BlockSize::adapt`](crate::in_blocks::BlockSize::adapt) takes it.
     ///
-    /// ```
-    /// use forgeni::Entities;
-    ///
-    /// let (blocks, mut reservers) = Entities::new().open_in_blocks(&[64])?;
-    /// blocks.reserve_many(&mut reservers[0], 10)?;
-    /// assert_eq!(reservers[0].wanted(), 10);
-    /// assert!(blocks.reserve_many(&mut reservers[0], 100).is_err());
-    /// assert_eq!((reservers[0].used(), reservers[0].wanted()), (10, 110));
-    /// # Ok::<(), Box<dyn std::error::Error + Send + Sync>>(())
-    /// ```
-    ///
     /// <details><summary>Contract</summary>
     ///
     /// <code style="display: block; tab-size: 4; white-space: pre-wrap">// In the words of [contracts](crate::contracts):
@@ -141,43 +90,26 @@ impl BlockReserver {
     }
 }
 
-/// # Its phase
 impl BlockReserver {
-    /// Returns `true` if it belongs to this phase.
-    ///
-    /// ```
-    /// use forgeni::{BlockError, Entities};
-    ///
-    /// let (blocks, mut reservers) = Entities::new().open_in_blocks(&[10])?;
-    /// let (others, _) = Entities::new().open_in_blocks(&[10])?;
-    /// assert!(reservers[0].is_of(&blocks) && !reservers[0].is_of(&others));
-    /// assert_eq!(others.reserve(&mut reservers[0]), Err(BlockError::OtherPhase));
-    /// # Ok::<(), Box<dyn std::error::Error>>(())
-    /// ```
-    ///
-    /// <details><summary>Contract</summary>
-    ///
-    /// <code style="display: block; tab-size: 4; white-space: pre-wrap">// In the words of [contracts](crate::contracts):
-    /// ensures { [IsTrue](crate::contracts::logic#IsTrue) result ↔ (self.now.number ≡ blocks.now.number) }
-    /// </code>
-    ///
-    /// </details>
-    #[must_use]
+    /// Takes the reserver out, and leaves one of the same block that is used up.
     #[inline]
-    pub fn is_of(&self, blocks: &Blocks) -> bool {
-        self.number == blocks.number()
+    pub(crate) fn take(&mut self) -> Self
+        // ensures taken { result ≡ self.old }
+        // ensures used_up { self.new ≡ used_up self.old }
+    {
+        let taken = again(self);
+        self.part = self.part.with_used(self.part.size());
+        taken
     }
-}
 
-impl BlockReserver {
     /// Remembers a request for `wanted` handles, of which only `left` are left.
     #[inline]
-    pub(super) fn refuse(&mut self, wanted: u32, left: u32) -> BlockError
+    pub(super) fn refuse(&mut self, wanted: u32, left: u32) -> Refused
         // ensures remembers { self.new ≡ after_refusal self.old wanted }
         // ensures error { result ≡ why.Space wanted left }
     {
         self.refused = self.refused.max(wanted);
-        BlockError::Space { wanted, left }
+        Refused::Space { wanted, left }
     }
 }
 
@@ -205,6 +137,5 @@ pub fn again(reserver: &BlockReserver) -> BlockReserver {
     BlockReserver {
         part: reserver.part.with_used(reserver.part.used()),
         refused: reserver.refused,
-        number: reserver.number,
     }
 }

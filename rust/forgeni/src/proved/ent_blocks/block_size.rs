@@ -1,7 +1,7 @@
 // Made of crates/ent_blocks/src/block_size.rt by rust/erase. It isn't edited by hand.
 
 /// The size of a caller's block in the next phase: twice what it
-/// [wanted](crate::in_blocks::BlockReserver::wanted) in this one, at least 64, and at most a limit. So the
+/// [wanted](crate::Reserver::wanted) in this one, at least 64, and at most a limit. So the
 /// size depends only on earlier phases, and is the same on every machine.
 ///
 /// What a caller wanted is what it used, plus the largest of its requests that were refused. So the
@@ -11,9 +11,9 @@
 /// use forgeni::{BlockSize, Entities};
 ///
 /// let mut sizes = [BlockSize::new(1000); 2];
-/// let (blocks, mut reservers) = Entities::new().open_in_blocks(&sizes.map(|it| it.size()))?;
-/// blocks.reserve_many(&mut reservers[0], 50)?;
-/// assert!(blocks.reserve_many(&mut reservers[1], 100).is_err());
+/// let (_phase, mut reservers) = Entities::new().share_in_blocks(&sizes.map(|it| it.size()))?;
+/// reservers[0].reserve_many(50)?;
+/// assert!(reservers[1].reserve_many(100).is_err());
 /// for (size, reserver) in sizes.iter_mut().zip(&reservers) {
 ///     size.adapt(reserver.wanted());
 /// }
@@ -93,7 +93,7 @@ impl BlockSize {
     ///
     /// let mut sizes = [BlockSize::new(1_000); 3];
     /// sizes[2].adapt(400);
-    /// let (_blocks, reservers) = Entities::new().open_in_blocks(&sizes.map(|it| it.size()))?;
+    /// let (_phase, reservers) = Entities::new().share_in_blocks(&sizes.map(|it| it.size()))?;
     /// assert_eq!(reservers.iter().map(|one| one.size()).collect::<Vec<_>>(), [64, 64, 800]);
     /// # Ok::<(), Box<dyn std::error::Error>>(())
     /// ```

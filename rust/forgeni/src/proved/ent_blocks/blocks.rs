@@ -1,88 +1,101 @@
 // Made of crates/ent_blocks/src/blocks.rt by rust/erase. It isn't edited by hand.
 
 use alloc::vec::Vec;
-use crate::kit::vec::FallibleVec;
-use crate::in_blocks::accounting::{account, are_of, missing};
-use crate::in_blocks::block_error::BlockError;
+use crate::in_blocks::accounting::{account, missing};
 use crate::in_blocks::block_reserver::BlockReserver;
-use crate::in_blocks::closing::take_used;
-use crate::in_blocks::end_error::EndError;
+use crate::in_blocks::ended::Ended;
 use crate::in_blocks::part::Part;
-use crate::in_blocks::taking::{append, take_many, take_one};
-use crate::allocator::{Entities, Reserved, Space};
-use crate::handles::{HandedBack, Handle};
+use crate::in_blocks::taking::{take_many, take_one};
+use crate::allocator::{Entities, Refused, Reserved, Space};
+use crate::handles::Handle;
 
-/// An allocator in a phase in which the front of its pool is dealt in blocks, one to each
-/// [`BlockReserver`]. [`Entities::open_in_blocks`](crate::Entities::open_in_blocks) makes it.
+/// The source of a phase in which the front of the pool is dealt in blocks, one to each reserver. A
+/// request for more than is left of a block is refused.
+/// [`Entities::share_in_blocks`](crate::Entities::share_in_blocks) opens a phase of it.
 ///
 /// Which handles a reserver gets depends on the allocator, on the sizes, and on what it has
 /// reserved before: not on other reservers or on threads. Many threads may reserve at once: no
 /// reservation writes to what they share.
 ///
 /// ```
-/// use forgeni::Entities;
+/// use forgeni::{Blocks, Entities, Phase, Reserver};
 ///
-/// let (blocks, mut reservers) = Entities::new().open_in_blocks(&[10; 2])?;
+/// let parts: (Phase<Blocks>, Vec<Reserver<Blocks>>) = Entities::new().share_in_blocks(&[10; 2])?;
+/// let (_phase, mut reservers) = parts;
 /// let mut firsts = [None; 2];
 /// std::thread::scope(|scope| {
 ///     for (mine, first) in reservers.iter_mut().zip(&mut firsts) {
-///         scope.spawn(|| *first = blocks.reserve(mine).ok());
+///         scope.spawn(|| *first = mine.reserve().ok());
 ///     }
 /// });
 /// // On every machine, whichever thread came first.
 /// assert_eq!(firsts.map(|it| it.map(|one| one.index())), [Some(0), Some(10)]);
-/// # Ok::<(), Box<dyn std::error::Error>>(())
+/// # Ok::<(), Box<dyn std::error::Error + Send + Sync>>(())
 /// ```
-#[must_use]
 pub struct Blocks {
     entities: Entities,
     parts: Vec<Part>,
-    number: u64,
+    // Room for what comes back at the close.
+    ends: Vec<Part>,
 }
 
-/// # Reserving
 impl Blocks {
+    #[inline]
+    pub(super) fn new(entities: Entities, parts: Vec<Part>, ends: Vec<Part>) -> Self
+        // requires dealt { AreDealt entities.allocator parts.items }
+        // requires no_ends { ends.items ≡ [] }
+        // requires room { length parts.items ≤ vec_capacity ends }
+        // ensures { result ≡ record {
+        //   start = entities.allocator;
+        //   rows = entities.rows;
+        //   blocks = parts.items;
+        // } }
+    {
+        Blocks {
+            entities,
+            parts,
+            ends,
+        }
+    }
+
+    /// Returns the number of blocks.
+    #[inline]
+    pub(crate) fn count(&self) -> usize
+        // ensures { result ≡ length self.now.blocks }
+    {
+        self.parts.len()
+    }
+
+    /// Returns the allocator as it was when the phase was opened.
+    #[inline]
+    pub(crate) fn opened(&self) -> &Entities
+        // ensures start { result.now.allocator ≡ self.now.start }
+        // ensures rows { result.now.rows ≡ self.now.rows }
+    {
+        &self.entities
+    }
+
+    /// Whether these reservers are in the order in which they were made.
+    #[inline]
+    pub(super) fn has_in_order(&self, reservers: &[BlockReserver]) -> bool
+        // ensures { IsTrue result ↔ IsTrue (are_among self.now.blocks (blocks_of reservers.now)) }
+    {
+        missing(&self.parts, reservers).is_some()
+    }
+
     /// Reserves the next handle of the reserver's block. It makes no atomic step, and neither
-    /// allocates nor waits. The handle comes to life after the phase, by the next flush.
-    ///
-    /// ```
-    /// use forgeni::Entities;
-    ///
-    /// let (blocks, mut reservers) = Entities::new().open_in_blocks(&[10, 10])?;
-    /// let second = blocks.reserve(&mut reservers[1])?;
-    /// let first = blocks.reserve(&mut reservers[0])?;
-    /// assert_eq!((first.index(), second.index()), (0, 10));
-    /// # Ok::<(), Box<dyn std::error::Error + Send + Sync>>(())
-    /// ```
+    /// allocates nor waits.
     ///
     /// # Errors
     ///
-    /// No handle is used then. [`BlockError::OtherPhase`] if the reserver is of another phase.
-    /// [`BlockError::Space`], with 1 wanted and 0 left, if the block is used up: the reserver
+    /// [`Refused::Space`], with 1 wanted and 0 left, if the block is used up. The reserver
     /// [remembers](BlockReserver::wanted) it.
-    ///
-    /// <details><summary>Contract</summary>
-    ///
-    /// <code style="display: block; tab-size: 4; white-space: pre-wrap">// In the words of [contracts](crate::contracts):
-    /// ensures reply { [IfOk](crate::contracts::logic#IfOk) result (λ handle. [reply_from](crate::contracts::ent_alloc::sequential#reply_from) self.now.phase.start.made
-    /// &#9;([rest_of](crate::contracts::ent_blocks::blocks#rest_of) self.now.phase.start.pool reserver.old.block) 1 ≡ [Ok](crate::contracts::logic#Ok) (handle ∷ \[\])) }
-    /// ensures ok { [OnOk](crate::contracts::logic#OnOk) result (reserver.new ≡ record reserver.old {
-    /// &#32;&#32;block = [after_use](crate::contracts::ent_blocks::blocks#after_use) reserver.old.block 1;
-    /// }) }
-    /// ensures other_phase { [IsErrOf](crate::contracts::logic#IsErrOf) result refused.OtherPhase
-    /// &#9;↔ (reserver.old.number ≢ self.now.number) }
-    /// ensures err { [IfErr](crate::contracts::logic#IfErr) result (λ error. (error ≡ refused.OtherPhase)
-    /// &#9;⊎ ((error ≡ refused.Space 1 0) × (reserver.old.block.used ≡ reserver.old.block.size))) }
-    /// ensures remembers { [IfErr](crate::contracts::logic#IfErr) result (λ error.
-    /// &#9;reserver.new ≡ [after_error](crate::contracts::ent_blocks::faults#after_error) reserver.old error) }
-    /// </code>
-    ///
-    /// </details>
-    #[inline]
-    pub fn reserve(&self, reserver: &mut BlockReserver) -> Result<Handle, BlockError> {
-        if reserver.number != self.number {
-            return Err(BlockError::OtherPhase);
-        }
+    #[inline(always)]
+    pub(crate) fn reserve(&self, reserver: &mut BlockReserver) -> Result<Handle, Refused>
+        // requires { IsOf self.now reserver.old.block }
+        // ensures stays { IsOf self.now reserver.new.block }
+        // ensures drawn { IsDrawn self.now reserver.old reserver.new 1 (listed_alone result) }
+    {
         match take_one(&self.entities, &mut reserver.part) {
             Ok(handle) => Ok(handle),
             Err(Space { wanted, left }) => Err(reserver.refuse(wanted, left)),
@@ -90,487 +103,57 @@ impl Blocks {
     }
 
     /// Reserves the next `n` handles of the reserver's block, all of them or none. They are listed
-    /// as [`Reserver::reserve_many`](crate::Reserver::reserve_many) lists them: those of old
-    /// slots first, the last of the pool before the others, then those of new slots. A request of 0
-    /// is always served.
-    ///
-    /// ```
-    /// use forgeni::{BlockError, Entities};
-    ///
-    /// let (blocks, mut reservers) = Entities::new().open_in_blocks(&[10, 10])?;
-    /// let seven = blocks.reserve_many(&mut reservers[1], 7)?;
-    /// assert_eq!((seven[0].index(), seven[6].index()), (10, 16));
-    /// let refused = blocks.reserve_many(&mut reservers[1], 4);
-    /// assert_eq!(refused, Err(BlockError::Space { wanted: 4, left: 3 }));
-    /// assert_eq!(blocks.reserve_many(&mut reservers[1], 3)?.len(), 3);
-    /// # Ok::<(), Box<dyn std::error::Error + Send + Sync>>(())
-    /// ```
+    /// in the order of [`Entities::reply`]. It neither allocates nor waits.
     ///
     /// # Errors
     ///
-    /// No handle is used then. The error is the first of these that applies:
-    /// [`BlockError::OtherPhase`] if the reserver is of another phase; [`BlockError::Space`] if the
-    /// block has fewer than `n` handles left, and the reserver [remembers](BlockReserver::wanted)
-    /// how many were wanted; [`BlockError::Memory`] if there isn't enough memory for the list.
-    ///
-    /// <details><summary>Contract</summary>
-    ///
-    /// <code style="display: block; tab-size: 4; white-space: pre-wrap">// In the words of [contracts](crate::contracts):
-    /// ensures given { [IfOk](crate::contracts::logic#IfOk) result (λ handles. handles.items ≡ [listed](crate::contracts::ent_alloc::sequential#listed) self.now.phase.start.made
-    /// &#9;([take](crate::contracts::logic#take) n ([rest_of](crate::contracts::ent_blocks::blocks#rest_of) self.now.phase.start.pool reserver.old.block))) }
-    /// ensures ok { [OnOk](crate::contracts::logic#OnOk) result (reserver.new ≡ record reserver.old {
-    /// &#32;&#32;block = [after_use](crate::contracts::ent_blocks::blocks#after_use) reserver.old.block n;
-    /// }) }
-    /// ensures other_phase { [IsErrOf](crate::contracts::logic#IsErrOf) result refused.OtherPhase
-    /// &#9;↔ (reserver.old.number ≢ self.now.number) }
-    /// ensures space { let left = reserver.old.block.size - reserver.old.block.used in
-    /// &#9;[IsErrOf](crate::contracts::logic#IsErrOf) result (refused.Space n left)
-    /// &#9;↔ ((reserver.old.number ≡ self.now.number) × (left \< n)) }
-    /// ensures err { let left = reserver.old.block.size - reserver.old.block.used in
-    /// &#9;[IfErr](crate::contracts::logic#IfErr) result (λ error. (error ≡ refused.OtherPhase)
-    /// &#9;⊎ ((error ≡ refused.Space n left) ⊎ ((error ≡ refused.Memory) × (0 \< n)))) }
-    /// ensures remembers { [IfErr](crate::contracts::logic#IfErr) result (λ error.
-    /// &#9;reserver.new ≡ [after_error](crate::contracts::ent_blocks::faults#after_error) reserver.old error) }
-    /// </code>
-    ///
-    /// </details>
-    #[inline]
-    pub fn reserve_many(
+    /// [`Refused::Space`] if the block has fewer than `n` handles left. The reserver
+    /// [remembers](BlockReserver::wanted) how many were wanted.
+    #[inline(always)]
+    pub(crate) fn reserve_many(
         &self,
         reserver: &mut BlockReserver,
         n: u32,
-    ) -> Result<Vec<Handle>, BlockError> {
-        let mut handles = Vec::new();
-        self.reserve_into(reserver, &mut handles, n)?;
-        Ok(handles)
-    }
-
-    /// [`reserve_many`](Self::reserve_many), which appends the handles to a list. It doesn't
-    /// allocate if the list has room for them, or if they are refused.
-    ///
-    /// ```
-    /// use forgeni::Entities;
-    ///
-    /// let (blocks, mut reservers) = Entities::new().open_in_blocks(&[100])?;
-    /// let mut handles = Vec::with_capacity(100);
-    /// for _ in 0..10 {
-    ///     blocks.reserve_into(&mut reservers[0], &mut handles, 10)?;
-    /// }
-    /// assert_eq!(handles.len(), 100);
-    /// # Ok::<(), Box<dyn std::error::Error + Send + Sync>>(())
-    /// ```
-    ///
-    /// # Errors
-    ///
-    /// The same as for [`reserve_many`](Self::reserve_many). The list is unchanged.
-    ///
-    /// <details><summary>Contract</summary>
-    ///
-    /// <code style="display: block; tab-size: 4; white-space: pre-wrap">// In the words of [contracts](crate::contracts):
-    /// ensures given { [OnOk](crate::contracts::logic#OnOk) result (handles.new.items ≡ handles.old.items
-    /// &#9;++ [listed](crate::contracts::ent_alloc::sequential#listed) self.now.phase.start.made
-    /// &#9;([take](crate::contracts::logic#take) n ([rest_of](crate::contracts::ent_blocks::blocks#rest_of) self.now.phase.start.pool reserver.old.block))) }
-    /// ensures ok { [OnOk](crate::contracts::logic#OnOk) result (reserver.new ≡ record reserver.old {
-    /// &#32;&#32;block = [after_use](crate::contracts::ent_blocks::blocks#after_use) reserver.old.block n;
-    /// }) }
-    /// ensures other_phase { [IsErrOf](crate::contracts::logic#IsErrOf) result refused.OtherPhase
-    /// &#9;↔ (reserver.old.number ≢ self.now.number) }
-    /// ensures space { let left = reserver.old.block.size - reserver.old.block.used in
-    /// &#9;[IsErrOf](crate::contracts::logic#IsErrOf) result (refused.Space n left)
-    /// &#9;↔ ((reserver.old.number ≡ self.now.number) × (left \< n)) }
-    /// ensures err { let left = reserver.old.block.size - reserver.old.block.used in
-    /// &#9;[IfErr](crate::contracts::logic#IfErr) result (λ error. (error ≡ refused.OtherPhase)
-    /// &#9;⊎ ((error ≡ refused.Space n left) ⊎ ((error ≡ refused.Memory)
-    /// &#9;× ([vec_capacity](crate::contracts::logic#vec_capacity) handles.old \< [vec_len](crate::contracts::logic#vec_len) handles.old + n)))) }
-    /// ensures remembers { [IfErr](crate::contracts::logic#IfErr) result (λ error.
-    /// &#9;reserver.new ≡ [after_error](crate::contracts::ent_blocks::faults#after_error) reserver.old error) }
-    /// ensures kept { [OnErr](crate::contracts::logic#OnErr) result (handles.new.items ≡ handles.old.items) }
-    /// </code>
-    ///
-    /// </details>
-    #[inline]
-    pub fn reserve_into(
-        &self,
-        reserver: &mut BlockReserver,
-        handles: &mut Vec<Handle>,
-        n: u32,
-    ) -> Result<(), BlockError> {
-        if reserver.number != self.number {
-            return Err(BlockError::OtherPhase);
-        }
-        let left = reserver.part.left();
+    ) -> Result<Reserved<'_>, Refused>
+        // requires { IsOf self.now reserver.old.block }
+        // ensures stays { IsOf self.now reserver.new.block }
+        // ensures drawn { IsDrawn self.now reserver.old reserver.new n result }
+        // ensures length { IfOk result (λ handles. length handles ≡ n) }
+        // ensures enough { OnOk result (n ≤ left_of reserver.old.block) }
+    {
+        let left = reserver.left();
         if n > left {
             return Err(reserver.refuse(n, left));
         }
-        handles.reserve_fallibly(n as usize)?;
-        let given = take_many(&self.entities, &mut reserver.part, n);
-        append(handles, given);
-        Ok(())
+        Ok(take_many(&self.entities, &mut reserver.part, n))
     }
-}
 
-/// # Closing
-impl Blocks {
-    /// Ends the phase with all its reservers, in the order in which they were made. What was used
-    /// is reserved: a flush brings it to life. What is left of the blocks can be given again, and
-    /// comes before all that was not dealt.
-    ///
-    /// If the blocks are used up from the first one on, it takes time only for each block. If
-    /// something is left before the last handle that was used, it takes time and memory for each
-    /// handle up to that one, and makes their slots: a new slot that wasn't used waits, with
-    /// generation 1.
-    ///
-    /// ```
-    /// use forgeni::Entities;
-    ///
-    /// let (blocks, mut reservers) = Entities::new().open_in_blocks(&[2, 2])?;
-    /// let used = blocks.reserve(&mut reservers[1])?;
-    /// let mut entities = blocks.close(reservers)?;
-    /// let mut born = Vec::new();
-    /// entities.flush(&mut born)?;
-    /// assert_eq!((born, entities.total()), (vec![used], 3));
-    /// assert_eq!(entities.alloc()?.index(), 0);
-    /// # Ok::<(), Box<dyn std::error::Error + Send + Sync>>(())
-    /// ```
-    ///
-    /// # Errors
-    ///
-    /// [`HandedBack`] has the phase and the reservers as they were, and the first of these errors
-    /// that applies: [`EndError::OtherPhase`], [`EndError::Order`], [`EndError::Missing`],
-    /// [`EndError::Memory`].
-    ///
-    /// <details><summary>Contract</summary>
-    ///
-    /// <code style="display: block; tab-size: 4; white-space: pre-wrap">// In the words of [contracts](crate::contracts):
-    /// ensures after { [IfOk](crate::contracts::logic#IfOk) result (λ entities. entities.allocator
-    /// &#9;≡ [after_blocks](crate::contracts::ent_blocks::blocks#after_blocks) self.phase.start ([blocks_of](crate::contracts::ent_blocks::blocks#blocks_of) reservers.items)) }
-    /// ensures rows { [IfOk](crate::contracts::logic#IfOk) result (λ entities. entities.rows ≡ self.phase.rows) }
-    /// ensures rows_of_living { [IfOk](crate::contracts::logic#IfOk) result [HasRowsOfLiving](crate::contracts::ent_alloc::entities#HasRowsOfLiving) }
-    /// ensures waiting { [IfOk](crate::contracts::logic#IfOk) result (λ entities.
-    /// &#9;[top](crate::contracts::ent_alloc::sequential#top) entities.allocator ≤ [max](crate::contracts::logic#max) ([top](crate::contracts::ent_alloc::sequential#top) self.phase.start) ([dealt](crate::contracts::ent_blocks::blocks#dealt) self.phase.blocks)) }
-    /// &#32;
-    /// // No handle was given twice, and none was alive.
-    /// ensures distinct { [IfOk](crate::contracts::logic#IfOk) result (λ entities.
-    /// &#9;[AllPairs](crate::contracts::logic#AllPairs) (λ g h. g ≢ h) entities.allocator.taken) }
-    /// ensures not_live { [IfOk](crate::contracts::logic#IfOk) result (λ entities.
-    /// &#9;[All](crate::contracts::logic#All) (λ h. ¬ ([IsLive](crate::contracts::ent_alloc::sound#IsLive) self.phase.start h)) entities.allocator.taken) }
-    /// &#32;
-    /// // A flush brings to life exactly what was used.
-    /// ensures brings_to_life { [IfOk](crate::contracts::logic#IfOk) result (λ entities. (h : [HandleValue](crate::contracts::ent_handle::handle#Handle)) →
-    /// &#9;[IsLive](crate::contracts::ent_alloc::sound#IsLive) ([after_flush](crate::contracts::ent_alloc::sequential#after_flush) entities.allocator) h
-    /// &#9;↔ ([IsLive](crate::contracts::ent_alloc::sound#IsLive) self.phase.start h ⊎ [Contains](crate::contracts::logic#Contains) entities.allocator.taken h)) }
-    /// &#32;
-    /// // When it succeeds, when it is refused, and what stands then.
-    /// ensures of { [OnOk](crate::contracts::logic#OnOk) result ([All](crate::contracts::logic#All) (λ r. r.number ≡ self.number) reservers.items) }
-    /// ensures all { [OnOk](crate::contracts::logic#OnOk) result ([map](crate::contracts::logic#map) [unused](crate::contracts::ent_blocks::blocks#unused) ([blocks_of](crate::contracts::ent_blocks::blocks#blocks_of) reservers.items) ≡ self.phase.blocks) }
-    /// ensures other_phase { [IsErrWith](crate::contracts::ent_blocks::faults#IsErrWith) result (λ h. h.error ≡ failed.OtherPhase)
-    /// &#9;↔ ¬ ([All](crate::contracts::logic#All) (λ r. r.number ≡ self.number) reservers.items) }
-    /// ensures order { [IsErrWith](crate::contracts::ent_blocks::faults#IsErrWith) result (λ h. h.error ≡ failed.Order)
-    /// &#9;↔ ([All](crate::contracts::logic#All) (λ r. r.number ≡ self.number) reservers.items
-    /// &#9;× ¬ ([IsTrue](crate::contracts::logic#IsTrue) ([are_among](crate::contracts::ent_blocks::blocks#are_among) self.phase.blocks ([blocks_of](crate::contracts::ent_blocks::blocks#blocks_of) reservers.items)))) }
-    /// ensures missing { [IsErrWith](crate::contracts::ent_blocks::faults#IsErrWith) result (λ h.
-    /// &#9;[IsMissing](crate::contracts::ent_blocks::faults#IsMissing) ([length](crate::contracts::logic#length) self.phase.blocks - [length](crate::contracts::logic#length) reservers.items) h.error)
-    /// &#9;↔ ([All](crate::contracts::logic#All) (λ r. r.number ≡ self.number) reservers.items
-    /// &#9;× ([IsTrue](crate::contracts::logic#IsTrue) ([are_among](crate::contracts::ent_blocks::blocks#are_among) self.phase.blocks ([blocks_of](crate::contracts::ent_blocks::blocks#blocks_of) reservers.items))
-    /// &#9;× ([length](crate::contracts::logic#length) reservers.items \< [length](crate::contracts::logic#length) self.phase.blocks))) }
-    /// ensures missing_count { [IfErr](crate::contracts::logic#IfErr) result (λ h. (n : [ℕ](crate::contracts::logic#ℕ)) → [IsMissing](crate::contracts::ent_blocks::faults#IsMissing) n h.error
-    /// &#9;→ n ≡ [length](crate::contracts::logic#length) self.phase.blocks - [length](crate::contracts::logic#length) reservers.items) }
-    /// ensures memory { [IsErrWith](crate::contracts::ent_blocks::faults#IsErrWith) result (λ h. h.error ≡ failed.Memory)
-    /// &#9;→ 0 \< [length](crate::contracts::logic#length) self.phase.blocks }
-    /// ensures handed_back { [IfErr](crate::contracts::logic#IfErr) result (λ h. (h.value.0 ≡ self)
-    /// &#9;× (h.value.1.items ≡ reservers.items)) }
-    /// </code>
-    ///
-    /// </details>
+    /// Ends the phase with the reservers of all blocks, in the order in which they were made. It
+    /// doesn't allocate. [`Ended::into_entities`] then gives the allocator.
     #[inline]
-    pub fn close(
-        self,
-        reservers: Vec<BlockReserver>,
-    ) -> Result<Entities, HandedBack<(Self, Vec<BlockReserver>), EndError>> {
-        if !are_of(self.number, &reservers) {
-            return Err(HandedBack::new((self, reservers), EndError::OtherPhase));
-        }
-        match missing(&self.parts, &reservers) {
-            None => Err(HandedBack::new((self, reservers), EndError::Order)),
-            Some(0) => self.end_with(reservers),
-            Some(count) => Err(HandedBack::new((self, reservers), EndError::Missing { count })),
-        }
+    pub(crate) fn close(self, reservers: Vec<BlockReserver>) -> Ended
+        // requires among { IsTrue (are_among self.blocks (blocks_of reservers.items)) }
+        // requires all { length reservers.items ≡ length self.blocks }
+        // ensures { EndsWithAll self reservers.items result }
+    {
+        self.close_lost(reservers)
     }
 
-    /// Ends the phase although some reservers are lost: they were dropped, as by a thread that
+    /// Ends the phase although some reservers may be lost: they were dropped, as by a thread that
     /// panicked. The others are in the order in which they were made. What is left of a lost one's
-    /// block counts as used, so [`flush`](Entities::flush) brings all handles of that block to
-    /// life.
-    ///
-    /// ```
-    /// use forgeni::{EndError, Entities};
-    ///
-    /// let (blocks, mut reservers) = Entities::new().open_in_blocks(&[3, 4])?;
-    /// let used = blocks.reserve(&mut reservers[1])?;
-    /// drop(reservers.remove(0));
-    /// let ((blocks, reservers), error) = blocks.close(reservers).unwrap_err().into_parts();
-    /// assert_eq!(error, EndError::Missing { count: 1 });
-    /// let mut entities = blocks.close_lost(reservers)?;
-    /// let mut born = Vec::new();
-    /// entities.flush(&mut born)?;
-    /// assert!(born.len() == 4 && born.contains(&used));
-    /// # Ok::<(), Box<dyn std::error::Error + Send + Sync>>(())
-    /// ```
-    ///
-    /// # Errors
-    ///
-    /// [`HandedBack`] has the phase and the reservers as they were, and the first of these errors
-    /// that applies: [`EndError::OtherPhase`], [`EndError::Order`], [`EndError::Memory`].
-    ///
-    /// <details><summary>Contract</summary>
-    ///
-    /// <code style="display: block; tab-size: 4; white-space: pre-wrap">// In the words of [contracts](crate::contracts):
-    /// ensures after { [IfOk](crate::contracts::logic#IfOk) result (λ entities. entities.allocator ≡ [after_blocks](crate::contracts::ent_blocks::blocks#after_blocks)
-    /// &#9;self.phase.start ([accounted](crate::contracts::ent_blocks::blocks#accounted) self.phase.blocks ([blocks_of](crate::contracts::ent_blocks::blocks#blocks_of) reservers.items))) }
-    /// ensures rows { [IfOk](crate::contracts::logic#IfOk) result (λ entities. entities.rows ≡ self.phase.rows) }
-    /// ensures rows_of_living { [IfOk](crate::contracts::logic#IfOk) result [HasRowsOfLiving](crate::contracts::ent_alloc::entities#HasRowsOfLiving) }
-    /// ensures waiting { [IfOk](crate::contracts::logic#IfOk) result (λ entities.
-    /// &#9;[top](crate::contracts::ent_alloc::sequential#top) entities.allocator ≤ [max](crate::contracts::logic#max) ([top](crate::contracts::ent_alloc::sequential#top) self.phase.start) ([dealt](crate::contracts::ent_blocks::blocks#dealt) self.phase.blocks)) }
-    /// &#32;
-    /// // No handle is taken twice, and none was alive. A flush brings to life exactly these.
-    /// ensures distinct { [IfOk](crate::contracts::logic#IfOk) result (λ entities.
-    /// &#9;[AllPairs](crate::contracts::logic#AllPairs) (λ g h. g ≢ h) entities.allocator.taken) }
-    /// ensures not_live { [IfOk](crate::contracts::logic#IfOk) result (λ entities.
-    /// &#9;[All](crate::contracts::logic#All) (λ h. ¬ ([IsLive](crate::contracts::ent_alloc::sound#IsLive) self.phase.start h)) entities.allocator.taken) }
-    /// ensures brings_to_life { [IfOk](crate::contracts::logic#IfOk) result (λ entities. (h : [HandleValue](crate::contracts::ent_handle::handle#Handle)) →
-    /// &#9;[IsLive](crate::contracts::ent_alloc::sound#IsLive) ([after_flush](crate::contracts::ent_alloc::sequential#after_flush) entities.allocator) h
-    /// &#9;↔ ([IsLive](crate::contracts::ent_alloc::sound#IsLive) self.phase.start h ⊎ [Contains](crate::contracts::logic#Contains) entities.allocator.taken h)) }
-    /// &#32;
-    /// // When it succeeds, when it is refused, and what stands then.
-    /// ensures of { [OnOk](crate::contracts::logic#OnOk) result ([All](crate::contracts::logic#All) (λ r. r.number ≡ self.number) reservers.items) }
-    /// ensures among { [OnOk](crate::contracts::logic#OnOk) result
-    /// &#9;([IsTrue](crate::contracts::logic#IsTrue) ([are_among](crate::contracts::ent_blocks::blocks#are_among) self.phase.blocks ([blocks_of](crate::contracts::ent_blocks::blocks#blocks_of) reservers.items))) }
-    /// ensures other_phase { [IsErrWith](crate::contracts::ent_blocks::faults#IsErrWith) result (λ h. h.error ≡ failed.OtherPhase)
-    /// &#9;↔ ¬ ([All](crate::contracts::logic#All) (λ r. r.number ≡ self.number) reservers.items) }
-    /// ensures order { [IsErrWith](crate::contracts::ent_blocks::faults#IsErrWith) result (λ h. h.error ≡ failed.Order)
-    /// &#9;↔ ([All](crate::contracts::logic#All) (λ r. r.number ≡ self.number) reservers.items
-    /// &#9;× ¬ ([IsTrue](crate::contracts::logic#IsTrue) ([are_among](crate::contracts::ent_blocks::blocks#are_among) self.phase.blocks ([blocks_of](crate::contracts::ent_blocks::blocks#blocks_of) reservers.items)))) }
-    /// ensures no_missing { [IfErr](crate::contracts::logic#IfErr) result (λ h. (n : [ℕ](crate::contracts::logic#ℕ)) → ¬ ([IsMissing](crate::contracts::ent_blocks::faults#IsMissing) n h.error)) }
-    /// ensures memory { [IsErrWith](crate::contracts::ent_blocks::faults#IsErrWith) result (λ h. h.error ≡ failed.Memory)
-    /// &#9;→ 0 \< [length](crate::contracts::logic#length) self.phase.blocks }
-    /// ensures handed_back { [IfErr](crate::contracts::logic#IfErr) result (λ h. (h.value.0 ≡ self)
-    /// &#9;× (h.value.1.items ≡ reservers.items)) }
-    /// </code>
-    ///
-    /// </details>
+    /// block counts as used. It doesn't allocate.
     #[inline]
-    pub fn close_lost(
-        self,
-        reservers: Vec<BlockReserver>,
-    ) -> Result<Entities, HandedBack<(Self, Vec<BlockReserver>), EndError>> {
-        if !are_of(self.number, &reservers) {
-            return Err(HandedBack::new((self, reservers), EndError::OtherPhase));
-        }
-        if missing(&self.parts, &reservers).is_none() {
-            return Err(HandedBack::new((self, reservers), EndError::Order));
-        }
-        self.end_with(reservers)
-    }
-}
-
-/// # Looking at entities
-impl Blocks {
-    /// Returns the number of blocks.
-    ///
-    /// ```
-    /// use forgeni::Entities;
-    ///
-    /// let (blocks, reservers) = Entities::new().open_in_blocks(&[100; 8])?;
-    /// assert_eq!((blocks.count(), reservers.len()), (8, 8));
-    /// # Ok::<(), Box<dyn std::error::Error>>(())
-    /// ```
-    ///
-    /// <details><summary>Contract</summary>
-    ///
-    /// <code style="display: block; tab-size: 4; white-space: pre-wrap">// In the words of [contracts](crate::contracts):
-    /// ensures { result ≡ [length](crate::contracts::logic#length) self.now.phase.blocks }
-    /// </code>
-    ///
-    /// </details>
-    #[must_use]
-    #[inline]
-    pub fn count(&self) -> usize {
-        self.parts.len()
-    }
-
-    /// Returns `true` if the entity was alive when the phase was opened. That doesn't change until
-    /// the close. Any thread may call it, and it takes constant time.
-    ///
-    /// ```
-    /// use forgeni::Entities;
-    ///
-    /// let mut entities = Entities::new();
-    /// let old = entities.alloc()?;
-    /// let (blocks, mut reservers) = entities.open_in_blocks(&[10])?;
-    /// let new = blocks.reserve(&mut reservers[0])?;
-    /// assert!(blocks.is_alive(old) && !blocks.is_alive(new));
-    /// # Ok::<(), Box<dyn std::error::Error>>(())
-    /// ```
-    ///
-    /// <details><summary>Contract</summary>
-    ///
-    /// <code style="display: block; tab-size: 4; white-space: pre-wrap">// In the words of [contracts](crate::contracts):
-    /// ensures { result ≡ [set.contains](crate::contracts::logic#FinSet.contains) self.now.phase.start.live handle }
-    /// </code>
-    ///
-    /// </details>
-    #[must_use]
-    #[inline]
-    pub fn is_alive(&self, handle: Handle) -> bool {
-        self.entities.is_alive(handle)
-    }
-
-    /// Returns the row that the entity had when the phase was opened, or `None` if it wasn't alive
-    /// then or had no row. It takes constant time.
-    ///
-    /// ```
-    /// use forgeni::Entities;
-    ///
-    /// let mut entities = Entities::new();
-    /// let (seen, plain) = (entities.alloc()?, entities.alloc()?);
-    /// entities.try_set_row(seen, 7)?;
-    /// let (blocks, _reservers) = entities.open_in_blocks(&[10])?;
-    /// assert_eq!((blocks.row(seen), blocks.row(plain)), (Some(7), None));
-    /// # Ok::<(), Box<dyn std::error::Error>>(())
-    /// ```
-    ///
-    /// <details><summary>Contract</summary>
-    ///
-    /// <code style="display: block; tab-size: 4; white-space: pre-wrap">// In the words of [contracts](crate::contracts):
-    /// ensures value { result ≡ [maps.get](crate::contracts::logic#FinMap.get) self.now.phase.rows handle }
-    /// ensures alive { [OnSome](crate::contracts::logic#OnSome) result ([set.contains](crate::contracts::logic#FinSet.contains) self.now.phase.start.live handle ≡ [true](crate::contracts::logic#true)) }
-    /// </code>
-    ///
-    /// </details>
-    #[must_use]
-    #[inline]
-    pub fn row(&self, handle: Handle) -> Option<u32> {
-        self.entities.row(handle)
-    }
-}
-
-impl Blocks {
-    #[inline]
-    pub(super) fn new(entities: Entities, parts: Vec<Part>, number: u64) -> Self
-        // requires dealt { AreDealt entities.allocator parts.items }
-        // requires stands_for { J.blocks_of number ≡ record {
-        //   start = entities.allocator;
-        //   rows = entities.rows;
-        //   blocks = parts.items;
-        // } }
-        // ensures { result ≡ record {
-        //   number = number;
-        //   phase = record {
-        //     start = entities.allocator;
-        //     rows = entities.rows;
-        //     blocks = parts.items;
-        //   };
-        // } }
-    {
-        Blocks {
-            entities,
-            parts,
-            number,
-        }
-    }
-
-    #[inline]
-    pub(super) fn number(&self) -> u64
-        // ensures { result ≡ self.now.number }
-    {
-        self.number
-    }
-
-    /// Ends the phase with these reservers, of some of its blocks.
-    #[inline]
-    fn end_with(
-        self,
-        reservers: Vec<BlockReserver>,
-    ) -> Result<Entities, HandedBack<(Self, Vec<BlockReserver>), EndError>>
-        // ensures after { IfOk result (λ entities. entities.allocator ≡ after_blocks
-        //     self.phase.start (accounted self.phase.blocks (blocks_of reservers.items))) }
-        // ensures rows { IfOk result (λ entities. entities.rows ≡ self.phase.rows) }
-        // ensures rows_of_living { IfOk result HasRowsOfLiving }
-        // ensures waiting { IfOk result (λ entities.
-        //     top entities.allocator ≤ max (top self.phase.start) (dealt self.phase.blocks)) }
-        // ensures distinct { IfOk result (λ entities.
-        //     AllPairs (λ g h. g ≢ h) entities.allocator.taken) }
-        // ensures not_live { IfOk result (λ entities.
-        //     All (λ h. ¬ (IsLive self.phase.start h)) entities.allocator.taken) }
-        // ensures brings_to_life { IfOk result (λ entities. (h : HandleValue) →
-        //     IsLive (after_flush entities.allocator) h
-        //     ↔ (IsLive self.phase.start h ⊎ Contains entities.allocator.taken h)) }
-        // ensures error { IfErr result (λ h. h.error ≡ failed.Memory) }
-        // ensures memory { OnErr result (0 < length self.phase.blocks) }
-        // ensures handed_back { IfErr result (λ h. (h.value.0 ≡ self)
-        //     × (h.value.1.items ≡ reservers.items)) }
-        // ensures unused { map unused
-        //     (accounted self.phase.blocks (blocks_of reservers.items)) ≡ self.phase.blocks }
+    pub(crate) fn close_lost(self, reservers: Vec<BlockReserver>) -> Ended
+        // requires { IsTrue (are_among self.blocks (blocks_of reservers.items)) }
+        // ensures ended { EndsWithSome self reservers.items result }
+        // ensures all { map unused (accounted self.blocks (blocks_of reservers.items)) ≡ self.blocks }
     {
         let Blocks {
-            mut entities,
+            entities,
             parts,
-            number,
+            mut ends,
         } = self;
-        let Ok(mut all) = Vec::with_capacity_fallibly(parts.len()) else {
-            let blocks = Blocks::new(entities, parts, number);
-            return Err(HandedBack::new((blocks, reservers), EndError::Memory));
-        };
-        account(&parts, &reservers, &mut all);
-        let Ok(()) = take_used(&mut entities, &all) else {
-            let blocks = Blocks::new(entities, parts, number);
-            return Err(HandedBack::new((blocks, reservers), EndError::Memory));
-        };
-        Ok(entities)
+        account(&parts, &reservers, &mut ends);
+        Ended::new(entities, ends, 0)
     }
-}
-
-/// [`Blocks::reserve_many`] without a list: it doesn't allocate, and each handle is looked up when
-/// it is yielded.
-///
-/// # Errors
-///
-/// As [`Blocks::reserve_many`], except that there is no [`BlockError::Memory`].
-///
-/// <details><summary>Contract</summary>
-///
-/// <code style="display: block; tab-size: 4; white-space: pre-wrap">// In the words of [contracts](crate::contracts):
-/// ensures given { [IfOk](crate::contracts::logic#IfOk) result (λ handles. handles ≡ [listed](crate::contracts::ent_alloc::sequential#listed) blocks.now.phase.start.made
-/// &#9;([take](crate::contracts::logic#take) n ([rest_of](crate::contracts::ent_blocks::blocks#rest_of) blocks.now.phase.start.pool reserver.old.block))) }
-/// ensures length { [IfOk](crate::contracts::logic#IfOk) result (λ handles. [length](crate::contracts::logic#length) handles ≡ n) }
-/// ensures enough { [OnOk](crate::contracts::logic#OnOk) result (n ≤ reserver.old.block.size - reserver.old.block.used) }
-/// ensures ok { [OnOk](crate::contracts::logic#OnOk) result (reserver.new ≡ record reserver.old {
-/// &#32;&#32;block = [after_use](crate::contracts::ent_blocks::blocks#after_use) reserver.old.block n;
-/// }) }
-/// ensures other_phase { [IsErrOf](crate::contracts::logic#IsErrOf) result refused.OtherPhase
-/// &#9;↔ (reserver.old.number ≢ blocks.now.number) }
-/// ensures space { let left = reserver.old.block.size - reserver.old.block.used in
-/// &#9;[IsErrOf](crate::contracts::logic#IsErrOf) result (refused.Space n left)
-/// &#9;↔ ((reserver.old.number ≡ blocks.now.number) × (left \< n)) }
-/// ensures err { let left = reserver.old.block.size - reserver.old.block.used in
-/// &#9;[IfErr](crate::contracts::logic#IfErr) result (λ error. (error ≡ refused.OtherPhase) ⊎ (error ≡ refused.Space n left)) }
-/// ensures remembers { [IfErr](crate::contracts::logic#IfErr) result (λ error.
-/// &#9;reserver.new ≡ [after_error](crate::contracts::ent_blocks::faults#after_error) reserver.old error) }
-/// </code>
-///
-/// </details>
-#[inline]
-pub fn reserve_iter<'b>(
-    blocks: &'b Blocks,
-    reserver: &mut BlockReserver,
-    n: u32,
-) -> Result<Reserved<'b>, BlockError> {
-    if reserver.number != blocks.number {
-        return Err(BlockError::OtherPhase);
-    }
-    let left = reserver.part.left();
-    if n > left {
-        return Err(reserver.refuse(n, left));
-    }
-    Ok(take_many(&blocks.entities, &mut reserver.part, n))
 }

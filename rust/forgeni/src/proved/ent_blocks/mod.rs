@@ -4,14 +4,14 @@
 //! handle each is given depends on no other, and on no thread.
 
 mod accounting;
-mod block_error;
 mod block_reserver;
 mod block_size;
 mod blocks;
 mod closing;
-mod deal_error;
-mod end_error;
+mod deals;
+mod ended;
 mod held;
+mod in_blocks;
 mod opening;
 mod overflow;
 mod part;
@@ -19,11 +19,11 @@ mod source;
 mod taking;
 
 pub(crate) use crate::in_blocks::overflow::open_with_overflow;
-pub use block_error::BlockError;
 pub use block_reserver::{BlockReserver, again};
 pub use block_size::BlockSize;
-pub use blocks::{Blocks, reserve_iter};
-pub use deal_error::DealError;
-pub use end_error::EndError;
-pub use opening::{Deal, open_in_blocks};
-pub use overflow::{Ended, Overflow, OverflowReserver};
+pub use blocks::Blocks;
+pub use deals::Deals;
+pub use ended::Ended;
+pub use in_blocks::InBlocks;
+pub(crate) use opening::open_in_blocks;
+pub use overflow::{Overflow, OverflowReserver};

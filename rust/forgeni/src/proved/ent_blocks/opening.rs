@@ -6,104 +6,67 @@ use alloc::vec::Vec;
 use crate::kit::vec::FallibleVec;
 use crate::in_blocks::block_reserver::BlockReserver;
 use crate::in_blocks::blocks::Blocks;
-use crate::in_blocks::deal_error::DealError;
 use crate::in_blocks::part::Part;
 use crate::allocator::Entities;
-use crate::handles::{HandedBack, OutOfMemory};
-
-/// A phase in blocks that has no number yet.
-pub struct Deal {
-    entities: Entities,
-    parts: Vec<Part>,
-    reservers: Vec<BlockReserver>,
-}
+use crate::handles::OutOfMemory;
 
 /// Deals the pool's front in blocks of these sizes, one after the other: a block is smaller where
-/// the pool ends.
+/// the pool ends. The reservers are in the order of the sizes.
 ///
 /// The allocator is as it was: no slot is made, and no list of handles. It takes time and memory
 /// for each block, however large they are.
 ///
 /// # Errors
 ///
-/// [`HandedBack`] has the allocator as it was, and [`DealError::NeedsFlush`] or
-/// [`DealError::Memory`]. With no sizes, it doesn't allocate.
-///
-/// <details><summary>Contract</summary>
-///
-/// <code style="display: block; tab-size: 4; white-space: pre-wrap">// In the words of [contracts](crate::contracts):
-/// ensures start { [IfOk](crate::contracts::logic#IfOk) result (λ d. d.start ≡ entities.allocator) }
-/// ensures rows { [IfOk](crate::contracts::logic#IfOk) result (λ d. d.rows ≡ entities.rows) }
-/// ensures blocks { [IfOk](crate::contracts::logic#IfOk) result (λ d. d.blocks
-/// &#9;≡ [blocks_from](crate::contracts::ent_blocks::blocks#blocks_from) 0 ([length](crate::contracts::logic#length) entities.allocator.pool) sizes.now) }
-/// ensures needs_flush { [IsErrWith](crate::contracts::ent_blocks::faults#IsErrWith) result (λ h. h.error ≡ failed.NeedsFlush)
-/// &#9;↔ (0 \< entities.allocator.asked) }
-/// ensures memory { [IsErrWith](crate::contracts::ent_blocks::faults#IsErrWith) result (λ h. h.error ≡ failed.Memory) → 0 \< [length](crate::contracts::logic#length) sizes.now }
-/// ensures handed_back { [IfErr](crate::contracts::logic#IfErr) result (λ h. h.value ≡ entities) }
-/// </code>
-///
-/// </details>
+/// [`OutOfMemory`], with the allocator as it was, if an allocation fails, and for no other reason. With
+/// no sizes, it doesn't allocate.
 #[inline]
-pub fn open_in_blocks(
+pub(crate) fn open_in_blocks(
     entities: Entities,
     sizes: &[u32],
-) -> Result<Deal, HandedBack<Entities, DealError>> {
-    if entities.needs_flush() {
-        return Err(HandedBack::new(entities, DealError::NeedsFlush));
-    }
-
+) -> Result<(Blocks, Vec<BlockReserver>), (Entities, OutOfMemory)>
+    // requires flushed { entities.allocator.asked ≡ 0 }
+    // ensures start { IfOk result (λ made. made.0.start ≡ entities.allocator) }
+    // ensures rows { IfOk result (λ made. made.0.rows ≡ entities.rows) }
+    // ensures blocks { IfOk result (λ made. made.0.blocks
+    //     ≡ blocks_from 0 (length entities.allocator.pool) sizes.now) }
+    // ensures reservers { IfOk result (λ made. blocks_of made.1.items ≡ made.0.blocks) }
+    // ensures own { IfOk result (λ made. All (λ r. IsOf made.0 r.block) made.1.items) }
+    // ensures unused { IfOk result (λ made. All IsUnused made.1.items) }
+    // ensures many { IfOk result (λ made. length made.1.items ≡ length sizes.now) }
+    // ensures among { IfOk result (λ made.
+    //     IsTrue (are_among made.0.blocks (blocks_of made.1.items))) }
+    // ensures memory { OnErr result (0 < length sizes.now) }
+    // ensures err { IfErr result (λ refused. refused.0 ≡ entities) }
+{
     // Its contract says that the state is sound.
     let _top = entities.cursor();
-    let Ok(reservers) = Vec::with_capacity_fallibly(sizes.len()) else {
-        return Err(HandedBack::new(entities, DealError::Memory));
+    let Ok(mut reservers) = Vec::with_capacity_fallibly(sizes.len()) else {
+        return Err((entities, OutOfMemory));
+    };
+    let Ok(ends) = Vec::with_capacity_fallibly(sizes.len()) else {
+        return Err((entities, OutOfMemory));
     };
     let Ok(parts) = parts_of(&entities, sizes) else {
-        return Err(HandedBack::new(entities, DealError::Memory));
+        return Err((entities, OutOfMemory));
     };
-    Ok(Deal {
-        entities,
-        parts,
-        reservers,
-    })
-}
-
-impl Deal {
-    /// The phase under this number, which no other phase has, and a reserver of each block, in the
-    /// order of the sizes. It doesn't allocate.
-    #[inline]
-    pub(crate) fn numbered(self, number: u64) -> (Blocks, Vec<BlockReserver>)
-        // requires stands_for { J.blocks_of number ≡ self }
-        // ensures phase { result.0 ≡ record { number = number; phase = self } }
-        // ensures reservers { blocks_of result.1.items ≡ self.blocks }
-        // ensures of { All (λ r. r.number ≡ number) result.1.items }
-        // ensures none_refused { All (λ r. r.refused ≡ 0) result.1.items }
-    {
-        let Deal {
-            entities,
-            parts,
-            mut reservers,
-        } = self;
-        hand_out(&parts, number, &mut reservers);
-        (Blocks::new(entities, parts, number), reservers)
-    }
+    hand_out(&parts, &mut reservers);
+    Ok((Blocks::new(entities, parts, ends), reservers))
 }
 
 /// Appends a reserver of each block. There is room for them.
 #[inline]
-fn hand_out(parts: &[Part], number: u64, reservers: &mut Vec<BlockReserver>)
-    // requires own { (J.blocks_of number).blocks ≡ parts.now }
+fn hand_out(parts: &[Part], reservers: &mut Vec<BlockReserver>)
     // requires unused { All (λ b. b.used ≡ 0) parts.now }
     // requires none { reservers.old.items ≡ [] }
     // requires room { length parts.now ≤ vec_capacity reservers.old }
     // ensures reservers { blocks_of reservers.new.items ≡ parts.now }
-    // ensures of { All (λ r. r.number ≡ number) reservers.new.items }
-    // ensures none_refused { All (λ r. r.refused ≡ 0) reservers.new.items }
+    // ensures unused { All IsUnused reservers.new.items }
 {
     for part in parts {
         reservers.push_reserved(BlockReserver {
             part: part.with_used(0),
             refused: 0,
-            number,
         });
     }
 }

@@ -4,13 +4,11 @@
 //! block, its handles don't depend on the others.
 
 mod dealing;
-mod ended;
 mod opening;
 mod phase;
 mod reserver;
 mod source;
 
-pub use ended::Ended;
 pub(crate) use opening::open_with_overflow;
 pub use phase::Overflow;
 pub use reserver::OverflowReserver;

@@ -140,3 +140,16 @@ impl Part {
         }
     }
 }
+
+/// How many handles the blocks have in all.
+#[inline]
+pub(super) fn dealt(parts: &[Part]) -> u32
+    // requires { dealt parts.now < 2 ^ 32 }
+    // ensures { result ≡ dealt parts.now }
+{
+    let mut count = 0;
+    for part in parts {
+        count += part.size();
+    }
+    count
+}

@@ -1,6 +1,7 @@
 // Made of crates/ent_queue/src/leaving.rt by rust/erase. It isn't edited by hand.
 
 //! What a system whose handles come from a block may ask.
+
 use crate::commands::commands::SystemCommands;
 use crate::in_blocks::Blocks;
 
@@ -10,7 +11,7 @@ impl<O> SystemCommands<'_, O, Blocks> {
     ///
     /// ```
     /// # #[cfg(feature = "std")] {
-    /// use forgeni::{run_frame_in_blocks, CommandsInBlocks, OutOfMemory, StdThreads, View, World};
+    /// use forgeni::{fill_in_blocks, CommandsInBlocks, OutOfMemory, StdThreads, View, World};
     ///
     /// /// A burst of what the block still has.
     /// fn burst(_: &View<'_>, commands: &mut CommandsInBlocks<'_>) -> Result<(), OutOfMemory> {
@@ -18,8 +19,10 @@ impl<O> SystemCommands<'_, O, Blocks> {
     ///     commands.spawn_many_with(n, &[]).map_or_else(|refused| refused.or_memory(), |_| Ok(()))
     /// }
     ///
-    /// let (open, reservers) = World::new().open_in_blocks(&[10, 30])?;
-    /// let (world, _report) = run_frame_in_blocks(&StdThreads, open, reservers, &[burst; 2], 2)?;
+    /// let (phase, mut reservers) = World::new().open_in_blocks(&[10, 30])?;
+    /// let queues = fill_in_blocks(&StdThreads, &phase, &mut reservers, &[burst; 2], 2)?;
+    /// let mut world = phase.close(reservers)?.into_world()?;
+    /// world.apply(queues)?;
     /// assert_eq!(world.len(), 40);
     /// # }
     /// # Ok::<(), Box<dyn std::error::Error>>(())

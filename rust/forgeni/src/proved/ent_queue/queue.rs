@@ -50,24 +50,6 @@ impl IssuedCommands {
 
     /// Returns the number of commands.
     ///
-    /// ```
-    /// # #[cfg(feature = "std")] {
-    /// use forgeni::{run_frame_in_blocks, CommandsInBlocks, OutOfMemory, StdThreads, View, World};
-    ///
-    /// fn twice(_: &View<'_>, commands: &mut CommandsInBlocks<'_>) -> Result<(), OutOfMemory> {
-    ///     for _ in 0..2 {
-    ///         commands.spawn_with(&[]).map_or_else(|refused| refused.or_memory(), |_| Ok(()))?;
-    ///     }
-    ///     Ok(())
-    /// }
-    ///
-    /// let (open, reservers) = World::new().open_in_blocks(&[10])?;
-    /// let (_world, frame) = run_frame_in_blocks(&StdThreads, open, reservers, &[twice], 1)?;
-    /// assert_eq!(frame.queues[0].len(), 2);
-    /// # }
-    /// # Ok::<(), Box<dyn std::error::Error>>(())
-    /// ```
-    ///
     /// <details><summary>Contract</summary>
     ///
     /// <code style="display: block; tab-size: 4; white-space: pre-wrap">// In the words of [contracts](crate::contracts):
@@ -81,21 +63,6 @@ impl IssuedCommands {
     }
 
     /// Returns `true` if there are no commands.
-    ///
-    /// ```
-    /// # #[cfg(feature = "std")] {
-    /// use forgeni::{run_frame_in_blocks, CommandsInBlocks, OutOfMemory, StdThreads, View, World};
-    ///
-    /// fn idle(_: &View<'_>, _: &mut CommandsInBlocks<'_>) -> Result<(), OutOfMemory> {
-    ///     Ok(())
-    /// }
-    ///
-    /// let (open, reservers) = World::new().open_in_blocks(&[10])?;
-    /// let (_world, frame) = run_frame_in_blocks(&StdThreads, open, reservers, &[idle], 1)?;
-    /// assert!(frame.queues[0].is_empty());
-    /// # }
-    /// # Ok::<(), Box<dyn std::error::Error>>(())
-    /// ```
     ///
     /// <details><summary>Contract</summary>
     ///

@@ -4,13 +4,12 @@
 //! which handles a system gets depends on no other system, and on no thread.
 
 mod filling;
-mod frame;
 mod room;
 mod run_error;
 mod running;
 mod splitting;
 
-pub use crate::running::blocks::filling::fill_in_blocks;
-pub use crate::running::blocks::frame::{Unframed, run_frame_in_blocks};
+pub(crate) use crate::running::blocks::filling::fill_in_blocks;
+pub use crate::running::blocks::room::check_run;
 pub use crate::running::blocks::run_error::RunError;
-pub use crate::running::blocks::running::run_in_blocks;
+pub(crate) use crate::running::blocks::running::run_in_blocks;

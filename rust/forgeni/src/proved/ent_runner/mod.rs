@@ -10,7 +10,9 @@ mod logs;
 mod stage;
 mod systems;
 
-pub use blocks::{RunError, Unframed, fill_in_blocks, run_frame_in_blocks, run_in_blocks};
+pub(crate) use blocks::fill_in_blocks;
+pub(crate) use blocks::run_in_blocks;
+pub use blocks::{RunError, check_run};
 pub use crew::{ClaimRecord, Claimer, Claims, Crew, Jobs};
 pub use crate::kit::either::{Either, Left, Right};
 pub use frame::gate::{Gate, NoGate};

@@ -1,6 +1,7 @@
 // Made of crates/ent_runner/src/stage.rt by rust/erase. It isn't edited by hand.
 
 //! The systems of a run are the jobs of a crew.
+
 use crate::running::crew::Jobs;
 use crate::running::systems::Systems;
 use crate::in_blocks::{BlockReserver, Blocks, again};
@@ -32,11 +33,8 @@ pub(super) struct BlockStage<'b, 'r, 's, T> {
 
 /// Nothing is lent to them: each has its own reserver. So there is nothing that workers share but
 /// the claims.
-impl<O: Output, E, T: Systems<O, Blocks, E>> Jobs<
-    (O, BlockReserver),
-    (),
-    E,
-> for BlockStage<'_, '_, '_, T> {
+impl<O: Output, E, T: Systems<O, Blocks, E>> Jobs<(O, BlockReserver), (), E>
+    for BlockStage<'_, '_, '_, T> {
     /// Runs the system of this number, which is run once. Its output has what it added, also if it
     /// stopped.
     #[inline]

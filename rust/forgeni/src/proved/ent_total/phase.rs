@@ -314,6 +314,14 @@ impl<S: Phased> Phase<S> {
         }
     }
 
+    /// What serves the reservers.
+    #[inline]
+    pub(super) fn server(&self) -> &S
+        // ensures { result.now ≡ self.now.source }
+    {
+        &self.source
+    }
+
     #[inline]
     pub(super) fn number(&self) -> u64
         // ensures number { result ≡ self.now.number }

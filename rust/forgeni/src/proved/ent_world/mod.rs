@@ -16,11 +16,11 @@ mod stop;
 mod sync;
 mod view;
 mod world;
-mod world_in_blocks;
+mod world_rest;
 
 pub use fault::{Fault, FaultKind, SyncFault, Report};
 pub use image_fault::WorldImageFault;
 pub use open_world::OpenWorld;
 pub use view::View;
 pub use world::World;
-pub use world_in_blocks::{PlacedWorld, WorldDeal, WorldInBlocks};
+pub use world_rest::WorldRest;

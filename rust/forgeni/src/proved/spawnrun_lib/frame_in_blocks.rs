@@ -1,14 +1,15 @@
 // Made of crates/spawnrun_lib/src/frame_in_blocks.rt by rust/erase. It isn't edited by hand.
 
 //! One frame of a script whose systems get their handles from blocks.
+
 use alloc::vec::Vec;
 use crate::kit::vec::FallibleVec;
 use crate::spawnrun_lib::script_system::{ScriptSystem, runnable};
-use crate::in_blocks::DealError;
+use crate::in_blocks::open_in_blocks;
 use crate::handles::OutOfMemory;
-use crate::running::{RunError, Unframed, run_frame_in_blocks};
+use crate::running::{RunError, fill_in_blocks};
 use crate::scripts::System;
-use crate::worlds::{PlacedWorld, Report, World, WorldDeal};
+use crate::worlds::{Report, World};
 use crate::kit::thread::Join;
 
 /// When memory ran out in a frame in blocks, so that it didn't end.
@@ -32,42 +33,47 @@ fn sizes(size: u32, systems: &[System]) -> Result<Vec<u32>, OutOfMemory>
     Ok(sizes)
 }
 
-/// Runs the frame in the blocks that the number 0 means.
+/// Runs the systems in blocks of these sizes, and the sync point.
 #[inline]
 fn run_dealt<R>(
     rt: &R,
-    world: PlacedWorld,
+    world: World,
     sizes: &[u32],
     systems: &[ScriptSystem<'_>],
     workers: usize,
 ) -> Result<(World, Report), Undone>
 where
     R: Join + Sync,
+    // requires flushed { world.allocator.asked ≡ 0 }
     // requires some { 0 < workers }
     // requires few { workers ≤ 64 }
     // requires systems { length systems.now ≤ most_systems }
-    // requires stands_for { J.blocks_of 0 ≡ dealt_blocks world sizes.now }
-    // requires size { (size : ℕ) × (sizes.now ≡ sizes_of size systems.now) }
     // ensures flushed { IfOk result (λ ended. ended.0.allocator.asked ≡ 0) }
     // ensures went { IfOk result (λ ended. (queues : List (List Command))
-    //     × EndsInBlocks sizes.now systems.now world.world queues ended.0
+    //     × EndsInBlocks sizes.now systems.now world queues ended.0
     //     ended.1.born.items ended.1.faults.items) }
     // ensures lost { IsErrOf result Undone.Lost
-    //     → StopsInBlocks sizes.now systems.now workers world.world }
+    //     → StopsInBlocks sizes.now systems.now workers world }
 {
-    let dealt: Result<WorldDeal, (World, DealError)> = world.open_in_blocks(sizes);
-    let Ok(deal) = dealt else {
+    let (entities, rest) = world.apart();
+    let Ok((blocks, reservers)) = open_in_blocks(entities, sizes) else {
         return Err(Undone::Memory);
     };
-    let (opened, reservers) = deal.numbered(0);
-    match run_frame_in_blocks(rt, opened, reservers, systems, workers) {
-        Ok((world, report)) => Ok((world, report.sync)),
-        Err(
-            Unframed::Unrun {
-                error: RunError::Lost(_),
-                ..
-            },
-        ) => Err(Undone::Lost),
+    let filled = fill_in_blocks(rt, &blocks, reservers, rest.view(), systems, workers);
+    let (queues, reservers) = match filled {
+        Ok(filled) => filled,
+        Err(refused) => {
+            return Err(match refused.into_parts().1 {
+                RunError::Lost(_) => Undone::Lost,
+                _ => Undone::Memory,
+            });
+        }
+    };
+    let Ok(mut world) = rest.settle(blocks.close(reservers)) else {
+        return Err(Undone::Memory);
+    };
+    match world.apply(&queues) {
+        Ok(report) => Ok((world, report)),
         Err(_) => Err(Undone::Memory),
     }
 }
@@ -88,6 +94,7 @@ pub(super) fn run<R>(
 ) -> Result<(World, Report), Undone>
 where
     R: Join + Sync,
+    // requires flushed { world.allocator.asked ≡ 0 }
     // requires some { 0 < workers }
     // requires few { workers ≤ 64 }
     // requires systems { length systems.now ≤ most_systems }
@@ -106,5 +113,5 @@ where
     let Ok(sizes) = sizes(size, systems) else {
         return Err(Undone::Memory);
     };
-    run_dealt::<R>(rt, world.placed(), &sizes, &runnable, workers)
+    run_dealt(rt, world, &sizes, &runnable, workers)
 }

@@ -28,6 +28,7 @@ fn run_frames<R, P: Progress>(
 ) -> Result<(World, Vec<u8>), OutOfMemory>
 where
     R: Join + Sync,
+    // requires flushed { world.allocator.asked ≡ 0 }
     // requires systems { AreFew frames.items }
     // requires some { 0 < workers }
     // requires few { workers ≤ 64 }

@@ -2,21 +2,7 @@
 
 //! The dealer reserves all blocks, and every other reserver comes after it.
 
-use crate::in_blocks::part::Part;
 use crate::reserving::{SharedReserver, SharedSource};
-
-/// How many handles the blocks have in all.
-#[inline]
-pub(super) fn dealt(parts: &[Part]) -> u32
-    // requires { dealt parts.now < 2 ^ 32 }
-    // ensures { result ≡ dealt parts.now }
-{
-    let mut count = 0;
-    for part in parts {
-        count += part.size();
-    }
-    count
-}
 
 /// Reserves that many handles, as the first reservation of the phase if no other reserver has
 /// begun.

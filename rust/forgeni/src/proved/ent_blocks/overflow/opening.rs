@@ -5,10 +5,10 @@
 use alloc::vec::Vec;
 use crate::kit::vec::FallibleVec;
 use crate::in_blocks::opening::parts_of;
-use crate::in_blocks::overflow::dealing::{deal, dealt};
+use crate::in_blocks::overflow::dealing::deal;
 use crate::in_blocks::overflow::phase::Overflow;
 use crate::in_blocks::overflow::reserver::OverflowReserver;
-use crate::in_blocks::part::Part;
+use crate::in_blocks::part::{Part, dealt};
 use crate::allocator::Entities;
 use crate::handles::OutOfMemory;
 use crate::reserving::{SharedReserver, SharedSource, share};
@@ -40,9 +40,8 @@ pub(crate) fn open_with_overflow(
     // ensures many { IfOk result (λ made. length made.1.items ≡ length sizes.now) }
     // ensures among { IfOk result (λ made.
     //     IsTrue (are_among made.0.blocks (own_blocks made.1.items))) }
-    // Nobody has gone past its block yet, and each has its whole quota for it.
     // ensures nothing { IfOk result (λ made. past_history made.1.items ≡ []) }
-    // ensures quota { IfOk result (λ made. All (λ c. c.past.own.left ≡ quota) made.1.items) }
+    // ensures unused { IfOk result (λ made. All IsUnused made.1.items) }
     // ensures err { IfErr result (λ refused. refused.0 ≡ entities) }
 {
     let count = sizes.len();
@@ -92,7 +91,7 @@ fn hand_out(
     //   blocks = parts.now;
     // })) callers.new.items }
     // ensures nothing { past_history callers.new.items ≡ [] }
-    // ensures quota { All (λ c. c.past.own.left ≡ quota) callers.new.items }
+    // ensures unused { All IsUnused callers.new.items }
 {
     for part in parts {
         let Some(mut past) = reservers.pop() else {

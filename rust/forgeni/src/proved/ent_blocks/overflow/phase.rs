@@ -3,10 +3,9 @@
 use alloc::vec::Vec;
 use crate::kit::vec::FallibleVec;
 use crate::in_blocks::accounting::{account, missing};
-use crate::in_blocks::overflow::dealing::dealt;
-use crate::in_blocks::overflow::ended::Ended;
+use crate::in_blocks::ended::Ended;
 use crate::in_blocks::overflow::reserver::OverflowReserver;
-use crate::in_blocks::part::Part;
+use crate::in_blocks::part::{Part, dealt};
 use crate::in_blocks::taking::{take_many, take_one};
 use crate::allocator::{Entities, Refused, Reserved, cancel_requests};
 use crate::handles::Handle;

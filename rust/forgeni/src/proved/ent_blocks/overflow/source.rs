@@ -1,11 +1,14 @@
 // Made of crates/ent_blocks/src/overflow/source.rt by rust/erase. It isn't edited by hand.
 
 use alloc::vec::Vec;
-use crate::in_blocks::overflow::ended::Ended;
+use crate::in_blocks::deals::Deals;
+use crate::in_blocks::ended::Ended;
+use crate::in_blocks::in_blocks::InBlocks;
+use crate::in_blocks::overflow::opening::open_with_overflow;
 use crate::in_blocks::overflow::phase::Overflow;
 use crate::in_blocks::overflow::reserver::OverflowReserver;
 use crate::allocator::{Entities, Phased, Refused, Reserved, Source};
-use crate::handles::Handle;
+use crate::handles::{Handle, OutOfMemory};
 
 /// A reservation takes the next handles of the reserver's own block as long as it lasts. Past it,
 /// it is one atomic step of the cursor that all reservers share.
@@ -74,5 +77,43 @@ impl Phased for Overflow {
         // ensures { EndsWithSome self callers.items result }
     {
         self.close_lost(callers)
+    }
+}
+
+impl InBlocks for Overflow {
+    #[inline]
+    fn size_of(caller: &OverflowReserver) -> u32 {
+        caller.size()
+    }
+
+    #[inline]
+    fn used_of(caller: &OverflowReserver) -> u32 {
+        caller.used()
+    }
+
+    #[inline]
+    fn wanted_of(caller: &OverflowReserver) -> u32 {
+        caller.wanted()
+    }
+}
+
+/// Blocks whose reservers go on to one cursor that all share: at most 1,023 of them.
+impl Deals for Overflow {
+    #[inline]
+    fn fits(count: usize) -> bool {
+        count < 1024
+    }
+
+    #[inline]
+    fn deal(
+        entities: Entities,
+        sizes: &[u32],
+    ) -> Result<(Self, Vec<OverflowReserver>), (Entities, OutOfMemory)> {
+        open_with_overflow(entities, sizes)
+    }
+
+    #[inline]
+    fn into_ended(closed: Ended) -> Ended {
+        closed
     }
 }

@@ -1,7 +1,7 @@
 // Made of crates/ent_runner/src/blocks/filling.rt by rust/erase. It isn't edited by hand.
 
 use alloc::vec::Vec;
-use crate::running::blocks::room::{Room, WORKERS, check, prepare};
+use crate::running::blocks::room::{Room, WORKERS, check_run, prepare};
 use crate::running::blocks::run_error::RunError;
 use crate::running::blocks::splitting::split;
 use crate::running::crew::first_error;
@@ -30,60 +30,48 @@ use crate::kit::thread::Join;
 /// applies.
 ///
 /// - [`RunError::Workers`], [`RunError::Systems`], [`RunError::Reservers`],
-///   [`RunError::OtherPhase`], [`RunError::Memory`]: no system ran, and the reservers are handed
+///   [`RunError::Memory`]: no system ran, and the reservers are handed
 ///   back as they were. With no systems, it doesn't allocate.
 /// - [`RunError::Lost`]: a system returned an error, and this has the first one in the order of the
 ///   systems. Or some systems didn't run, since no worker has memory for another one: then it has
 ///   none. All queues and reservers are dropped: [`Blocks::close_lost`] ends the phase.
-///
-/// <details><summary>Contract</summary>
-///
-/// <code style="display: block; tab-size: 4; white-space: pre-wrap">// In the words of [contracts](crate::contracts):
-/// ensures ok { [IfOk](crate::contracts::logic#IfOk) result (λ ran. [HaveIssued](crate::contracts::ent_runner::blocks_queues#HaveIssued) S.may_issue systems.now view.entry blocks.now.phase.start
-/// &#9;([blocks_of](crate::contracts::ent_blocks::blocks#blocks_of) reservers.items) ran.0.items ([blocks_of](crate::contracts::ent_blocks::blocks#blocks_of) ran.1.items)) }
-/// ensures of { [IfOk](crate::contracts::logic#IfOk) result (λ ran. [All](crate::contracts::logic#All) (λ r. r.number ≡ blocks.now.number) ran.1.items) }
-/// ensures workers { [IsErrWith](crate::contracts::ent_blocks::faults#IsErrWith) result (λ h. h.error ≡ failed.Workers)
-/// &#9;↔ ((workers ≡ 0) ⊎ (64 \< workers)) }
-/// ensures systems { [IsErrWith](crate::contracts::ent_blocks::faults#IsErrWith) result (λ h. h.error ≡ failed.Systems)
-/// &#9;↔ ((0 \< workers) × (workers ≤ 64) × (2 ^ 16 \< [length](crate::contracts::logic#length) systems.now)) }
-/// ensures reservers { [IsErrWith](crate::contracts::ent_blocks::faults#IsErrWith) result (λ h. h.error ≡ failed.Reservers)
-/// &#9;↔ ((0 \< workers) × (workers ≤ 64) × ([length](crate::contracts::logic#length) systems.now ≤ 2 ^ 16)
-/// &#9;× ([length](crate::contracts::logic#length) reservers.items ≢ [length](crate::contracts::logic#length) systems.now)) }
-/// ensures other_phase { [IsErrWith](crate::contracts::ent_blocks::faults#IsErrWith) result (λ h. h.error ≡ failed.OtherPhase)
-/// &#9;↔ ((0 \< workers) × (workers ≤ 64) × ([length](crate::contracts::logic#length) systems.now ≤ 2 ^ 16)
-/// &#9;× ([length](crate::contracts::logic#length) reservers.items ≡ [length](crate::contracts::logic#length) systems.now)
-/// &#9;× ¬ ([All](crate::contracts::logic#All) (λ r. r.number ≡ blocks.now.number) reservers.items)) }
-/// ensures memory_some { [IsErrWith](crate::contracts::ent_blocks::faults#IsErrWith) result (λ h. h.error ≡ failed.Memory)
-/// &#9;→ 0 \< [length](crate::contracts::logic#length) systems.now }
-/// ensures handed_back { [IfErr](crate::contracts::logic#IfErr) result (λ h.
-/// &#9;[IfNotLost](crate::contracts::ent_runner::blocks_refusing#IfNotLost) (h.value.items ≡ reservers.items) h.error) }
-/// &#32;
-/// // What is left if the systems were broken off.
-/// ensures lost { [IfErr](crate::contracts::logic#IfErr) result (λ h. [IfLost](crate::contracts::ent_runner::blocks_refusing#IfLost) ([HaveStopped](crate::contracts::ent_runner::blocks_queues#HaveStopped) S.may_issue S.may_leave systems.now workers
-/// &#9;view.entry blocks.now.phase.start ([blocks_of](crate::contracts::ent_blocks::blocks#blocks_of) reservers.items)) h.error) }
-/// ensures lost_some { [IfErr](crate::contracts::logic#IfErr) result (λ h. [IfLost](crate::contracts::ent_runner::blocks_refusing#IfLost) (λ \_. 0 \< [length](crate::contracts::logic#length) systems.now) h.error) }
-/// ensures lost_reservers { [IfErr](crate::contracts::logic#IfErr) result (λ h. [IfLost](crate::contracts::ent_runner::blocks_refusing#IfLost) (λ \_. h.value.items ≡ \[\]) h.error) }
-/// </code>
-///
-/// </details>
 #[inline]
-pub fn fill_in_blocks<R, S, E>(
+pub(crate) fn fill_in_blocks<R, S, E>(
     rt: &R,
     blocks: &Blocks,
     reservers: Vec<BlockReserver>,
     view: View<'_>,
     systems: &[S],
     workers: usize,
-) -> Result<
-    (Vec<IssuedCommands>, Vec<BlockReserver>),
-    HandedBack<Vec<BlockReserver>, RunError<E>>,
->
+) -> Result<(Vec<IssuedCommands>, Vec<BlockReserver>), HandedBack<Vec<BlockReserver>, RunError<E>>>
 where
     R: Join + Sync,
     S: System<Blocks, E> + Sync,
     E: Send,
+    // requires own { All (IsOfPhase blocks.now) reservers.items }
+    // ensures ok { IfOk result (λ ran. HaveIssued S.may_issue systems.now view.entry blocks.now.start
+    //     (blocks_of reservers.items) ran.0.items (blocks_of ran.1.items)) }
+    // ensures own { IfOk result (λ ran. All (IsOfPhase blocks.now) ran.1.items) }
+    // ensures workers { IsErrAnd result (λ h. h.error ≡ failed.Workers)
+    //     ↔ ((workers ≡ 0) ⊎ (64 < workers)) }
+    // ensures systems { IsErrAnd result (λ h. h.error ≡ failed.Systems)
+    //     ↔ ((0 < workers) × (workers ≤ 64) × (2 ^ 16 < length systems.now)) }
+    // ensures reservers { IsErrAnd result (λ h. h.error ≡ failed.Reservers)
+    //     ↔ ((0 < workers) × (workers ≤ 64) × (length systems.now ≤ 2 ^ 16)
+    //     × (length reservers.items ≢ length systems.now)) }
+    // ensures not_other { IfErr result (λ h. h.error ≢ failed.OtherPhase) }
+    // ensures memory_some { IsErrAnd result (λ h. h.error ≡ failed.Memory)
+    //     → 0 < length systems.now }
+    // ensures handed_back { IfErr result (λ h.
+    //     IfNotLost (h.value.items ≡ reservers.items) h.error) }
+
+    // What is left if the systems were broken off.
+    // ensures lost { IfErr result (λ h. IfLost (HaveStopped S.may_issue S.may_leave systems.now workers
+    //     view.entry blocks.now.start (blocks_of reservers.items)) h.error) }
+    // ensures lost_some { IfErr result (λ h. IfLost (λ _. 0 < length systems.now) h.error) }
+    // ensures lost_reservers { IfErr result (λ h. IfLost (λ _. h.value.items ≡ []) h.error) }
 {
-    if let Err(error) = check(blocks, &reservers, systems.len(), workers) {
+    if let Err(error) = check_run(reservers.len(), systems.len(), workers) {
         return Err(HandedBack::new(reservers, error));
     }
     if systems.is_empty() {

@@ -2,11 +2,12 @@
 
 //! What systems in blocks need before they run: a reserver each, a crew, and room for what they
 //! hand back.
+
 use alloc::vec::Vec;
 use crate::kit::vec::FallibleVec;
 use crate::running::blocks::run_error::RunError;
 use crate::running::crew::Crew;
-use crate::in_blocks::{BlockReserver, Blocks};
+use crate::in_blocks::BlockReserver;
 use crate::handles::OutOfMemory;
 
 /// How many workers there may be.
@@ -22,47 +23,46 @@ pub(super) struct Room<O, E> {
     pub(super) reservers: Vec<BlockReserver>,
 }
 
-/// Whether that many systems may run, each with a reserver of the phase.
+/// Whether that many systems may run on that many workers, with that many reservers.
 ///
 /// # Errors
 ///
-/// Any [`RunError`] but [`RunError::Memory`] and [`RunError::Lost`]. Of those, the first that
-/// holds.
+/// The first of these that holds: [`RunError::Workers`], [`RunError::Systems`],
+/// [`RunError::Reservers`].
+///
+/// <details><summary>Contract</summary>
+///
+/// <code style="display: block; tab-size: 4; white-space: pre-wrap">// In the words of [contracts](crate::contracts):
+/// ensures some { [OnOk](crate::contracts::logic#OnOk) result (0 \< workers) }
+/// ensures few { [OnOk](crate::contracts::logic#OnOk) result (workers ≤ 64) }
+/// ensures within { [OnOk](crate::contracts::logic#OnOk) result (systems ≤ 2 ^ 16) }
+/// ensures ready { [OnOk](crate::contracts::logic#OnOk) result (reservers ≡ systems) }
+/// ensures of_workers { [IsErrOf](crate::contracts::logic#IsErrOf) result failed.Workers ↔ ((workers ≡ 0) ⊎ (64 \< workers)) }
+/// ensures of_systems { [IsErrOf](crate::contracts::logic#IsErrOf) result failed.Systems
+/// &#9;↔ ((0 \< workers) × (workers ≤ 64) × (2 ^ 16 \< systems)) }
+/// ensures of_reservers { [IsErrOf](crate::contracts::logic#IsErrOf) result failed.Reservers
+/// &#9;↔ ((0 \< workers) × (workers ≤ 64) × (systems ≤ 2 ^ 16)
+/// &#9;× (reservers ≢ systems)) }
+/// ensures not_other { ¬ ([IsErrOf](crate::contracts::logic#IsErrOf) result failed.OtherPhase) }
+/// ensures not_memory { ¬ ([IsErrOf](crate::contracts::logic#IsErrOf) result failed.Memory) }
+/// ensures not_lost { [IfErr](crate::contracts::logic#IfErr) result ([IfLost](crate::contracts::ent_runner::blocks_refusing#IfLost) (λ \_. ⊥)) }
+/// </code>
+///
+/// </details>
 #[inline]
-pub(super) fn check<E>(
-    blocks: &Blocks,
-    reservers: &[BlockReserver],
+pub fn check_run<E>(
+    reservers: usize,
     systems: usize,
     workers: usize,
-) -> Result<(), RunError<E>>
-    // ensures some { OnOk result (0 < workers) }
-    // ensures few { OnOk result (workers ≤ 64) }
-    // ensures within { OnOk result (systems ≤ 2 ^ 16) }
-    // ensures ready { OnOk result (AreReady blocks.now systems reservers.now) }
-    // ensures of_workers { IsErrOf result failed.Workers ↔ ((workers ≡ 0) ⊎ (64 < workers)) }
-    // ensures of_systems { IsErrOf result failed.Systems
-    //     ↔ ((0 < workers) × (workers ≤ 64) × (2 ^ 16 < systems)) }
-    // ensures of_reservers { IsErrOf result failed.Reservers
-    //     ↔ ((0 < workers) × (workers ≤ 64) × (systems ≤ 2 ^ 16)
-    //     × (length reservers.now ≢ systems)) }
-    // ensures other_phase { IsErrOf result failed.OtherPhase
-    //     ↔ ((0 < workers) × (workers ≤ 64) × (systems ≤ 2 ^ 16)
-    //     × (length reservers.now ≡ systems)
-    //     × ¬ (All (λ r. r.number ≡ blocks.now.number) reservers.now)) }
-    // ensures not_memory { ¬ (IsErrOf result failed.Memory) }
-    // ensures not_lost { IfErr result (IfLost (λ _. ⊥)) }
-{
+) -> Result<(), RunError<E>> {
     if workers == 0 || workers > WORKERS {
         return Err(RunError::Workers);
     }
     if systems > SYSTEMS {
         return Err(RunError::Systems);
     }
-    if reservers.len() != systems {
+    if reservers != systems {
         return Err(RunError::Reservers);
-    }
-    if !are_of(blocks, reservers) {
-        return Err(RunError::OtherPhase);
     }
     Ok(())
 }
@@ -91,17 +91,4 @@ pub(super) fn prepare<O, E>(
         outputs: Vec::with_capacity_fallibly(systems)?,
         reservers: Vec::with_capacity_fallibly(systems)?,
     })
-}
-
-/// Whether all reservers are of this phase.
-#[inline]
-fn are_of(blocks: &Blocks, reservers: &[BlockReserver]) -> bool
-    // ensures { IsTrue result ↔ All (λ r. r.number ≡ blocks.now.number) reservers.now }
-{
-    for reserver in reservers {
-        if !reserver.is_of(blocks) {
-            return false;
-        }
-    }
-    true
 }

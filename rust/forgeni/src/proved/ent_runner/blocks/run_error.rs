@@ -14,10 +14,9 @@ use core::fmt;
 ///     Ok(())
 /// }
 ///
-/// let (blocks, reservers) = Entities::new().open_in_blocks(&[10])?;
-/// let refused = run_in_blocks(&StdThreads, &blocks, reservers, &[idle; 2], 4);
-/// let (reservers, error) = refused.err().ok_or("they ran")?.into_parts();
-/// assert_eq!((reservers.len(), error), (1, RunError::Reservers));
+/// let (phase, mut reservers) = Entities::new().share_in_blocks(&[10])?;
+/// let refused = run_in_blocks(&StdThreads, &phase, &mut reservers, &[idle; 2], 4);
+/// assert_eq!(refused.err(), Some(RunError::Reservers));
 /// # }
 /// # Ok::<(), Box<dyn std::error::Error>>(())
 /// ```
@@ -36,7 +35,7 @@ pub enum RunError<E = OutOfMemory> {
     Memory,
     /// A system returned an error, and this is the first one in the order of the systems. Without
     /// one, some systems didn't run, since no worker has memory for another one. The logs or
-    /// queues and the reservers are dropped.
+    /// queues are dropped, and what is left of the blocks counts as used.
     Lost(Option<E>),
 }
 

@@ -1,7 +1,7 @@
 // Made of crates/ent_runner/src/blocks/running.rt by rust/erase. It isn't edited by hand.
 
 use alloc::vec::Vec;
-use crate::running::blocks::room::{Room, WORKERS, check, prepare};
+use crate::running::blocks::room::{Room, WORKERS, check_run, prepare};
 use crate::running::blocks::run_error::RunError;
 use crate::running::blocks::splitting::split;
 use crate::running::crew::first_error;
@@ -23,56 +23,13 @@ use crate::kit::thread::Join;
 /// Each worker takes the next system that isn't taken yet, until none is left. If a thread can't be
 /// started, another one does its work. One worker starts no thread.
 ///
-/// ```
-/// # #[cfg(feature = "std")] {
-/// use forgeni::{run_in_blocks, BlockCommands, Entities, StdThreads, SyncPoint};
-///
-/// let spawn = |commands: &mut BlockCommands<'_, String>| match commands.spawn() {
-///     Ok(one) => commands.push(format!("{one}")),
-///     Err(refused) => refused.or_memory(),
-/// };
-/// let (blocks, reservers) = Entities::new().open_in_blocks(&[64, 64])?;
-/// let (mut logs, reservers) = run_in_blocks(&StdThreads, &blocks, reservers, &[spawn; 2], 4)?;
-/// let mut entities = blocks.close(reservers)?;
-/// let mut born = Vec::new();
-/// let _sync = SyncPoint::begin(&mut entities, &mut logs, &mut born)?;
-/// born.sort_unstable();
-/// assert_eq!(born.iter().map(|one| one.index()).collect::<Vec<_>>(), [0, 64]);
-/// # }
-/// # Ok::<(), Box<dyn std::error::Error + Send + Sync>>(())
-/// ```
-///
-/// If a system returns an error, the reservers are lost, and `close_lost` ends the phase:
-///
-/// ```
-/// # #[cfg(feature = "std")] {
-/// use forgeni::{run_in_blocks, BlockCommands, Entities, OutOfMemory, RunError, StdThreads};
-///
-/// fn fails(commands: &mut BlockCommands<'_, ()>) -> Result<(), OutOfMemory> {
-///     let _reserved = commands.spawn();
-///     Err(OutOfMemory)
-/// }
-///
-/// let (blocks, reservers) = Entities::new().open_in_blocks(&[2, 2])?;
-/// let run = run_in_blocks(&StdThreads, &blocks, reservers, &[fails; 2], 1);
-/// let (reservers, error) = run.err().ok_or("it ran")?.into_parts();
-/// assert_eq!((reservers.len(), error), (0, RunError::Lost(Some(OutOfMemory))));
-///
-/// // The blocks count as used up, so a flush brings all of their handles to life.
-/// let mut entities = blocks.close_lost(reservers)?;
-/// entities.flush(&mut Vec::new())?;
-/// assert_eq!(entities.len(), 4);
-/// # }
-/// # Ok::<(), Box<dyn std::error::Error + Send + Sync>>(())
-/// ```
-///
 /// # Errors
 ///
 /// [`HandedBack`] has the reservers that are handed back, and the first of these errors that
 /// applies.
 ///
 /// - [`RunError::Workers`], [`RunError::Systems`], [`RunError::Reservers`],
-///   [`RunError::OtherPhase`], [`RunError::Memory`]: no system ran, and the reservers are handed
+///   [`RunError::Memory`]: no system ran, and the reservers are handed
 ///   back as they were. With no systems, it doesn't allocate.
 /// - [`RunError::Lost`]: a system returned an error, and this has the first one in the order of the
 ///   systems. Or some systems didn't run, since no worker has memory for another one: then it has
@@ -82,39 +39,8 @@ use crate::kit::thread::Join;
 ///
 /// If a system panics, the panic is propagated when all workers have ended. Logs and reservers are
 /// dropped then too.
-///
-/// <details><summary>Contract</summary>
-///
-/// <code style="display: block; tab-size: 4; white-space: pre-wrap">// In the words of [contracts](crate::contracts):
-/// ensures ok { [IfOk](crate::contracts::logic#IfOk) result (λ ran. [HaveFilled](crate::contracts::ent_runner::blocks#HaveFilled) S.may_log systems.now blocks.now.phase.start.pool
-/// &#9;([blocks_of](crate::contracts::ent_blocks::blocks#blocks_of) reservers.items) ran.0.items ([blocks_of](crate::contracts::ent_blocks::blocks#blocks_of) ran.1.items)) }
-/// ensures of { [IfOk](crate::contracts::logic#IfOk) result (λ ran. [All](crate::contracts::logic#All) (λ r. r.number ≡ blocks.now.number) ran.1.items) }
-/// ensures workers { [IsErrWith](crate::contracts::ent_blocks::faults#IsErrWith) result (λ h. h.error ≡ failed.Workers)
-/// &#9;↔ ((workers ≡ 0) ⊎ (64 \< workers)) }
-/// ensures systems { [IsErrWith](crate::contracts::ent_blocks::faults#IsErrWith) result (λ h. h.error ≡ failed.Systems)
-/// &#9;↔ ((0 \< workers) × (workers ≤ 64) × (2 ^ 16 \< [length](crate::contracts::logic#length) systems.now)) }
-/// ensures reservers { [IsErrWith](crate::contracts::ent_blocks::faults#IsErrWith) result (λ h. h.error ≡ failed.Reservers)
-/// &#9;↔ ((0 \< workers) × (workers ≤ 64) × ([length](crate::contracts::logic#length) systems.now ≤ 2 ^ 16)
-/// &#9;× ([length](crate::contracts::logic#length) reservers.items ≢ [length](crate::contracts::logic#length) systems.now)) }
-/// ensures other_phase { [IsErrWith](crate::contracts::ent_blocks::faults#IsErrWith) result (λ h. h.error ≡ failed.OtherPhase)
-/// &#9;↔ ((0 \< workers) × (workers ≤ 64) × ([length](crate::contracts::logic#length) systems.now ≤ 2 ^ 16)
-/// &#9;× ([length](crate::contracts::logic#length) reservers.items ≡ [length](crate::contracts::logic#length) systems.now)
-/// &#9;× ¬ ([All](crate::contracts::logic#All) (λ r. r.number ≡ blocks.now.number) reservers.items)) }
-/// ensures memory_some { [IsErrWith](crate::contracts::ent_blocks::faults#IsErrWith) result (λ h. h.error ≡ failed.Memory)
-/// &#9;→ 0 \< [length](crate::contracts::logic#length) systems.now }
-/// ensures handed_back { [IfErr](crate::contracts::logic#IfErr) result (λ h.
-/// &#9;[IfNotLost](crate::contracts::ent_runner::blocks_refusing#IfNotLost) (h.value.items ≡ reservers.items) h.error) }
-/// &#32;
-/// // What is left if the systems were broken off.
-/// ensures lost { [IfErr](crate::contracts::logic#IfErr) result (λ h. [IfLost](crate::contracts::ent_runner::blocks_refusing#IfLost) ([IsBrokenOff](crate::contracts::ent_runner::blocks#IsBrokenOff) S.may_log S.may_leave systems.now workers
-/// &#9;blocks.now.phase.start.pool ([blocks_of](crate::contracts::ent_blocks::blocks#blocks_of) reservers.items)) h.error) }
-/// ensures lost_some { [IfErr](crate::contracts::logic#IfErr) result (λ h. [IfLost](crate::contracts::ent_runner::blocks_refusing#IfLost) (λ \_. 0 \< [length](crate::contracts::logic#length) systems.now) h.error) }
-/// ensures lost_reservers { [IfErr](crate::contracts::logic#IfErr) result (λ h. [IfLost](crate::contracts::ent_runner::blocks_refusing#IfLost) (λ \_. h.value.items ≡ \[\]) h.error) }
-/// </code>
-///
-/// </details>
 #[inline]
-pub fn run_in_blocks<R, C, S, E>(
+pub(crate) fn run_in_blocks<R, C, S, E>(
     rt: &R,
     blocks: &Blocks,
     reservers: Vec<BlockReserver>,
@@ -126,8 +52,30 @@ where
     C: Send,
     S: LogSystem<C, Blocks, E> + Sync,
     E: Send,
+    // requires own { All (IsOfPhase blocks.now) reservers.items }
+    // ensures ok { IfOk result (λ ran. HaveFilled S.may_log systems.now blocks.now.start.pool
+    //     (blocks_of reservers.items) ran.0.items (blocks_of ran.1.items)) }
+    // ensures own { IfOk result (λ ran. All (IsOfPhase blocks.now) ran.1.items) }
+    // ensures workers { IsErrAnd result (λ h. h.error ≡ failed.Workers)
+    //     ↔ ((workers ≡ 0) ⊎ (64 < workers)) }
+    // ensures systems { IsErrAnd result (λ h. h.error ≡ failed.Systems)
+    //     ↔ ((0 < workers) × (workers ≤ 64) × (2 ^ 16 < length systems.now)) }
+    // ensures reservers { IsErrAnd result (λ h. h.error ≡ failed.Reservers)
+    //     ↔ ((0 < workers) × (workers ≤ 64) × (length systems.now ≤ 2 ^ 16)
+    //     × (length reservers.items ≢ length systems.now)) }
+    // ensures not_other { IfErr result (λ h. h.error ≢ failed.OtherPhase) }
+    // ensures memory_some { IsErrAnd result (λ h. h.error ≡ failed.Memory)
+    //     → 0 < length systems.now }
+    // ensures handed_back { IfErr result (λ h.
+    //     IfNotLost (h.value.items ≡ reservers.items) h.error) }
+
+    // What is left if the systems were broken off.
+    // ensures lost { IfErr result (λ h. IfLost (IsBrokenOff S.may_log S.may_leave systems.now workers
+    //     blocks.now.start.pool (blocks_of reservers.items)) h.error) }
+    // ensures lost_some { IfErr result (λ h. IfLost (λ _. 0 < length systems.now) h.error) }
+    // ensures lost_reservers { IfErr result (λ h. IfLost (λ _. h.value.items ≡ []) h.error) }
 {
-    if let Err(error) = check(blocks, &reservers, systems.len(), workers) {
+    if let Err(error) = check_run(reservers.len(), systems.len(), workers) {
         return Err(HandedBack::new(reservers, error));
     }
     if systems.is_empty() {

@@ -8,22 +8,6 @@ use core::error::Error;
 use core::fmt;
 
 /// What a frame has done.
-///
-/// ```
-/// # #[cfg(feature = "std")] {
-/// use forgeni::{run_frame_in_blocks, CommandsInBlocks, OutOfMemory, StdThreads, View, World};
-///
-/// fn burst(_: &View<'_>, commands: &mut CommandsInBlocks<'_>) -> Result<(), OutOfMemory> {
-///     commands.spawn_many_with(3, &[]).map_or_else(|refused| refused.or_memory(), |_| Ok(()))
-/// }
-///
-/// let (open, reservers) = World::new().open_in_blocks(&[10, 2])?;
-/// let (_world, frame) = run_frame_in_blocks(&StdThreads, open, reservers, &[burst; 2], 2)?;
-/// // The second system had a block of two.
-/// assert_eq!((frame.sync.born.len(), frame.sync.faults.len()), (3, 1));
-/// # }
-/// # Ok::<(), Box<dyn std::error::Error>>(())
-/// ```
 #[derive(Debug)]
 pub struct FrameReport {
     /// The queue of each system, in the order of the systems.

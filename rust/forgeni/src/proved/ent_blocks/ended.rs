@@ -1,8 +1,8 @@
-// Made of crates/ent_blocks/src/overflow/ended.rt by rust/erase. It isn't edited by hand.
+// Made of crates/ent_blocks/src/ended.rt by rust/erase. It isn't edited by hand.
 
 use alloc::vec::Vec;
 use crate::in_blocks::closing::take_used;
-use crate::in_blocks::part::Part;
+use crate::in_blocks::part::{Part, dealt};
 use crate::allocator::Entities;
 use crate::handles::{HandedBack, OutOfMemory};
 
@@ -31,7 +31,7 @@ impl Ended {
     /// Returns the allocator, in which what was used is reserved: a flush brings it to life. What
     /// is left of the blocks can be given again, and comes before the rest of the pool.
     ///
-    /// It takes time and memory as [`Blocks::close`](crate::in_blocks::Blocks::close) does.
+    /// It takes time and memory as the gaps among the handles that were used ask for.
     ///
     /// ```
     /// use forgeni::Entities;
@@ -59,6 +59,8 @@ impl Ended {
     /// &#9;≡ [after_blocks](crate::contracts::ent_blocks::blocks#after_blocks) self.phase.start self.phase.blocks) }
     /// ensures rows { [IfOk](crate::contracts::logic#IfOk) result (λ entities. entities.rows ≡ self.phase.rows) }
     /// ensures rows_of_living { [IfOk](crate::contracts::logic#IfOk) result [HasRowsOfLiving](crate::contracts::ent_alloc::entities#HasRowsOfLiving) }
+    /// ensures waiting { [IfOk](crate::contracts::logic#IfOk) result (λ entities.
+    /// &#9;[top](crate::contracts::ent_alloc::sequential#top) entities.allocator ≤ [max](crate::contracts::logic#max) ([top](crate::contracts::ent_alloc::sequential#top) self.phase.start) ([dealt](crate::contracts::ent_blocks::blocks#dealt) self.phase.blocks)) }
     /// &#32;
     /// // No handle was given twice, and none was alive.
     /// ensures distinct { [IfOk](crate::contracts::logic#IfOk) result (λ entities.
@@ -170,5 +172,15 @@ impl Ended {
             parts,
             requested,
         }
+    }
+
+    /// Returns the number of handles in all blocks: no handle behind them was used.
+    #[inline]
+    pub(crate) fn dealt(&self) -> u32
+        // ensures { result ≡ dealt self.now.phase.blocks }
+    {
+        // Its contract says that the state is sound, and has at most so many handles.
+        let _left = self.entities.left();
+        dealt(&self.parts)
     }
 }

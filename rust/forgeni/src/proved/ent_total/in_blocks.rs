@@ -1,19 +1,17 @@
-// Made of crates/ent_total/src/going_on.rt by rust/erase. It isn't edited by hand.
+// Made of crates/ent_total/src/in_blocks.rt by rust/erase. It isn't edited by hand.
 
-//! An allocator is dealt in blocks, and the rest of it is shared: a reserver whose block is used up
-//! goes on to the cursor of all.
+//! An allocator is dealt in blocks, one for each reserver.
 use alloc::vec::Vec;
 use crate::kit::vec::FallibleVec;
 use crate::phases::opening::{Opening, begin};
 use crate::phases::reserver::Reserver;
 use crate::phases::share_error::ShareError;
-use crate::phases::sharing::CALLERS;
 use crate::allocator::Entities;
-use crate::in_blocks::{Overflow, open_with_overflow};
+use crate::in_blocks::{Deals, InBlocks, Overflow};
 use crate::handles::HandedBack;
 
-/// Deals the pool's front in blocks of these sizes, one after the other, and shares the rest of it:
-/// at most 1,023 blocks. A block is smaller where the pool ends.
+/// Deals the pool's front in blocks of these sizes, one after the other: a block is smaller where
+/// the pool ends. The reservers are in the order of the sizes.
 ///
 /// No slot is made, and no list of handles. It takes time and memory for each block, however large
 /// they are.
@@ -21,57 +19,56 @@ use crate::handles::HandedBack;
 /// # Errors
 ///
 /// [`HandedBack`] has the allocator as it was, and the first of these errors that applies:
-/// [`ShareError::NeedsFlush`], [`ShareError::Count`], [`ShareError::Memory`].
+/// [`ShareError::NeedsFlush`], [`ShareError::Count`] if the source has no form for so many blocks,
+/// [`ShareError::Memory`].
 ///
 /// <details><summary>Contract</summary>
 ///
 /// <code style="display: block; tab-size: 4; white-space: pre-wrap">// In the words of [contracts](crate::contracts):
-/// ensures start { [IfOk](crate::contracts::logic#IfOk) result (λ o. o.source.shared.start ≡ entities.allocator) }
-/// ensures rows { [IfOk](crate::contracts::logic#IfOk) result (λ o. o.source.shared.rows ≡ entities.rows) }
+/// ensures start { [IfOk](crate::contracts::logic#IfOk) result (λ o. S.start o.source ≡ entities.allocator) }
+/// ensures rows { [IfOk](crate::contracts::logic#IfOk) result (λ o. S.rows o.source ≡ entities.rows) }
 /// ensures blocks { [IfOk](crate::contracts::logic#IfOk) result (λ o.
-/// &#9;o.source.blocks ≡ [blocks_from](crate::contracts::ent_blocks::blocks#blocks_from) 0 ([length](crate::contracts::logic#length) entities.allocator.pool) sizes.now) }
-/// ensures reservers { [IfOk](crate::contracts::logic#IfOk) result (λ o. [own_blocks](crate::contracts::ent_blocks::overflow#own_blocks) o.returned ≡ o.source.blocks) }
-/// &#32;
-/// // Nobody has gone past its block yet, and each has its whole quota for it.
-/// ensures nothing { [IfOk](crate::contracts::logic#IfOk) result (λ o. [past_history](crate::contracts::ent_blocks::overflow#past_history) o.returned ≡ \[\]) }
-/// ensures quota { [IfOk](crate::contracts::logic#IfOk) result (λ o. [All](crate::contracts::logic#All) (λ c. c.past.own.left ≡ [quota](crate::contracts::ent_alloc::limits#quota)) o.returned) }
+/// &#9;S.blocks o.source ≡ [blocks_from](crate::contracts::ent_blocks::blocks#blocks_from) 0 ([length](crate::contracts::logic#length) entities.allocator.pool) sizes.now) }
+/// ensures reservers { [IfOk](crate::contracts::logic#IfOk) result (λ o. [map](crate::contracts::logic#map) S.block o.returned ≡ S.blocks o.source) }
+/// ensures takes { [IfOk](crate::contracts::logic#IfOk) result (λ o. S.takes o.source o.returned) }
+/// ensures fresh { [IfOk](crate::contracts::logic#IfOk) result (λ o. [All](crate::contracts::logic#All) S.fresh o.returned) }
 /// ensures needs_flush { [IsErrAnd](crate::contracts::logic#IsErrAnd) result (λ h. h.error ≡ NeedsFlush)
 /// &#9;↔ (0 \< entities.allocator.asked) }
 /// ensures no_count { [IsErrAnd](crate::contracts::logic#IsErrAnd) result (λ h. h.error ≡ Count)
-/// &#9;↔ ((entities.allocator.asked ≡ 0) × (1024 ≤ [length](crate::contracts::logic#length) sizes.now)) }
+/// &#9;↔ ((entities.allocator.asked ≡ 0) × ¬ (S.may_have ([length](crate::contracts::logic#length) sizes.now))) }
 /// ensures handed_back { [IfErr](crate::contracts::logic#IfErr) result (λ h. h.value ≡ entities) }
 /// </code>
 ///
 /// </details>
 #[inline]
-pub fn share_behind_blocks(
+pub fn share_in<S: Deals>(
     entities: Entities,
     sizes: &[u32],
-) -> Result<Opening<Overflow>, HandedBack<Entities, ShareError>> {
+) -> Result<Opening<S>, HandedBack<Entities, ShareError>> {
     if entities.needs_flush() {
         return Err(HandedBack::new(entities, ShareError::NeedsFlush));
     }
-    if sizes.len() >= CALLERS {
+    if !S::fits(sizes.len()) {
         return Err(HandedBack::new(entities, ShareError::Count));
     }
     let Ok(reservers) = Vec::with_capacity_fallibly(sizes.len()) else {
         return Err(HandedBack::new(entities, ShareError::Memory));
     };
-    let (phase, callers) = match open_with_overflow(entities, sizes) {
+    let (source, callers) = match S::deal(entities, sizes) {
         Ok(made) => made,
         Err((entities, _)) => return Err(HandedBack::new(entities, ShareError::Memory)),
     };
-    match begin(phase, callers, reservers) {
+    match begin(source, callers, reservers) {
         Ok(opening) => Ok(opening),
-        Err((phase, callers)) => {
-            let entities = phase.close(callers).cancel();
+        Err((source, callers)) => {
+            let entities = S::into_ended(source.end_with_all(callers)).cancel();
             Err(HandedBack::new(entities, ShareError::Memory))
         }
     }
 }
 
 /// # Its block
-impl Reserver<Overflow> {
+impl<S: InBlocks> Reserver<S> {
     /// Returns the number of handles in its block. It is less than the requested size if the pool
     /// had no more.
     ///
@@ -88,14 +85,14 @@ impl Reserver<Overflow> {
     /// <details><summary>Contract</summary>
     ///
     /// <code style="display: block; tab-size: 4; white-space: pre-wrap">// In the words of [contracts](crate::contracts):
-    /// ensures { result ≡ self.now.reserver.block.size }
+    /// ensures { result ≡ (S.block self.now.reserver).size }
     /// </code>
     ///
     /// </details>
     #[must_use]
     #[inline]
     pub fn size(&self) -> u32 {
-        self.reserver.size()
+        S::size_of(&self.reserver)
     }
 
     /// Returns the number of handles of the block that are used.
@@ -114,15 +111,15 @@ impl Reserver<Overflow> {
     /// <details><summary>Contract</summary>
     ///
     /// <code style="display: block; tab-size: 4; white-space: pre-wrap">// In the words of [contracts](crate::contracts):
-    /// ensures value { result ≡ self.now.reserver.block.used }
-    /// ensures within { result ≤ self.now.reserver.block.size }
+    /// ensures value { result ≡ (S.block self.now.reserver).used }
+    /// ensures within { result ≤ (S.block self.now.reserver).size }
     /// </code>
     ///
     /// </details>
     #[must_use]
     #[inline]
     pub fn used(&self) -> u32 {
-        self.reserver.used()
+        S::used_of(&self.reserver)
     }
 
     /// Returns the number of handles that are left of the block.
@@ -142,17 +139,47 @@ impl Reserver<Overflow> {
     /// <details><summary>Contract</summary>
     ///
     /// <code style="display: block; tab-size: 4; white-space: pre-wrap">// In the words of [contracts](crate::contracts):
-    /// ensures { result ≡ self.now.reserver.block.size - self.now.reserver.block.used }
+    /// ensures { result ≡ (S.block self.now.reserver).size - (S.block self.now.reserver).used }
     /// </code>
     ///
     /// </details>
     #[must_use]
     #[inline]
     pub fn left(&self) -> u32 {
-        self.reserver.left()
+        S::size_of(&self.reserver) - S::used_of(&self.reserver)
+    }
+
+    /// Returns how large its block should have been: the handles that it used, and those that it
+    /// requested past the block. At most 4,294,967,295.
+    /// [`BlockSize::adapt`](crate::BlockSize::adapt) takes it.
+    ///
+    /// ```
+    /// use forgeni::{BlockSize, Entities};
+    ///
+    /// let mut size = BlockSize::new(1 << 16);
+    /// let (_phase, mut reservers) = Entities::new().share_behind_blocks(&[size.size()])?;
+    /// reservers[0].reserve_many(1_000)?;
+    /// // In the next frame the block is large enough.
+    /// size.adapt(reservers[0].wanted());
+    /// assert!(size.size() >= 1_000);
+    /// # Ok::<(), Box<dyn std::error::Error>>(())
+    /// ```
+    ///
+    /// <details><summary>Contract</summary>
+    ///
+    /// <code style="display: block; tab-size: 4; white-space: pre-wrap">// In the words of [contracts](crate::contracts):
+    /// ensures { result ≡ S.wants self.now.reserver }
+    /// </code>
+    ///
+    /// </details>
+    #[must_use]
+    #[inline]
+    pub fn wanted(&self) -> u32 {
+        S::wanted_of(&self.reserver)
     }
 }
 
+/// # Its block
 impl Reserver<Overflow> {
     /// Returns the number of handles that it has requested past its block, served or refused.
     ///
@@ -178,35 +205,5 @@ impl Reserver<Overflow> {
     #[inline]
     pub fn requested_past(&self) -> u64 {
         self.reserver.requested_past()
-    }
-
-    /// Returns how large its block should have been: the handles that it used, and those that it
-    /// requested past the block. At most 4,294,967,295.
-    /// [`BlockSize::adapt`](crate::BlockSize::adapt) takes it.
-    ///
-    /// ```
-    /// use forgeni::{BlockSize, Entities};
-    ///
-    /// let mut size = BlockSize::new(1 << 16);
-    /// let (_phase, mut reservers) = Entities::new().share_behind_blocks(&[size.size()])?;
-    /// reservers[0].reserve_many(1_000)?;
-    /// // In the next frame the block is large enough.
-    /// size.adapt(reservers[0].wanted());
-    /// assert!(size.size() >= 1_000);
-    /// # Ok::<(), Box<dyn std::error::Error>>(())
-    /// ```
-    ///
-    /// <details><summary>Contract</summary>
-    ///
-    /// <code style="display: block; tab-size: 4; white-space: pre-wrap">// In the words of [contracts](crate::contracts):
-    /// ensures { result ≡ [min](crate::contracts::logic#min) (self.now.reserver.block.used
-    /// &#9;+ [requested_by](crate::contracts::ent_shared::record#requested_by) self.now.reserver.past.own) (2 ^ 32 - 1) }
-    /// </code>
-    ///
-    /// </details>
-    #[must_use]
-    #[inline]
-    pub fn wanted(&self) -> u32 {
-        self.reserver.wanted()
     }
 }
