@@ -9,7 +9,9 @@ mod logs;
 mod stage;
 mod systems;
 
-pub use blocks::{RunError, check_run, fill_in_blocks, run_in_blocks};
+pub use self::blocks::run_in_blocks;
+pub use crate::blocks::fill_in_blocks;
+pub use blocks::{RunError, check_run};
 pub use crew::{ClaimRecord, Claimer, Claims, Crew, Jobs};
 pub use either::{Either, Left, Right};
 pub use frame::gate::{Gate, NoGate};

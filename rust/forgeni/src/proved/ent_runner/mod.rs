@@ -10,8 +10,8 @@ mod logs;
 mod stage;
 mod systems;
 
-pub(crate) use blocks::fill_in_blocks;
-pub(crate) use blocks::run_in_blocks;
+pub(crate) use self::blocks::run_in_blocks;
+pub(crate) use crate::running::blocks::fill_in_blocks;
 pub use blocks::{RunError, check_run};
 pub use crew::{ClaimRecord, Claimer, Claims, Crew, Jobs};
 pub use crate::kit::either::{Either, Left, Right};

@@ -2,7 +2,7 @@
 
 //! Scripts whose frames come last, as most do. Such a text is read once.
 //!
-//! An `Err` but `Memory` says nothing of the text: it is one that has to be read twice.
+//! An error other than `Memory` says nothing about the text, which is then read twice.
 
 use alloc::vec::Vec;
 use crate::kit::programs::string::String;
