@@ -46,6 +46,8 @@ pub trait Deals: InBlocks {
         entities: Entities,
         sizes: &[u32],
     ) -> Result<(Self, Vec<Self::Reserver>), (Entities, Memory)>
+    where
+        Self: Sized,
         requires flushed { entities.allocator.asked ≡ 0 }
         requires few { may_have (length sizes.now) }
         ensures start { IfOk result (λ made. Self.start made.0 ≡ entities.allocator) }

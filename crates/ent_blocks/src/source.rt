@@ -8,7 +8,7 @@ use ent_alloc::{Entities, Phased, Refused, Reserved, Source};
 use ent_handle::{Handle, Memory};
 use std::alloc::Global;
 
-/// A reservation takes the [next handles](Blocks::reserve) of the reserver's own block.
+/// A reservation takes the next handles of the reserver's own block.
 impl Source for Blocks {
     ghost use Rattle.std.specs.Prelude.{◌≤◌};
     ghost use Rattle.ent_blocks.specs.Drawing.{IsDrawn, IsOfPhase, left_of};

@@ -290,6 +290,20 @@ pub fn open_in<J: Numbering, S: Deals>(
 }
 
 /// A world whose phase in blocks has ended, in which what was used is not yet reserved.
+///
+/// ```
+/// use forgeni::World;
+///
+/// let (phase, mut reservers) = World::new().open_behind_blocks(&[10])?;
+/// reservers[0].reserve_many(10)?;
+/// let ended = phase.close(reservers)?;
+/// // Nothing was requested past the block, so no handle depends on a thread.
+/// assert_eq!(ended.requested_past(), 0);
+/// let mut world = ended.into_world()?;
+/// world.flush()?;
+/// assert_eq!(world.len(), 10);
+/// # Ok::<(), Box<dyn std::error::Error + Send + Sync>>(())
+/// ```
 #[must_use]
 #[derive(Drop)]
 pub struct EndedWorld {

@@ -371,6 +371,7 @@ pub const BARE: &[&str] = &[
     "Result",
     "Self",
     "Send",
+    "Sized",
     "Some",
     "Sync",
     "bool",

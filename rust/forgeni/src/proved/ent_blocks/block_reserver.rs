@@ -92,17 +92,11 @@ impl BlockReserver {
 
 impl BlockReserver {
     /// Takes the reserver out, and leaves one of the same block that is used up.
-    ///
-    /// <details><summary>Contract</summary>
-    ///
-    /// <code style="display: block; tab-size: 4; white-space: pre-wrap">// In the words of [contracts](crate::contracts):
-    /// ensures taken { result ≡ self.old }
-    /// ensures used_up { self.new ≡ [used_up](crate::contracts::ent_blocks::blocks#used_up) self.old }
-    /// </code>
-    ///
-    /// </details>
     #[inline]
-    pub fn take(&mut self) -> Self {
+    pub(crate) fn take(&mut self) -> Self
+        // ensures taken { result ≡ self.old }
+        // ensures used_up { self.new ≡ used_up self.old }
+    {
         let taken = again(self);
         self.part = self.part.with_used(self.part.size());
         taken

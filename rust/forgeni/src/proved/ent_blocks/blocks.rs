@@ -39,8 +39,50 @@ pub struct Blocks {
     ends: Vec<Part>,
 }
 
-/// # Reserving
 impl Blocks {
+    #[inline]
+    pub(super) fn new(entities: Entities, parts: Vec<Part>, ends: Vec<Part>) -> Self
+        // requires dealt { AreDealt entities.allocator parts.items }
+        // requires no_ends { ends.items ≡ [] }
+        // requires room { length parts.items ≤ vec_capacity ends }
+        // ensures { result ≡ record {
+        //   start = entities.allocator;
+        //   rows = entities.rows;
+        //   blocks = parts.items;
+        // } }
+    {
+        Blocks {
+            entities,
+            parts,
+            ends,
+        }
+    }
+
+    /// Returns the number of blocks.
+    #[inline]
+    pub(crate) fn count(&self) -> usize
+        // ensures { result ≡ length self.now.blocks }
+    {
+        self.parts.len()
+    }
+
+    /// Returns the allocator as it was when the phase was opened.
+    #[inline]
+    pub(crate) fn opened(&self) -> &Entities
+        // ensures start { result.now.allocator ≡ self.now.start }
+        // ensures rows { result.now.rows ≡ self.now.rows }
+    {
+        &self.entities
+    }
+
+    /// Whether these reservers are in the order in which they were made.
+    #[inline]
+    pub(super) fn has_in_order(&self, reservers: &[BlockReserver]) -> bool
+        // ensures { IsTrue result ↔ IsTrue (are_among self.now.blocks (blocks_of reservers.now)) }
+    {
+        missing(&self.parts, reservers).is_some()
+    }
+
     /// Reserves the next handle of the reserver's block. It makes no atomic step, and neither
     /// allocates nor waits.
     ///
@@ -85,10 +127,7 @@ impl Blocks {
         }
         Ok(take_many(&self.entities, &mut reserver.part, n))
     }
-}
 
-/// # Closing
-impl Blocks {
     /// Ends the phase with the reservers of all blocks, in the order in which they were made. It
     /// doesn't allocate. [`Ended::into_entities`] then gives the allocator.
     #[inline]
@@ -116,65 +155,5 @@ impl Blocks {
         } = self;
         account(&parts, &reservers, &mut ends);
         Ended::new(entities, ends, 0)
-    }
-}
-
-/// # Looking at entities
-impl Blocks {
-    /// Returns the number of blocks.
-    ///
-    /// <details><summary>Contract</summary>
-    ///
-    /// <code style="display: block; tab-size: 4; white-space: pre-wrap">// In the words of [contracts](crate::contracts):
-    /// ensures { result ≡ [length](crate::contracts::logic#length) self.now.blocks }
-    /// </code>
-    ///
-    /// </details>
-    #[inline]
-    pub fn count(&self) -> usize {
-        self.parts.len()
-    }
-}
-
-impl Blocks {
-    #[inline]
-    pub(super) fn new(entities: Entities, parts: Vec<Part>, ends: Vec<Part>) -> Self
-        // requires dealt { AreDealt entities.allocator parts.items }
-        // requires no_ends { ends.items ≡ [] }
-        // requires room { length parts.items ≤ vec_capacity ends }
-        // ensures { result ≡ record {
-        //   start = entities.allocator;
-        //   rows = entities.rows;
-        //   blocks = parts.items;
-        // } }
-    {
-        Blocks {
-            entities,
-            parts,
-            ends,
-        }
-    }
-
-    /// Returns the allocator as it was when the phase was opened.
-    ///
-    /// <details><summary>Contract</summary>
-    ///
-    /// <code style="display: block; tab-size: 4; white-space: pre-wrap">// In the words of [contracts](crate::contracts):
-    /// ensures start { result.now.allocator ≡ self.now.start }
-    /// ensures rows { result.now.rows ≡ self.now.rows }
-    /// </code>
-    ///
-    /// </details>
-    #[inline]
-    pub fn opened(&self) -> &Entities {
-        &self.entities
-    }
-
-    /// Whether these reservers are in the order in which they were made.
-    #[inline]
-    pub(super) fn has_in_order(&self, reservers: &[BlockReserver]) -> bool
-        // ensures { IsTrue result ↔ IsTrue (are_among self.now.blocks (blocks_of reservers.now)) }
-    {
-        missing(&self.parts, reservers).is_some()
     }
 }

@@ -64,7 +64,9 @@ pub trait Deals: InBlocks {
     fn deal(
         entities: Entities,
         sizes: &[u32],
-    ) -> Result<(Self, Vec<Self::Reserver>), (Entities, OutOfMemory)>;
+    ) -> Result<(Self, Vec<Self::Reserver>), (Entities, OutOfMemory)>
+    where
+        Self: Sized,;
 
     /// What a phase ended with.
     ///

@@ -26,98 +26,8 @@ pub struct Ended {
     requested: u64,
 }
 
+/// # Getting the allocator
 impl Ended {
-    #[inline]
-    pub(super) fn new(entities: Entities, parts: Vec<Part>, requested: u64) -> Self
-        // requires { AreUsedOf (record {
-        //   start = entities.allocator;
-        //   rows = entities.rows;
-        //   blocks = parts.items;
-        // }) }
-        // ensures { result ≡ record {
-        //   phase = record {
-        //     start = entities.allocator;
-        //     rows = entities.rows;
-        //     blocks = parts.items;
-        //   };
-        //   requested = requested;
-        // } }
-    {
-        Ended {
-            entities,
-            parts,
-            requested,
-        }
-    }
-
-    /// Returns the number of handles that were requested past a block, whether served or refused.
-    /// If it is 0, the handles that each caller got don't depend on the threads.
-    ///
-    /// ```
-    /// use forgeni::Entities;
-    ///
-    /// let (phase, mut reservers) = Entities::new().share_behind_blocks(&[2, 2])?;
-    /// reservers[1].reserve_many(2)?;
-    /// reservers[1].reserve_many(3)?;
-    /// // The block was used up, so three came from the shared handles.
-    /// assert_eq!(phase.close(reservers)?.requested_past(), 3);
-    /// # Ok::<(), Box<dyn std::error::Error + Send + Sync>>(())
-    /// ```
-    ///
-    /// <details><summary>Contract</summary>
-    ///
-    /// <code style="display: block; tab-size: 4; white-space: pre-wrap">// In the words of [contracts](crate::contracts):
-    /// ensures { result ≡ self.now.requested }
-    /// </code>
-    ///
-    /// </details>
-    #[inline]
-    pub fn requested_past(&self) -> u64 {
-        self.requested
-    }
-
-    /// Returns the number of handles in all blocks: no handle behind them was used.
-    ///
-    /// <details><summary>Contract</summary>
-    ///
-    /// <code style="display: block; tab-size: 4; white-space: pre-wrap">// In the words of [contracts](crate::contracts):
-    /// ensures { result ≡ [dealt](crate::contracts::ent_blocks::blocks#dealt) self.now.phase.blocks }
-    /// </code>
-    ///
-    /// </details>
-    #[inline]
-    pub fn dealt(&self) -> u32 {
-        // Its contract says that the state is sound, and has at most so many handles.
-        let _left = self.entities.left();
-        dealt(&self.parts)
-    }
-
-    /// Returns the allocator as it was when the phase was opened: nothing is reserved.
-    ///
-    /// ```
-    /// use forgeni::Entities;
-    ///
-    /// let (phase, mut reservers) = Entities::new().share_behind_blocks(&[2])?;
-    /// let first = reservers[0].reserve()?;
-    /// // The frame is done again, without what it reserved.
-    /// let mut entities = phase.close(reservers)?.cancel();
-    /// assert_eq!(entities.alloc()?, first);
-    /// # Ok::<(), Box<dyn std::error::Error + Send + Sync>>(())
-    /// ```
-    ///
-    /// <details><summary>Contract</summary>
-    ///
-    /// <code style="display: block; tab-size: 4; white-space: pre-wrap">// In the words of [contracts](crate::contracts):
-    /// ensures allocator { result.allocator ≡ self.phase.start }
-    /// ensures rows { result.rows ≡ self.phase.rows }
-    /// </code>
-    ///
-    /// </details>
-    #[inline]
-    pub fn cancel(self) -> Entities {
-        self.entities
-    }
-
     /// Returns the allocator, in which what was used is reserved: a flush brings it to life. What
     /// is left of the blocks can be given again, and comes before the rest of the pool.
     ///
@@ -182,5 +92,95 @@ impl Ended {
             return Err(HandedBack::new(ended, OutOfMemory));
         };
         Ok(entities)
+    }
+
+    /// Returns the allocator as it was when the phase was opened: nothing is reserved.
+    ///
+    /// ```
+    /// use forgeni::Entities;
+    ///
+    /// let (phase, mut reservers) = Entities::new().share_behind_blocks(&[2])?;
+    /// let first = reservers[0].reserve()?;
+    /// // The frame is done again, without what it reserved.
+    /// let mut entities = phase.close(reservers)?.cancel();
+    /// assert_eq!(entities.alloc()?, first);
+    /// # Ok::<(), Box<dyn std::error::Error + Send + Sync>>(())
+    /// ```
+    ///
+    /// <details><summary>Contract</summary>
+    ///
+    /// <code style="display: block; tab-size: 4; white-space: pre-wrap">// In the words of [contracts](crate::contracts):
+    /// ensures allocator { result.allocator ≡ self.phase.start }
+    /// ensures rows { result.rows ≡ self.phase.rows }
+    /// </code>
+    ///
+    /// </details>
+    #[inline]
+    pub fn cancel(self) -> Entities {
+        self.entities
+    }
+}
+
+/// # What went past the blocks
+impl Ended {
+    /// Returns the number of handles that were requested past a block, whether served or refused.
+    /// If it is 0, the handles that each caller got don't depend on the threads.
+    ///
+    /// ```
+    /// use forgeni::Entities;
+    ///
+    /// let (phase, mut reservers) = Entities::new().share_behind_blocks(&[2, 2])?;
+    /// reservers[1].reserve_many(2)?;
+    /// reservers[1].reserve_many(3)?;
+    /// // The block was used up, so three came from the shared handles.
+    /// assert_eq!(phase.close(reservers)?.requested_past(), 3);
+    /// # Ok::<(), Box<dyn std::error::Error + Send + Sync>>(())
+    /// ```
+    ///
+    /// <details><summary>Contract</summary>
+    ///
+    /// <code style="display: block; tab-size: 4; white-space: pre-wrap">// In the words of [contracts](crate::contracts):
+    /// ensures { result ≡ self.now.requested }
+    /// </code>
+    ///
+    /// </details>
+    #[inline]
+    pub fn requested_past(&self) -> u64 {
+        self.requested
+    }
+}
+
+impl Ended {
+    #[inline]
+    pub(super) fn new(entities: Entities, parts: Vec<Part>, requested: u64) -> Self
+        // requires { AreUsedOf (record {
+        //   start = entities.allocator;
+        //   rows = entities.rows;
+        //   blocks = parts.items;
+        // }) }
+        // ensures { result ≡ record {
+        //   phase = record {
+        //     start = entities.allocator;
+        //     rows = entities.rows;
+        //     blocks = parts.items;
+        //   };
+        //   requested = requested;
+        // } }
+    {
+        Ended {
+            entities,
+            parts,
+            requested,
+        }
+    }
+
+    /// Returns the number of handles in all blocks: no handle behind them was used.
+    #[inline]
+    pub(crate) fn dealt(&self) -> u32
+        // ensures { result ≡ dealt self.now.phase.blocks }
+    {
+        // Its contract says that the state is sound, and has at most so many handles.
+        let _left = self.entities.left();
+        dealt(&self.parts)
     }
 }

@@ -10,7 +10,7 @@ use crate::in_blocks::opening::open_in_blocks;
 use crate::allocator::{Entities, Phased, Refused, Reserved, Source};
 use crate::handles::{Handle, OutOfMemory};
 
-/// A reservation takes the [next handles](Blocks::reserve) of the reserver's own block.
+/// A reservation takes the next handles of the reserver's own block.
 impl Source for Blocks {
     type Reserver = BlockReserver;
 

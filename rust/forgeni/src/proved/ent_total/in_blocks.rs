@@ -67,6 +67,7 @@ pub fn share_in<S: Deals>(
     }
 }
 
+/// # Its block
 impl<S: InBlocks> Reserver<S> {
     /// Returns the number of handles in its block. It is less than the requested size if the pool
     /// had no more.
@@ -178,6 +179,7 @@ impl<S: InBlocks> Reserver<S> {
     }
 }
 
+/// # Its block
 impl Reserver<Overflow> {
     /// Returns the number of handles that it has requested past its block, served or refused.
     ///

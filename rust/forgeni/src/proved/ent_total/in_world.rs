@@ -126,6 +126,7 @@ impl<S: Deals> Phased for InWorld<S> {
     }
 }
 
+/// # Looking at the world
 impl<S: Deals> Phase<InWorld<S>> {
     /// Returns a view of the world, like the one that a system of a frame gets.
     ///
@@ -258,6 +259,20 @@ pub fn open_in<S: Deals>(
 }
 
 /// A world whose phase in blocks has ended, in which what was used is not yet reserved.
+///
+/// ```
+/// use forgeni::World;
+///
+/// let (phase, mut reservers) = World::new().open_behind_blocks(&[10])?;
+/// reservers[0].reserve_many(10)?;
+/// let ended = phase.close(reservers)?;
+/// // Nothing was requested past the block, so no handle depends on a thread.
+/// assert_eq!(ended.requested_past(), 0);
+/// let mut world = ended.into_world()?;
+/// world.flush()?;
+/// assert_eq!(world.len(), 10);
+/// # Ok::<(), Box<dyn std::error::Error + Send + Sync>>(())
+/// ```
 #[must_use]
 pub struct EndedWorld {
     ended: Ended,
@@ -266,41 +281,8 @@ pub struct EndedWorld {
     spawned: u32,
 }
 
+/// # Getting the world
 impl EndedWorld {
-    /// Returns the number of handles that were requested past a block, as
-    /// [`Ended::requested_past`](crate::in_blocks::Ended::requested_past) does.
-    ///
-    /// <details><summary>Contract</summary>
-    ///
-    /// <code style="display: block; tab-size: 4; white-space: pre-wrap">// In the words of [contracts](crate::contracts):
-    /// ensures { result ≡ self.now.ended.requested }
-    /// </code>
-    ///
-    /// </details>
-    #[inline]
-    pub fn requested_past(&self) -> u64 {
-        self.ended.requested_past()
-    }
-
-    /// Returns the world as it was when the phase was opened: nothing is reserved.
-    ///
-    /// <details><summary>Contract</summary>
-    ///
-    /// <code style="display: block; tab-size: 4; white-space: pre-wrap">// In the words of [contracts](crate::contracts):
-    /// ensures world { result.world ≡ [world_with](crate::contracts::ent_world::in_blocks#world_with) self.ended.phase.start self.rest }
-    /// ensures same { (result.number ≡ self.of_world) × (result.spawned ≡ self.spawned) }
-    /// </code>
-    ///
-    /// </details>
-    #[inline]
-    pub fn cancel(self) -> World {
-        World {
-            world: self.rest.with(self.ended.cancel()),
-            number: self.of_world,
-            spawned: self.spawned,
-        }
-    }
-
     /// Returns the world, in which what was used is reserved: a flush or a sync point brings it to
     /// life. What is left of the blocks is given next, in the same order.
     ///
@@ -350,5 +332,42 @@ impl EndedWorld {
                 Err(HandedBack::new(world, error))
             }
         }
+    }
+
+    /// Returns the world as it was when the phase was opened: nothing is reserved.
+    ///
+    /// <details><summary>Contract</summary>
+    ///
+    /// <code style="display: block; tab-size: 4; white-space: pre-wrap">// In the words of [contracts](crate::contracts):
+    /// ensures world { result.world ≡ [world_with](crate::contracts::ent_world::in_blocks#world_with) self.ended.phase.start self.rest }
+    /// ensures same { (result.number ≡ self.of_world) × (result.spawned ≡ self.spawned) }
+    /// </code>
+    ///
+    /// </details>
+    #[inline]
+    pub fn cancel(self) -> World {
+        World {
+            world: self.rest.with(self.ended.cancel()),
+            number: self.of_world,
+            spawned: self.spawned,
+        }
+    }
+}
+
+/// # What went past the blocks
+impl EndedWorld {
+    /// Returns the number of handles that were requested past a block, as
+    /// [`Ended::requested_past`](crate::in_blocks::Ended::requested_past) does.
+    ///
+    /// <details><summary>Contract</summary>
+    ///
+    /// <code style="display: block; tab-size: 4; white-space: pre-wrap">// In the words of [contracts](crate::contracts):
+    /// ensures { result ≡ self.now.ended.requested }
+    /// </code>
+    ///
+    /// </details>
+    #[inline]
+    pub fn requested_past(&self) -> u64 {
+        self.ended.requested_past()
     }
 }

@@ -5,6 +5,25 @@ use crate::allocator::Phased;
 use crate::in_blocks::{BlockReserver, Blocks, InBlocks};
 
 /// A source whose reservers are those of blocks that refuse: an allocator's, or a world's.
+///
+/// ```
+/// # #[cfg(feature = "std")] {
+/// use forgeni::{run_in_blocks, BlockCommands, Log, OfBlocks, OutOfMemory, Phase, Reserver};
+/// use forgeni::{RunError, StdThreads};
+///
+/// fn launch(commands: &mut BlockCommands<'_, u8>) -> Result<(), OutOfMemory> {
+///     commands.spawn().map_or_else(|refused| refused.or_memory(), |_| commands.push(1))
+/// }
+///
+/// /// Ten systems, in the blocks of an allocator or of a world.
+/// fn launch_all<S: OfBlocks>(
+///     phase: &Phase<S>,
+///     reservers: &mut [Reserver<S>],
+/// ) -> Result<Vec<Log<u8>>, RunError> {
+///     run_in_blocks(&StdThreads, phase, reservers, &[launch; 10], 4)
+/// }
+/// # }
+/// ```
 pub trait OfBlocks: InBlocks<Reserver = BlockReserver> {
     /// Returns the blocks.
     ///

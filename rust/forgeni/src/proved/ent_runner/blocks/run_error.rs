@@ -16,7 +16,7 @@ use core::fmt;
 ///
 /// let (phase, mut reservers) = Entities::new().share_in_blocks(&[10])?;
 /// let refused = run_in_blocks(&StdThreads, &phase, &mut reservers, &[idle; 2], 4);
-/// assert_eq!(refused, Err(RunError::Reservers));
+/// assert_eq!(refused.err(), Some(RunError::Reservers));
 /// # }
 /// # Ok::<(), Box<dyn std::error::Error>>(())
 /// ```
