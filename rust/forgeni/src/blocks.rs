@@ -2,16 +2,19 @@
 //! gets doesn't depend on which thread is first.
 //!
 //! There are two kinds:
-//! - [`Entities::open_in_blocks`](crate::Entities::open_in_blocks) deals blocks that refuse a
-//!   request for more than they have left. So no handle ever depends on a thread.
-//! - [`Entities::share_behind_blocks`](crate::Entities::share_behind_blocks) deals blocks, and
-//!   shares the handles behind them. A reserver whose block is used up goes on to the shared
-//!   handles, so none is refused as long as the allocator has handles. If [`Ended::requested_past`]
-//!   is 0 at the end, no handle depends on a thread. Use it if no spawn may be lost.
+//! - [`Entities::share_in_blocks`](crate::Entities::share_in_blocks) and
+//!   [`World::open_in_blocks`](crate::World::open_in_blocks) deal blocks that refuse a request for
+//!   more than they have left. So no handle ever depends on a thread.
+//! - [`Entities::share_behind_blocks`](crate::Entities::share_behind_blocks) and
+//!   [`World::open_behind_blocks`](crate::World::open_behind_blocks) deal blocks, and share the
+//!   handles behind them. A reserver whose block is used up goes on to the shared handles, so none
+//!   is refused as long as the allocator has handles. If [`Ended::requested_past`] is 0 at the end,
+//!   no handle depends on a thread. Use it if no spawn may be lost.
 //!
-//! [`run_in_blocks`](crate::run_in_blocks) runs systems that fill logs in blocks of the first kind,
-//! and [`run_frame_in_blocks`](crate::run_frame_in_blocks) runs the systems of a world. A
-//! [`BlockSize`] for each system [adapts](BlockSize::adapt) to what it wanted, frame by frame:
+//! Each opens a [`Phase`] with the same calls. [`run_in_blocks`](crate::run_in_blocks) runs systems
+//! that fill logs in blocks of the first kind, and [`fill_in_blocks`](crate::fill_in_blocks) runs
+//! the systems of a world. A [`BlockSize`] for each system [adapts](BlockSize::adapt) to what it
+//! wanted, frame by frame:
 //!
 //! ```
 //! # #[cfg(feature = "std")] {
@@ -27,12 +30,12 @@
 //!             Err(why) => why.or_memory(),
 //!         })
 //!     };
-//!     let (blocks, reservers) = entities.open_in_blocks(&sizes.map(|it| it.size()))?;
-//!     let (mut logs, reservers) = run_in_blocks(&StdThreads, &blocks, reservers, &[launch; 3], 2)?;
+//!     let (phase, mut reservers) = entities.share_in_blocks(&sizes.map(|it| it.size()))?;
+//!     let mut logs = run_in_blocks(&StdThreads, &phase, &mut reservers, &[launch; 3], 2)?;
 //!     for (size, reserver) in sizes.iter_mut().zip(&reservers) {
 //!         size.adapt(reserver.wanted());
 //!     }
-//!     entities = blocks.close(reservers)?;
+//!     entities = phase.close(reservers)?.into_entities()?;
 //!     refused += logs.iter().map(|log| log.refused()).sum::<usize>();
 //!     let _sync = SyncPoint::begin(&mut entities, &mut logs, &mut Vec::new())?;
 //! }
@@ -68,17 +71,15 @@
 //! # Ok::<(), Box<dyn std::error::Error + Send + Sync>>(())
 //! ```
 
-use crate::in_blocks::open_in_blocks;
-use crate::numbers::next_number;
-use crate::phase::closed;
-use crate::phases::share_behind_blocks;
+use crate::phase::opened;
+use crate::phases::share_in;
 use crate::shown::shows;
 use crate::threads::{Phase, Reserver, ShareError};
 use crate::{Entities, HandedBack};
 use alloc::vec::Vec;
 
-pub use crate::in_blocks::{BlockError, BlockReserver, BlockSize, Blocks};
-pub use crate::in_blocks::{DealError, EndError, Ended, Overflow};
+pub use crate::in_blocks::{BlockReserver, BlockSize, Blocks, Deals, Ended, InBlocks, Overflow};
+pub use crate::phases::OfBlocks;
 
 /// # Blocks
 impl Entities {
@@ -94,23 +95,23 @@ impl Entities {
     /// A request for more than is left of a block is refused. If no spawn may be lost, use
     /// [`share_behind_blocks`](Self::share_behind_blocks).
     ///
-    /// Opening takes time and memory for each block, however large it is. [`Blocks::close`] gives
-    /// the allocator back, and a [`flush`](Self::flush) brings to life what was used.
+    /// Opening takes time and memory for each block, however large it is. [`Phase::close`] ends the
+    /// phase with [`Ended`], which gives the allocator back, and a [`flush`](Self::flush) brings to
+    /// life what was used.
     ///
     /// ```
     /// use forgeni::Entities;
     ///
-    /// let (blocks, mut reservers) = Entities::new().open_in_blocks(&[64, 64])?;
+    /// let (phase, mut reservers) = Entities::new().share_in_blocks(&[64, 64])?;
     /// std::thread::scope(|scope| {
-    ///     for (number, reserver) in reservers.iter_mut().enumerate() {
-    ///         let blocks = &blocks;
+    ///     for (number, mine) in reservers.iter_mut().enumerate() {
     ///         scope.spawn(move || {
-    ///             let one = blocks.reserve(reserver).expect("a handle");
+    ///             let one = mine.reserve().expect("a handle");
     ///             assert_eq!(one.index() as usize, 64 * number);
     ///         });
     ///     }
     /// });
-    /// let mut entities = blocks.close(reservers)?;
+    /// let mut entities = phase.close(reservers)?.into_entities()?;
     /// let mut born = Vec::new();
     /// entities.flush(&mut born)?;
     /// assert_eq!(born.len(), 2);
@@ -122,13 +123,18 @@ impl Entities {
     ///
     /// # Errors
     ///
-    /// [`HandedBack`] has the allocator as it was, and [`DealError::NeedsFlush`] or
-    /// [`DealError::Memory`].
-    pub fn open_in_blocks(
+    /// [`HandedBack`] has the allocator as it was, and [`ShareError::NeedsFlush`] or
+    /// [`ShareError::Memory`].
+    ///
+    /// # Aborts
+    ///
+    /// The same as for `share`.
+    #[allow(clippy::type_complexity)]
+    pub fn share_in_blocks(
         self,
         sizes: &[u32],
-    ) -> Result<(Blocks, Vec<BlockReserver>), HandedBack<Entities, DealError>> {
-        Ok(open_in_blocks(self, sizes)?.numbered(next_number()))
+    ) -> Result<(Phase<Blocks>, Vec<Reserver<Blocks>>), HandedBack<Entities, ShareError>> {
+        opened(share_in(self, sizes), Ended::cancel)
     }
 
     /// Deals the next handles in blocks of these sizes, at most 1,023 of them, and shares the rest.
@@ -173,10 +179,7 @@ impl Entities {
         self,
         sizes: &[u32],
     ) -> Result<(Phase<Overflow>, Vec<Reserver<Overflow>>), HandedBack<Entities, ShareError>> {
-        let opening = share_behind_blocks(self, sizes)?;
-        opening
-            .numbered(next_number())
-            .map_err(|phase| HandedBack::new(closed(phase).cancel(), ShareError::Memory))
+        opened(share_in(self, sizes), Ended::cancel)
     }
 }
 

@@ -10,9 +10,8 @@ use alloc::vec::Vec;
 pub use crate::kit::thread::{Join, StdThreads};
 #[cfg(feature = "rayon")]
 pub use crate::on_rayon::Rayon;
-pub use crate::phases::{fill_in_blocks, run_frame_in_blocks};
-pub use crate::phases::{FrameError, Unframed};
-pub use crate::running::{run_in_blocks, FrameReport, LogError, RunError};
+pub use crate::phases::{fill_in_blocks, run_in_blocks, FrameError};
+pub use crate::running::{LogError, RunError};
 pub use crate::system::*;
 
 /// Runs each system once, on that many workers side by side, and then the sync point. It returns

@@ -2,6 +2,8 @@
 
 use crate::lending::Lending;
 use crate::lent::Lent;
+use crate::numbers::next_number;
+use crate::phases::Opening;
 use crate::threads::{Phase, Phased, Reserver, ShareError};
 use crate::{Entities, HandedBack};
 use alloc::vec::Vec;
@@ -80,8 +82,19 @@ impl Entities {
     }
 }
 
+/// The phase of this opening under a number of its own, and all its reservers. If they can't be
+/// given out, `back` makes what was shared of what the phase ended with.
+#[allow(clippy::type_complexity)]
+pub(crate) fn opened<S: Phased, T>(
+    opening: Result<Opening<S>, HandedBack<T, ShareError>>,
+    back: impl FnOnce(S::Closed) -> T,
+) -> Result<(Phase<S>, Vec<Reserver<S>>), HandedBack<T, ShareError>> {
+    let parts = opening?.numbered(next_number());
+    parts.map_err(|parts| HandedBack::new(back(closed(parts)), ShareError::Memory))
+}
+
 /// What a phase ended with that had all its reservers.
-pub(crate) fn closed<S: Phased>((phase, reservers): (Phase<S>, Vec<Reserver<S>>)) -> S::Closed {
+fn closed<S: Phased>((phase, reservers): (Phase<S>, Vec<Reserver<S>>)) -> S::Closed {
     let closed = phase.close(reservers);
     closed.expect("all reservers of the phase are here, and nobody else has one")
 }

@@ -62,8 +62,8 @@ pub type WorldCommands<'a, S = SharedSource> = SystemCommands<'a, IssuedCommands
 /// let mut entities = Entities::new();
 /// let shared = run_logs(&mut entities, &[burst; 2], 2)?;
 /// entities.flush(&mut Vec::new())?;
-/// let (blocks, reservers) = entities.open_in_blocks(&[3, 3])?;
-/// let (in_blocks, _) = run_in_blocks(&StdThreads, &blocks, reservers, &[burst; 2], 2)?;
+/// let (phase, mut reservers) = entities.share_in_blocks(&[3, 3])?;
+/// let in_blocks = run_in_blocks(&StdThreads, &phase, &mut reservers, &[burst; 2], 2)?;
 /// assert!(shared.iter().chain(&in_blocks).all(|log| log.len() == 6));
 /// # }
 /// # Ok::<(), Box<dyn std::error::Error>>(())
@@ -83,8 +83,8 @@ pub type LogCommands<'a, C, S = SharedSource> = SystemCommands<'a, Log<C>, S>;
 ///     }
 /// }
 ///
-/// let (blocks, reservers) = Entities::new().open_in_blocks(&[10; 3])?;
-/// let (logs, _) = run_in_blocks(&StdThreads, &blocks, reservers, &[launch; 3], 2)?;
+/// let (phase, mut reservers) = Entities::new().share_in_blocks(&[10; 3])?;
+/// let logs = run_in_blocks(&StdThreads, &phase, &mut reservers, &[launch; 3], 2)?;
 /// // The third system has the third block, whichever worker ran it.
 /// assert_eq!(logs[2].entries()[1], forgeni::Entry::Command(20));
 /// # }
@@ -96,17 +96,19 @@ pub type BlockCommands<'a, C> = LogCommands<'a, C, Blocks>;
 ///
 /// ```
 /// # #[cfg(feature = "std")] {
-/// use forgeni::{run_frame_in_blocks, CommandsInBlocks, OutOfMemory, StdThreads, View, World};
+/// use forgeni::{fill_in_blocks, CommandsInBlocks, OutOfMemory, StdThreads, View, World};
 ///
 /// fn launch(_: &View<'_>, commands: &mut CommandsInBlocks<'_>) -> Result<(), OutOfMemory> {
 ///     commands.spawn_with(&[]).map_or_else(|refused| refused.or_memory(), |_| Ok(()))
 /// }
 ///
-/// let (open, reservers) = World::new().open_in_blocks(&[10; 3])?;
-/// let (_, frame) = run_frame_in_blocks(&StdThreads, open, reservers, &[launch; 3], 2)?;
-/// assert!(frame.sync.born.iter().any(|one| one.index() == 20));
+/// let (phase, mut reservers) = World::new().open_in_blocks(&[10; 3])?;
+/// let queues = fill_in_blocks(&StdThreads, &phase, &mut reservers, &[launch; 3], 2)?;
+/// let mut world = phase.close(reservers)?.into_world()?;
+/// let report = world.apply(queues)?;
+/// assert!(report.born.iter().any(|one| one.index() == 20));
 /// # }
-/// # Ok::<(), Box<dyn std::error::Error>>(())
+/// # Ok::<(), Box<dyn std::error::Error + Send + Sync>>(())
 /// ```
 pub type CommandsInBlocks<'a> = WorldCommands<'a, Blocks>;
 

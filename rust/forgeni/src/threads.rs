@@ -4,9 +4,8 @@
 //! of [`Reservers`] serves threads that come and go.
 //!
 //! A phase can also be opened [in blocks](crate::blocks), where the handles of a caller don't
-//! depend on the other threads:
-//! [`Entities::share_behind_blocks`](crate::Entities::share_behind_blocks) opens a
-//! `Phase<Overflow>`, which has the same calls.
+//! depend on the other threads: [`Entities::share_in_blocks`](crate::Entities::share_in_blocks)
+//! opens a `Phase<Blocks>`, which has the same calls.
 //!
 //! ```
 //! use forgeni::Entities;
@@ -26,9 +25,8 @@
 //! # Ok::<(), Box<dyn std::error::Error + Send + Sync>>(())
 //! ```
 
-use crate::in_blocks::Overflow;
-use crate::numbers::next_number;
-use crate::phase::closed;
+use crate::in_blocks::InBlocks;
+use crate::phase::opened;
 use crate::phases::share;
 use crate::reserving::SharedSource;
 use crate::shown::shows;
@@ -83,10 +81,7 @@ impl Entities {
         self,
         callers: usize,
     ) -> Result<(Phase, Vec<Reserver>), HandedBack<Entities, ShareError>> {
-        let opening = share(self, callers)?;
-        opening
-            .numbered(next_number())
-            .map_err(|phase| HandedBack::new(closed(phase), ShareError::Memory))
+        opened(share(self, callers), |entities| entities)
     }
 }
 
@@ -94,5 +89,5 @@ shows! {
     Phase[S: Phased]: count returned;
     SharedSource: count len;
     Reserver(SharedSource): number quota_left;
-    Reserver(Overflow): size used;
+    Reserver[S: InBlocks]: size used;
 }

@@ -12,7 +12,7 @@ use crate::Limits;
 
 pub use crate::component::{Birth, ComponentId};
 pub use crate::errors::{StorageImageFault, WorldImageFault};
-pub use crate::phases::{CommandQueue, Commands, OpenWorld, World, WorldInBlocks};
+pub use crate::phases::{CommandQueue, Commands, EndedWorld, InWorld, OpenWorld, World};
 pub use crate::storage::{Bundle, InlineBundle, Items, Storage, StorageError};
 pub use crate::sync::{Fault, FaultKind, GoOnError, Queues, Report, Stop, Stopped, SyncError};
 pub use crate::world_phase::LentCommands;
@@ -61,6 +61,7 @@ impl Copy for View<'_> {}
 shows! {
     World: len frame;
     OpenWorld: count returned;
+    EndedWorld: requested_past;
     Commands: number;
     CommandQueue: number;
     View<'_>: phase;

@@ -2,11 +2,12 @@
 //! the modules, and these come after the everyday calls of a world.
 
 use crate::numbers::next_number;
-use crate::phases::{clone_world, clone_world_from};
-use crate::phases::{open, open_in_blocks, read_world, read_world_within};
+use crate::phase::opened;
+use crate::phases::{clone_world, clone_world_from, open, open_in, read_world, read_world_within};
+use crate::threads::{Phase, Reserver, ShareError};
 use crate::world_phase::closed;
-use crate::{BlockReserver, Commands, DealError, HandedBack, OpenWorld, OutOfMemory, ShareError};
-use crate::{World, WorldImageFault, WorldInBlocks};
+use crate::{Blocks, Commands, EndedWorld, HandedBack, InWorld, OpenWorld, OutOfMemory, Overflow};
+use crate::{World, WorldImageFault};
 use alloc::vec::Vec;
 
 /// # Snapshots
@@ -182,18 +183,19 @@ impl World {
 
     /// Opens the world in blocks of these sizes: each caller gets a reserver of its own block, so
     /// its handles don't depend on other callers or on threads. A block is smaller if the world has
-    /// no more handles. [`WorldInBlocks::close`] gives the world back.
+    /// no more handles. [`Phase::close`] ends the phase with [`EndedWorld`], which gives the world
+    /// back.
     ///
-    /// Callers can be systems: with the feature `std`, `run_frame_in_blocks` runs them, and
-    /// `fill_in_blocks` runs them and says how much of its block each used.
+    /// Callers can be systems: [`fill_in_blocks`](crate::fill_in_blocks) runs them. Then
+    /// [`apply`](Self::apply) takes their queues.
     ///
     /// ```
     /// use forgeni::World;
     ///
-    /// let (open, mut reservers) = World::new().open_in_blocks(&[64, 64])?;
-    /// let one = open.blocks().reserve(&mut reservers[1])?;
+    /// let (phase, mut reservers) = World::new().open_in_blocks(&[64, 64])?;
+    /// let one = reservers[1].reserve()?;
     /// assert_eq!(one.index(), 64);
-    /// let mut world = open.close(reservers)?;
+    /// let mut world = phase.close(reservers)?.into_world()?;
     /// world.flush()?;
     /// assert!(world.contains(one));
     /// // What was left of the blocks is given next, in the same order.
@@ -203,12 +205,61 @@ impl World {
     ///
     /// # Errors
     ///
-    /// [`HandedBack`] has the world as it was, and [`DealError::NeedsFlush`] or
-    /// [`DealError::Memory`].
+    /// [`HandedBack`] has the world as it was, and [`ShareError::NeedsFlush`] or
+    /// [`ShareError::Memory`].
+    ///
+    /// # Aborts
+    ///
+    /// The same as for [`open`](Self::open).
+    #[allow(clippy::type_complexity)]
     pub fn open_in_blocks(
         self,
         sizes: &[u32],
-    ) -> Result<(WorldInBlocks, Vec<BlockReserver>), HandedBack<World, DealError>> {
-        Ok(open_in_blocks(self, sizes)?.numbered(next_number()))
+    ) -> Result<
+        (Phase<InWorld<Blocks>>, Vec<Reserver<InWorld<Blocks>>>),
+        HandedBack<World, ShareError>,
+    > {
+        opened(open_in(self, sizes), EndedWorld::cancel)
+    }
+
+    /// Opens the world in blocks of these sizes, at most 1,023 of them, and shares the handles
+    /// behind them. A reserver whose block is used up goes on to the shared handles, so it is
+    /// refused only if the world has no more.
+    ///
+    /// As long as no reserver goes past its block, no handle depends on a thread.
+    /// [`EndedWorld::requested_past`] counts the handles requested past the blocks.
+    ///
+    /// ```
+    /// use forgeni::World;
+    ///
+    /// let (phase, mut reservers) = World::new().open_behind_blocks(&[2, 2])?;
+    /// let wave = reservers[0].reserve_many(2)?;
+    /// let past = reservers[0].reserve()?;
+    /// assert_eq!((wave[1].index(), past.index()), (1, 4));
+    /// let ended = phase.close(reservers)?;
+    /// assert_eq!(ended.requested_past(), 1);
+    /// let mut world = ended.into_world()?;
+    /// world.flush()?;
+    /// assert!(world.len() == 3 && world.contains(past));
+    /// # Ok::<(), Box<dyn std::error::Error + Send + Sync>>(())
+    /// ```
+    ///
+    /// # Errors
+    ///
+    /// The same as for [`open_in_blocks`](Self::open_in_blocks), and [`ShareError::Count`] for more
+    /// than 1,023 blocks.
+    ///
+    /// # Aborts
+    ///
+    /// The same as for [`open`](Self::open).
+    #[allow(clippy::type_complexity)]
+    pub fn open_behind_blocks(
+        self,
+        sizes: &[u32],
+    ) -> Result<
+        (Phase<InWorld<Overflow>>, Vec<Reserver<InWorld<Overflow>>>),
+        HandedBack<World, ShareError>,
+    > {
+        opened(open_in(self, sizes), EndedWorld::cancel)
     }
 }
