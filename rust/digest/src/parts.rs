@@ -140,11 +140,11 @@ fn sync(entities: &mut Entities, logs: &mut Vec<Log<usize>>, digest: &mut Digest
 pub fn blocks() -> Result<u64> {
     let mut digest = Digest(6);
     for workers in 1..3 {
-        let (blocks, reservers) = Entities::new().open_in_blocks(&[2, 16, 0, 16])?;
-        let (mut logs, reservers) =
-            run_in_blocks(&StdThreads, &blocks, reservers, &[fill; 4], workers)?;
+        let (phase, mut reservers) = Entities::new().share_in_blocks(&[2, 16, 0, 16])?;
+        let mut logs = run_in_blocks(&StdThreads, &phase, &mut reservers, &[fill; 4], workers)?;
         digest.take(&reservers);
-        sync(&mut blocks.close(reservers)?, &mut logs, &mut digest)?;
+        let mut entities = phase.close(reservers)?.into_entities()?;
+        sync(&mut entities, &mut logs, &mut digest)?;
     }
     Ok(digest.0)
 }

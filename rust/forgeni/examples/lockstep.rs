@@ -125,17 +125,16 @@ impl Game {
     fn step(&mut self, workers: usize) -> Result<()> {
         let entities = std::mem::take(&mut self.entities);
         let sizes = self.sizes.map(|it| it.size());
-        let (blocks, reservers) = entities.open_in_blocks(&sizes)?;
+        let (phase, mut reservers) = entities.share_in_blocks(&sizes)?;
         let game = &*self;
         let systems: [_; SYSTEMS] = std::array::from_fn(|system| {
             move |commands: &mut BlockCommands<'_, Command>| game.run(system, commands)
         });
-        let (mut logs, reservers) =
-            run_in_blocks(&StdThreads, &blocks, reservers, &systems, workers)?;
+        let mut logs = run_in_blocks(&StdThreads, &phase, &mut reservers, &systems, workers)?;
         for (size, reserver) in self.sizes.iter_mut().zip(&reservers) {
             size.adapt(reserver.wanted());
         }
-        self.entities = blocks.close(reservers)?;
+        self.entities = phase.close(reservers)?.into_entities()?;
         let mut born = Vec::new();
         let mut sync = SyncPoint::begin(&mut self.entities, &mut logs, &mut born)?;
         self.spawned += born.len() as u64;
@@ -239,13 +238,12 @@ fn play_world(workers: usize) -> Result<Vec<Vec<u8>>> {
         }
     });
     for _ in 0..WORLD_FRAMES {
-        let (open, reservers) = world.open_in_blocks(&sizes.map(|it| it.size()))?;
-        let filled = fill_in_blocks(&StdThreads, &open, reservers, &systems, workers);
-        let (queues, reservers) = filled?;
+        let (phase, mut reservers) = world.open_in_blocks(&sizes.map(|it| it.size()))?;
+        let queues = fill_in_blocks(&StdThreads, &phase, &mut reservers, &systems, workers)?;
         for (size, reserver) in sizes.iter_mut().zip(&reservers) {
             size.adapt(reserver.wanted());
         }
-        world = open.close(reservers)?;
+        world = phase.close(reservers)?.into_world()?;
         world.apply(queues)?;
         let mut image = vec![];
         world.write_image(&mut image)?;

@@ -96,12 +96,12 @@ impl Game {
             }
         });
         let world = std::mem::take(&mut self.world);
-        let (open, reservers) = world.open_in_blocks(&self.sizes.map(|it| it.size()))?;
-        let (queues, reservers) = fill_in_blocks(&StdThreads, &open, reservers, &systems, workers)?;
+        let (phase, mut reservers) = world.open_in_blocks(&self.sizes.map(|it| it.size()))?;
+        let queues = fill_in_blocks(&StdThreads, &phase, &mut reservers, &systems, workers)?;
         for (size, reserver) in self.sizes.iter_mut().zip(&reservers) {
             size.adapt(reserver.wanted());
         }
-        self.world = open.close(reservers)?;
+        self.world = phase.close(reservers)?.into_world()?;
         self.world.apply(queues)?;
         Ok(())
     }

@@ -3,8 +3,9 @@
 //! (`rust/erased_tests/src/values/overflow.rs`).
 
 use forgeni::{
-    CloseError, Entities, Entry, Handle, Log, LogCommands, Overflow, Phase, ReserveError, Reserver,
-    Reservers, ShareError,
+    BlockSize, Blocks, CloseError, ComponentId, Deals, Entities, Entry, Handle, InBlocks, InWorld,
+    Log, LogCommands, Overflow, Phase, Phased, Refused, ReserveError, Reserver, Reservers,
+    ShareError, World,
 };
 use std::panic::{catch_unwind, AssertUnwindSafe};
 
@@ -200,4 +201,174 @@ fn a_log_has_what_its_last_system_entered() {
     assert_eq!(mine.requested_past(), 3);
     let (born, past) = closed((phase, reservers));
     assert_eq!((born.len(), past), (7, 3));
+}
+
+const AGE: ComponentId = ComponentId(0);
+
+type PartsOf<S> = (Phase<S>, Vec<Reserver<S>>);
+
+/// A world with two entities and a slot that waits.
+fn world() -> (World, [Handle; 2]) {
+    let mut world = World::new();
+    let [old, other, gone] = [80, 81, 82].map(|age| world.spawn(&[(AGE, age)]).expect("a slot"));
+    world.despawn(gone).expect("alive");
+    (world, [old, other])
+}
+
+#[test]
+fn a_world_whose_spawns_go_past_the_blocks() {
+    let (world, [old, other]) = world();
+    let (phase, mut reservers) = world.open_behind_blocks(&[2, 3]).expect("memory");
+    assert_eq!((phase.count(), phase.len()), (2, 2));
+    assert_eq!(phase.view().get(old, AGE), Some(80));
+    assert!(phase.is_alive(old) && reservers[0].is_alive(old) && phase.iter().eq([old, other]));
+    let [one, two] = reservers.as_mut_slice() else {
+        panic!("two reservers");
+    };
+    // The slot that waits is the first one of the first block.
+    assert_eq!(indexes(one.reserve_many(2).expect("of the block")), [2, 3]);
+    assert_eq!(indexes(two.reserve_many(2).expect("of the block")), [4, 5]);
+    assert_eq!((one.used(), one.left()), (2, 0));
+    // One is left of the second block. So two come from behind all blocks, and so does each later
+    // one of the first reserver.
+    assert_eq!(indexes(two.reserve_many(2).expect("past it")), [7, 8]);
+    assert_eq!(one.reserve().map(Handle::index), Ok(9));
+    assert_eq!((one.wanted(), two.wanted(), two.left()), (3, 4, 1));
+    let mut sizes = [BlockSize::new(1_000); 2];
+    adapt(&mut sizes, &reservers);
+    assert_eq!(sizes.map(|it| it.size()), [64, 64]);
+
+    let ended = phase.close(reservers).expect("all are here");
+    assert_eq!(ended.requested_past(), 3);
+    assert_eq!(format!("{ended:?}"), "EndedWorld { requested_past: 3, .. }");
+    let mut world = ended.into_world().expect("memory");
+    assert!(world.needs_flush() && world.get(old, AGE) == Some(80));
+    world.flush().expect("memory");
+    assert_eq!(world.len(), 2 + 7);
+    // What was left of the blocks is given next.
+    assert_eq!(world.spawn(&[]).map(Handle::index), Ok(6));
+}
+
+/// The sizes that the next frame should have, of either kind of blocks.
+fn adapt<S: InBlocks>(sizes: &mut [BlockSize], reservers: &[Reserver<S>]) {
+    for (size, reserver) in sizes.iter_mut().zip(reservers) {
+        size.adapt(reserver.wanted());
+    }
+}
+
+/// Past the last handle all are refused, and the reserver says what it wanted.
+#[test]
+fn a_world_without_more_handles() {
+    let world = World::with_limits(forgeni::Limits::new(5, 1).expect("limits"));
+    let (phase, mut reservers) = world.open_behind_blocks(&[2, 2]).expect("memory");
+    let [one, two] = reservers.as_mut_slice() else {
+        panic!("two reservers");
+    };
+    assert_eq!(one.reserve_many(2).map(|it| it.len()), Ok(2));
+    assert_eq!(one.reserve().map(Handle::index), Ok(4));
+    assert!(matches!(
+        one.reserve(),
+        Err(Refused::Space { wanted: 1, left: 0 })
+    ));
+    assert!(one.reserve_many(9).is_err());
+    assert_eq!(one.wanted(), 13);
+    // Its own block is there for the other one.
+    assert_eq!(indexes(two.reserve_many(2).expect("of the block")), [2, 3]);
+    let ended = phase.close(reservers).expect("all are here");
+    assert_eq!(ended.requested_past(), 11);
+    let mut world = ended.into_world().expect("memory");
+    world.flush().expect("memory");
+    assert_eq!(world.len(), 5);
+}
+
+#[test]
+fn a_world_that_is_not_opened_behind_blocks() {
+    let (world, [old, _]) = world();
+    let (world, error) = world
+        .open_behind_blocks(&[0; 1_024])
+        .expect_err("a block too many")
+        .into_parts();
+    assert_eq!((error, world.len()), (ShareError::Count, 2));
+    let (phase, reservers) = world.open_behind_blocks(&[1; 1_023]).expect("memory");
+    let mut world = phase.close(reservers).expect("all are here").cancel();
+    assert!(world.contains(old) && !world.needs_flush());
+    // Blocks that refuse may be any number.
+    let (phase, mut reservers) = world.open_in_blocks(&[1; 1_100]).expect("memory");
+    assert_eq!(reservers[1_099].reserve().map(Handle::index), Ok(1_101));
+    let ended = phase.close(reservers).expect("all are here");
+    world = ended.into_world().expect("memory");
+    for sizes in [&[1][..], &[0; 1_024]] {
+        let unopened = world
+            .open_behind_blocks(sizes)
+            .expect_err("it needs a flush");
+        let error;
+        (world, error) = unopened.into_parts();
+        assert_eq!(error, ShareError::NeedsFlush);
+    }
+    world.flush().expect("memory");
+    assert_eq!(world.len(), 3);
+}
+
+/// One function for an allocator and for a world, of either kind of blocks: each reserver takes its
+/// block, and one more.
+fn all_and_one<S: InBlocks>((phase, mut reservers): PartsOf<S>) -> (S::Closed, [usize; 2]) {
+    let (mut served, mut refused) = (0, 0);
+    for reserver in &mut reservers {
+        let many = reserver
+            .reserve_many(reserver.left())
+            .expect("of the block");
+        served += many.len();
+        assert_eq!((reserver.used(), reserver.left()), (reserver.size(), 0));
+        match reserver.reserve() {
+            Ok(_) => served += 1,
+            Err(_) => refused += 1,
+        }
+        assert_eq!(reserver.wanted(), reserver.size() + 1);
+    }
+    let ended = phase.close(reservers).expect("all are here");
+    (ended, [served, refused])
+}
+
+#[test]
+fn one_function_for_all_kinds_of_blocks() {
+    fn past<S: Deals>(of: S::Closed) -> u64 {
+        S::into_ended(of).requested_past()
+    }
+    let sizes = [3, 0, 4];
+    let parts = Entities::new().share_in_blocks(&sizes).expect("memory");
+    let (ended, counts) = all_and_one(parts);
+    assert_eq!((past::<Blocks>(ended), counts), (0, [7, 3]));
+    let parts = Entities::new().share_behind_blocks(&sizes).expect("memory");
+    let (ended, counts) = all_and_one(parts);
+    assert_eq!((past::<Overflow>(ended), counts), (3, [10, 0]));
+    let (ended, counts) = all_and_one(World::new().open_in_blocks(&sizes).expect("memory"));
+    assert_eq!((ended.requested_past(), counts), (0, [7, 3]));
+    let (ended, counts) = all_and_one(World::new().open_behind_blocks(&sizes).expect("memory"));
+    assert_eq!((ended.requested_past(), counts), (3, [10, 0]));
+}
+
+/// A log is filled with handles of a world's blocks, and a pool lends its reservers.
+#[test]
+fn logs_and_pools_of_a_world_in_blocks() {
+    fn burst<S: Phased>(mine: &mut Reserver<S>, log: &mut Log<u32>) {
+        let fills = |out: &mut LogCommands<'_, u32, S>| -> Result<(), Failed> {
+            out.spawn()?;
+            out.push(7).expect("memory");
+            Ok(())
+        };
+        assert_eq!(mine.fill(log, &fills), Ok(()));
+    }
+    let (phase, mut reservers) = World::new().open_behind_blocks(&[1, 1]).expect("memory");
+    let mut log = Log::new();
+    for wanted in [1, 2] {
+        burst::<InWorld<Overflow>>(&mut reservers[0], &mut log);
+        assert_eq!((log.len(), reservers[0].wanted()), (2, wanted));
+    }
+    let pool = Reservers::new(reservers).expect("memory");
+    let given = pool.with(|mine| mine.reserve().expect("a handle"));
+    assert!([1, 3].contains(&given.index()));
+    let ended = phase.close(pool.into_inner()).expect("all are here");
+    let mut world = ended.into_world().expect("memory");
+    world.flush().expect("memory");
+    assert_eq!(world.len(), 3);
 }

@@ -4,9 +4,9 @@
 use crate::blocks::{close, dealt};
 use crate::common::{flushed, seeds, small, Model, Numbers};
 use forgeni::{
-    fill_in_blocks, run_frame_in_blocks, run_in_blocks, Birth, BlockCommands, BlockReserver,
-    BlockSize, Blocks, CommandsInBlocks, ComponentId, DealError, EndError, Entities, Limits,
-    LogSystem, System, Unframed, View, World, WorldInBlocks,
+    fill_in_blocks, run_in_blocks, Birth, BlockCommands, BlockSize, Blocks, CloseError,
+    CommandsInBlocks, ComponentId, Entities, InBlocks, InWorld, Limits, LogSystem, OfBlocks, Phase,
+    Report, Reserver, ShareError, System, View, World,
 };
 use forgeni::{
     Entry, Handle, HandleMap, Log, OutOfMemory, Refused, ReserveError, RunError, StdThreads,
@@ -64,22 +64,27 @@ fn used() -> (Entities, Model) {
     (entities, model)
 }
 
-fn opened(sizes: &[u32]) -> (Blocks, Vec<BlockReserver>) {
-    used().0.open_in_blocks(sizes).expect("memory")
+type Parts<S = Blocks> = (Phase<S>, Vec<Reserver<S>>);
+
+fn opened(sizes: &[u32]) -> Parts {
+    used().0.share_in_blocks(sizes).expect("memory")
 }
 
-/// Runs these systems in blocks of ten.
-fn run(
-    does: &[Does],
-    workers: usize,
-) -> (Blocks, Result<Vec<Log<u32>>, RunError>, Vec<BlockReserver>) {
-    let (blocks, reservers) = opened(&vec![10; does.len()]);
-    match run_in_blocks(&StdThreads, &blocks, reservers, does, workers) {
-        Ok((logs, reservers)) => (blocks, Ok(logs), reservers),
-        Err(unrun) => {
-            let (reservers, error) = unrun.into_parts();
-            (blocks, Err(error), reservers)
-        }
+fn closed((phase, reservers): Parts) -> Entities {
+    let ended = phase.close(reservers).expect("all are here");
+    ended.into_entities().expect("memory")
+}
+
+fn used_of<S: InBlocks>(reservers: &[Reserver<S>]) -> Vec<u32> {
+    reservers.iter().map(Reserver::used).collect()
+}
+
+/// All blocks are used up, and the reservers are of this phase.
+fn expect_used_up<S: OfBlocks>(phase: &Phase<S>, reservers: &[Reserver<S>]) {
+    assert_eq!(reservers.len(), phase.count());
+    for reserver in reservers {
+        assert!(reserver.is_of(phase));
+        assert_eq!((reserver.used(), reserver.left()), (reserver.size(), 0));
     }
 }
 
@@ -105,14 +110,18 @@ fn spawns_return_the_front_of_each_block_on_any_number_of_workers() {
         rest.extend(block);
     }
     for workers in WORKERS {
-        let (blocks, reservers) = opened(&sizes);
-        let ran = run_in_blocks(&StdThreads, &blocks, reservers, &systems, workers);
-        let (mut logs, reservers) = ran.expect("memory");
+        let (phase, mut reservers) = opened(&sizes);
+        let ran = run_in_blocks(&StdThreads, &phase, &mut reservers, &systems, workers);
+        let mut logs = ran.expect("memory");
         let entries: Vec<&[Entry<u32>]> = logs.iter().map(Log::entries).collect();
         assert_eq!(entries, expected, "{workers} workers");
 
+        // What was lent has come back.
+        let spawned = (0..40).map(|k| (k % 5).min(sizes[k as usize]));
+        assert!(spawned.eq(used_of(&reservers)));
+
         // What is left of the blocks is given next, in the pool's order.
-        let mut entities = blocks.close(reservers).expect("all are here");
+        let mut entities = closed((phase, reservers));
         let mut born = vec![];
         let begun = SyncPoint::begin(&mut entities, &mut logs, &mut born);
         let _sync = begun.expect("all are reserved");
@@ -133,11 +142,13 @@ fn spawns_return_the_front_of_each_block_on_any_number_of_workers() {
 fn each_refused_spawn_comes_to_the_sync_point_at_its_turn() {
     let systems = [Does::Spawn(5), Does::Spawn(2), Does::Spawn(4)];
     for workers in WORKERS {
-        let (blocks, reservers) = opened(&[3, 2, 0]);
-        let ran = run_in_blocks(&StdThreads, &blocks, reservers, &systems, workers);
-        let (mut logs, reservers) = ran.expect("memory");
+        let (phase, mut reservers) = opened(&[3, 2, 0]);
+        let ran = run_in_blocks(&StdThreads, &phase, &mut reservers, &systems, workers);
+        let mut logs = ran.expect("memory");
         assert_eq!(logs.iter().map(Log::refused).collect::<Vec<_>>(), [2, 0, 4]);
-        let mut entities = blocks.close(reservers).expect("all are here");
+        assert_eq!(used_of(&reservers), [3, 2, 0]);
+        assert!(reservers.iter().map(Reserver::wanted).eq([4, 2, 1]));
+        let mut entities = closed((phase, reservers));
         let (mut born, mut turns) = (vec![], String::new());
         let begun = SyncPoint::begin(&mut entities, &mut logs, &mut born);
         let done = begun
@@ -172,8 +183,8 @@ fn digests(workers: usize) -> Vec<u64> {
     let mut values: HandleMap<u64> = HandleMap::new();
     (0..100)
         .map(|frame| {
-            let (blocks, reservers) = std::mem::take(&mut entities)
-                .open_in_blocks(&[6; SYSTEMS as usize])
+            let (phase, mut reservers) = std::mem::take(&mut entities)
+                .share_in_blocks(&[6; SYSTEMS as usize])
                 .expect("memory");
             let seen = &values;
             let system = |number: u64| {
@@ -196,10 +207,10 @@ fn digests(workers: usize) -> Vec<u64> {
                 }
             };
             let systems: Vec<_> = (0..SYSTEMS).map(system).collect();
-            let ran = run_in_blocks(&StdThreads, &blocks, reservers, &systems, workers);
-            let (mut logs, reservers) = ran.expect("memory");
+            let ran = run_in_blocks(&StdThreads, &phase, &mut reservers, &systems, workers);
+            let mut logs = ran.expect("memory");
             drop(systems);
-            entities = blocks.close(reservers).expect("all are here");
+            entities = closed((phase, reservers));
             let mut sync =
                 SyncPoint::begin(&mut entities, &mut logs, &mut vec![]).expect("reserved");
             sync.apply(&mut entities, |entities, entry| {
@@ -241,8 +252,8 @@ fn systems_may_wait_for_one_another() {
                 .map_or_else(ReserveError::or_memory, |_| Ok(()))
         }
     });
-    let (blocks, reservers) = opened(&[1; 8]);
-    let (logs, _) = run_in_blocks(&StdThreads, &blocks, reservers, &systems, 8).expect("memory");
+    let (phase, mut reservers) = opened(&[1; 8]);
+    let logs = run_in_blocks(&StdThreads, &phase, &mut reservers, &systems, 8).expect("memory");
     assert!(logs.iter().all(|log| log.entries().len() == 1));
 }
 
@@ -251,24 +262,29 @@ fn after_a_system_stops_or_panics_all_blocks_count_as_used() {
     for workers in WORKERS {
         for last in [Does::Memory, Does::Panic] {
             let systems = [Does::Spawn(3), Does::Spawn(0), last];
-            let (blocks, reservers) = opened(&[10; 3]);
+            let (phase, mut reservers) = opened(&[10; 3]);
+            reservers[1].reserve_many(4).expect("of the block");
             let running = AssertUnwindSafe(|| {
-                run_in_blocks(&StdThreads, &blocks, reservers, &systems, workers)
+                run_in_blocks(&StdThreads, &phase, &mut reservers, &systems, workers)
             });
             match catch_unwind(running) {
                 Ok(ran) => {
-                    let unrun = ran.expect_err("a system stopped");
-                    let (reservers, error) = unrun.into_parts();
-                    let lost = RunError::Lost(Some(OutOfMemory));
-                    assert_eq!((error, reservers.len()), (lost, 0));
+                    let error = ran.expect_err("a system stopped");
+                    assert_eq!(error, RunError::Lost(Some(OutOfMemory)));
                 }
                 Err(panic) => assert_eq!(panic.downcast_ref(), Some(&"the system")),
             }
-            let unended = blocks.close(vec![]).expect_err("none is here");
-            let ((blocks, _), error) = unended.into_parts();
-            assert_eq!(error, EndError::Missing { count: 3 });
-            let closed = blocks.close_lost(vec![]);
-            let mut entities = closed.expect("memory");
+            expect_used_up(&phase, &reservers);
+            let refused = reservers[0].reserve();
+            assert_eq!(refused, Err(Refused::Space { wanted: 1, left: 0 }));
+            // Another run has no handles, and leaves the blocks as they are.
+            let ran = run_in_blocks(&StdThreads, &phase, &mut reservers, &systems[..2], 1);
+            assert_eq!(ran.err(), Some(RunError::Reservers));
+            let again = [Does::Spawn(1); 3];
+            let ran = run_in_blocks(&StdThreads, &phase, &mut reservers, &again, workers);
+            assert!(ran.expect("memory").iter().all(|log| log.refused() == 1));
+            expect_used_up(&phase, &reservers);
+            let mut entities = closed((phase, reservers));
             let mut expected = used().1.pool();
             expected.truncate(30);
             let mut born = flushed(&mut entities);
@@ -280,7 +296,7 @@ fn after_a_system_stops_or_panics_all_blocks_count_as_used() {
 }
 
 #[test]
-fn the_first_fault_is_returned_and_the_reservers_come_back() {
+fn the_first_fault_is_returned_and_the_reservers_are_as_they_were() {
     for (systems, workers, error) in [
         (2, 0, RunError::Workers),
         (2, 65, RunError::Workers),
@@ -289,30 +305,48 @@ fn the_first_fault_is_returned_and_the_reservers_come_back() {
         (1, 64, RunError::Reservers),
         (3, 1, RunError::Reservers),
     ] {
-        let (blocks, reservers) = opened(&[10, 10]);
+        let (phase, mut reservers) = opened(&[10, 10]);
         let systems = vec![Does::Spawn(1); systems];
-        let ran = run_in_blocks(&StdThreads, &blocks, reservers, &systems, workers);
-        let unrun = ran.expect_err("refused");
-        assert_eq!(unrun.to_string(), error.to_string());
-        let (reservers, told) = unrun.into_parts();
-        assert_eq!(told, error);
-        let ran = run_in_blocks(&StdThreads, &blocks, reservers, &[Does::Spawn(1); 2], 1);
-        let (logs, reservers) = ran.expect("they are as they were");
-        assert_eq!(logs.len(), 2);
-        assert!(reservers.iter().all(|it| it.used() == 1));
+        let ran = run_in_blocks(&StdThreads, &phase, &mut reservers, &systems, workers);
+        assert_eq!(ran.err(), Some(error));
+        assert_eq!(used_of(&reservers), [0, 0]);
+        let ran = run_in_blocks(&StdThreads, &phase, &mut reservers, &[Does::Spawn(1); 2], 1);
+        assert_eq!(ran.expect("they are as they were").len(), 2);
+        assert_eq!(used_of(&reservers), [1, 1]);
     }
-    let (blocks, mut reservers) = opened(&[10, 10]);
-    let (_other, mut others) = opened(&[10, 10]);
-    std::mem::swap(&mut reservers[1], &mut others[1]);
-    let ran = run_in_blocks(&StdThreads, &blocks, reservers, &[Does::Spawn(1); 2], 2);
-    let (reservers, error) = ran.expect_err("refused").into_parts();
-    assert_eq!((error, reservers.len()), (RunError::OtherPhase, 2));
+}
+
+/// No system runs with a reserver of another phase, and nothing changes.
+#[test]
+fn a_reserver_of_another_phase_is_refused() {
+    let systems = [Does::Spawn(1); 2];
+    for at in [0, 1] {
+        let (phase, mut reservers) = opened(&[10, 10]);
+        let (other, mut others) = opened(&[10, 10]);
+        reservers[0].reserve_many(3).expect("of the block");
+        others[at].reserve_many(5).expect("of the block");
+        std::mem::swap(&mut reservers[at], &mut others[at]);
+        let before = [used_of(&reservers), used_of(&others)];
+        for (phase, reservers) in [(&phase, &mut reservers), (&other, &mut others)] {
+            let ran = run_in_blocks(&StdThreads, phase, reservers, &systems, 2);
+            assert_eq!(ran.err(), Some(RunError::OtherPhase));
+        }
+        assert_eq!([used_of(&reservers), used_of(&others)], before);
+        std::mem::swap(&mut reservers[at], &mut others[at]);
+        let ran = run_in_blocks(&StdThreads, &phase, &mut reservers, &systems, 2);
+        assert_eq!(ran.expect("all are of the phase").len(), 2);
+        assert_eq!(used_of(&reservers), [4, 1]);
+        assert_eq!(flushed(&mut closed((phase, reservers))).len(), 5);
+        assert_eq!(flushed(&mut closed((other, others))).len(), 5);
+    }
 }
 
 #[test]
 fn a_block_that_is_used_up_refuses_and_the_system_goes_on() {
-    let (_, logs, reservers) = run(&[Does::Spawn(12), Does::Spawn(2)], 2);
-    let logs = logs.expect("memory");
+    let (phase, mut reservers) = opened(&[10; 2]);
+    let systems = [Does::Spawn(12), Does::Spawn(2)];
+    let ran = run_in_blocks(&StdThreads, &phase, &mut reservers, &systems, 2);
+    let logs = ran.expect("memory");
     let spawns = |log: &Log<u32>| {
         log.entries()
             .iter()
@@ -321,13 +355,7 @@ fn a_block_that_is_used_up_refuses_and_the_system_goes_on() {
     };
     assert_eq!((spawns(&logs[0]), logs[0].refused()), (10, 2));
     assert_eq!((logs[0].len(), logs[1].refused()), (24, 0));
-    assert_eq!(
-        reservers
-            .iter()
-            .map(BlockReserver::used)
-            .collect::<Vec<_>>(),
-        [10, 2]
-    );
+    assert_eq!(used_of(&reservers), [10, 2]);
     let full = |commands: &mut BlockCommands<'_, ()>| {
         assert_eq!((commands.left(), commands.entries().len()), (0, 0));
         assert_eq!(
@@ -336,16 +364,17 @@ fn a_block_that_is_used_up_refuses_and_the_system_goes_on() {
         );
         Ok::<(), OutOfMemory>(())
     };
-    let (blocks, reservers) = opened(&[0]);
-    assert!(run_in_blocks(&StdThreads, &blocks, reservers, &[full], 1).is_ok());
+    let (phase, mut reservers) = opened(&[0]);
+    assert!(run_in_blocks(&StdThreads, &phase, &mut reservers, &[full], 1).is_ok());
 }
 
 #[test]
 fn no_systems_fill_no_logs() {
     for workers in WORKERS {
-        let (blocks, logs, reservers) = run(&[], workers);
-        assert_eq!(logs.expect("memory").len(), 0);
-        assert!(blocks.close(reservers).is_ok());
+        let (phase, mut reservers) = opened(&[]);
+        let ran = run_in_blocks(&StdThreads, &phase, &mut reservers, &[] as &[Does], workers);
+        assert_eq!(ran.expect("memory").len(), 0);
+        assert!(phase.close(reservers).is_ok());
     }
 }
 
@@ -575,8 +604,31 @@ fn image_of(world: &World) -> Vec<u8> {
     image
 }
 
-fn open(world: World, sizes: &[u32]) -> (WorldInBlocks, Vec<BlockReserver>) {
+fn open(world: World, sizes: &[u32]) -> Parts<InWorld<Blocks>> {
     world.open_in_blocks(sizes).expect("memory")
+}
+
+fn ended((phase, reservers): Parts<InWorld<Blocks>>) -> World {
+    let ended = phase.close(reservers).expect("all are here");
+    assert_eq!(ended.requested_past(), 0);
+    ended.into_world().expect("memory")
+}
+
+/// A frame of these systems: the world after it, what the sync point reports, and how much of its
+/// block each of them used.
+fn framed(
+    world: World,
+    sizes: &[u32],
+    systems: &[impl System<Blocks> + Sync],
+    workers: usize,
+) -> (World, Report, Vec<u32>) {
+    let (phase, mut reservers) = open(world, sizes);
+    let filled = fill_in_blocks(&StdThreads, &phase, &mut reservers, systems, workers);
+    let (queues, used) = (filled.expect("memory"), used_of(&reservers));
+    assert_eq!(queues.len(), systems.len());
+    let mut world = ended((phase, reservers));
+    let report = world.apply(queues).expect("memory");
+    (world, report, used)
 }
 
 fn any_step(numbers: &mut Numbers) -> Step {
@@ -618,22 +670,9 @@ fn frames_in_blocks_are_those_of_the_model_on_any_number_of_workers() {
             let (used, born, faults) = model.frame(sizes, scripts);
             let mut images = vec![];
             for (workers, world) in WORKERS.iter().zip(&mut worlds) {
-                let (opened, reservers) = open(world.take().expect("a world"), sizes);
-                // In one call, or in three.
-                let (after, report) = if workers % 2 == 1 {
-                    let ran =
-                        run_frame_in_blocks(&StdThreads, opened, reservers, scripts, *workers);
-                    let (after, report) = ran.expect("memory");
-                    (after, report.sync)
-                } else {
-                    let ran = fill_in_blocks(&StdThreads, &opened, reservers, scripts, *workers);
-                    let (queues, reservers) = ran.expect("memory");
-                    let told: Vec<usize> = reservers.iter().map(|it| it.used() as usize).collect();
-                    assert_eq!((queues.len(), &told), (scripts.len(), &used));
-                    let mut after = opened.close(reservers).expect("all are here");
-                    let report = after.apply(queues).expect("memory");
-                    (after, report)
-                };
+                let before = world.take().expect("a world");
+                let (after, report, told) = framed(before, sizes, scripts, *workers);
+                assert!(told.into_iter().eq(used.iter().map(|it| *it as u32)));
                 let mut all = report.born.clone();
                 all.sort_unstable();
                 assert_eq!((&all, report.faults.len()), (&born, faults));
@@ -658,15 +697,15 @@ fn sizes_follow_what_was_wanted() {
             ([64, 0, 200, 33], [128, 64, 150, 66]),
         ] {
             let systems = wanted.map(|count| Script(vec![Step::Spawn(7); count]));
-            let (opened, reservers) = open(world, &sizes.map(|it| it.size()));
-            let ran = fill_in_blocks(&StdThreads, &opened, reservers, &systems, workers);
-            let (queues, reservers) = ran.expect("memory");
+            let (phase, mut reservers) = open(world, &sizes.map(|it| it.size()));
+            let ran = fill_in_blocks(&StdThreads, &phase, &mut reservers, &systems, workers);
+            let queues = ran.expect("memory");
             for ((size, reserver), wanted) in sizes.iter_mut().zip(&reservers).zip(wanted) {
                 assert_eq!(reserver.used(), size.size().min(wanted as u32));
                 size.adapt(reserver.wanted());
             }
             assert_eq!(sizes.map(|it| it.size()), then);
-            world = opened.close(reservers).expect("all are here");
+            world = ended((phase, reservers));
             // Refused spawns are faults.
             let report = world.apply(queues).expect("memory");
             let spawns: usize = wanted.iter().sum();
@@ -692,14 +731,14 @@ fn a_bulk_that_was_refused_is_served_in_the_next_frame() {
     for workers in WORKERS {
         let (mut world, mut sizes) = (World::new(), [BlockSize::new(4096); 3]);
         for (then, faults) in [([64, 200, 2000], 2), ([64, 200, 2000], 0)] {
-            let (opened, reservers) = open(world, &sizes.map(|it| it.size()));
-            let ran = fill_in_blocks(&StdThreads, &opened, reservers, &systems, workers);
-            let (queues, reservers) = ran.expect("memory");
+            let (phase, mut reservers) = open(world, &sizes.map(|it| it.size()));
+            let ran = fill_in_blocks(&StdThreads, &phase, &mut reservers, &systems, workers);
+            let queues = ran.expect("memory");
             for (size, reserver) in sizes.iter_mut().zip(&reservers) {
                 size.adapt(reserver.wanted());
             }
             assert_eq!(sizes.map(|it| it.size()), then);
-            world = opened.close(reservers).expect("all are here");
+            world = ended((phase, reservers));
             assert_eq!(world.apply(queues).expect("memory").faults.len(), faults);
         }
         assert_eq!(world.len(), 10 + 10 + 100 + 1000);
@@ -724,8 +763,8 @@ fn used_world() -> (World, Vec<Handle>) {
     (world, pool)
 }
 
-/// Flushes a world that was closed without its reservers: all handles of the blocks are born,
-/// without components.
+/// Flushes a world after a run that was broken off: all handles of the blocks are born, without
+/// components.
 fn expect_all_born(mut world: World, blocks: &[Handle]) {
     assert!(world.needs_flush());
     world.flush().expect("memory");
@@ -736,66 +775,50 @@ fn expect_all_born(mut world: World, blocks: &[Handle]) {
 }
 
 #[test]
-fn after_a_system_of_a_world_stops_or_panics_the_world_is_there() {
-    for workers in WORKERS {
-        let first = Script(vec![Step::Spawn(1), Step::Despawn(0)]);
-        let systems = |last| {
-            [
-                first.clone(),
-                Script(vec![]),
-                Script(vec![Step::Spawn(1), last]),
-            ]
-        };
-
-        // A system that says that memory ran out: the frame hands the world back.
+fn after_a_system_of_a_world_stops_or_panics_the_phase_closes() {
+    for (workers, last) in WORKERS
+        .iter()
+        .flat_map(|it| [(*it, Step::Memory), (*it, Step::Panic)])
+    {
+        let systems = [
+            Script(vec![Step::Spawn(1), Step::Despawn(0)]),
+            Script(vec![]),
+            Script(vec![Step::Spawn(1), last]),
+        ];
         let (world, blocks) = used_world();
-        let (opened, reservers) = open(world, &[10; 3]);
-        let ran = run_frame_in_blocks(
-            &StdThreads,
-            opened,
-            reservers,
-            &systems(Step::Memory),
-            workers,
-        );
-        let Err(Unframed::Unrun {
-            world,
-            reservers,
-            error,
-        }) = ran
-        else {
-            panic!("a system stopped")
-        };
-        let lost = RunError::Lost(Some(OutOfMemory));
-        assert_eq!((error, reservers.len()), (lost, 0));
-        assert_eq!(world.view().by_birth().expect("memory").len(), 2);
-        expect_all_born(world.close_lost(reservers).expect("memory"), &blocks);
-
-        // One that panics: systems that only fill queues leave it.
-        let (opened, reservers) = open(used_world().0, &[10; 3]);
-        let systems = systems(Step::Panic);
-        let running =
-            AssertUnwindSafe(|| fill_in_blocks(&StdThreads, &opened, reservers, &systems, workers));
-        let panic = catch_unwind(running).expect_err("the system's panic");
-        assert_eq!(panic.downcast_ref(), Some(&"the system"));
-        let unended = opened.close(vec![]).expect_err("none is here");
-        assert_eq!(unended.to_string(), "missing reservers: 3");
-        let ((opened, reservers), error) = unended.into_parts();
-        assert_eq!(error, EndError::Missing { count: 3 });
-        let closed = opened.close_lost(reservers);
-        expect_all_born(closed.expect("memory"), &blocks);
-
-        // The panic of a frame that ends in its own sync point is handed on too.
-        let (opened, reservers) = open(used_world().0, &[10; 3]);
+        let (phase, mut reservers) = open(world, &[10; 3]);
         let running = AssertUnwindSafe(|| {
-            run_frame_in_blocks(&StdThreads, opened, reservers, &systems, workers)
+            fill_in_blocks(&StdThreads, &phase, &mut reservers, &systems, workers)
         });
-        let panic = catch_unwind(running).expect_err("the system's panic");
-        assert_eq!(panic.downcast_ref(), Some(&"the system"));
+        match catch_unwind(running) {
+            Ok(ran) => {
+                let error = ran.expect_err("a system stopped");
+                assert_eq!(error, RunError::Lost(Some(OutOfMemory)));
+            }
+            Err(panic) => assert_eq!(panic.downcast_ref(), Some(&"the system")),
+        }
+        assert_eq!(phase.view().by_birth().expect("memory").len(), 2);
+        expect_used_up(&phase, &reservers);
+        expect_all_born(ended((phase, reservers)), &blocks);
     }
 }
 
+/// After it, the world can also be as it was when it was opened.
 #[test]
-fn the_first_fault_of_a_frame_in_blocks_is_returned_and_all_comes_back() {
+fn a_frame_that_was_broken_off_can_be_cancelled() {
+    let (world, blocks) = used_world();
+    let before = image_of(&world);
+    let (phase, mut reservers) = open(world, &[10; 3]);
+    let systems = vec![Script(vec![Step::Spawn(1), Step::Memory]); 3];
+    let ran = fill_in_blocks(&StdThreads, &phase, &mut reservers, &systems, 2);
+    assert!(ran.is_err());
+    let mut world = phase.close(reservers).expect("all are here").cancel();
+    assert_eq!((image_of(&world), world.needs_flush()), (before, false));
+    assert!(blocks.contains(&world.spawn(&[]).expect("a slot")));
+}
+
+#[test]
+fn the_first_fault_of_a_frame_in_blocks_is_returned_and_all_is_as_it_was() {
     let one = Script(vec![Step::Spawn(1)]);
     for (systems, workers, error) in [
         (2, 0, RunError::Workers),
@@ -807,98 +830,139 @@ fn the_first_fault_of_a_frame_in_blocks_is_returned_and_all_comes_back() {
         (0, 1, RunError::Reservers),
     ] {
         let systems = vec![one.clone(); systems];
-        let (opened, reservers) = open(used_world().0, &[10, 10]);
-        let ran = fill_in_blocks(&StdThreads, &opened, reservers, &systems, workers);
-        let (reservers, told) = ran.expect_err("refused").into_parts();
-        assert_eq!(told, error);
-        let ran = run_frame_in_blocks(&StdThreads, opened, reservers, &systems, workers);
-        let unframed = ran.expect_err("refused");
-        assert_eq!(unframed.to_string(), error.to_string());
-        let Unframed::Unrun {
-            world,
-            reservers,
-            error: told,
-        } = unframed
-        else {
-            panic!("{unframed}")
-        };
-        assert_eq!(told, error);
+        let (phase, mut reservers) = open(used_world().0, &[10, 10]);
+        let ran = fill_in_blocks(&StdThreads, &phase, &mut reservers, &systems, workers);
+        let told = ran.expect_err("refused");
+        assert_eq!((told.to_string(), told), (error.to_string(), error));
+        assert_eq!(used_of(&reservers), [0, 0]);
         let systems = vec![one.clone(); 2];
-        let ran = run_frame_in_blocks(&StdThreads, world, reservers, &systems, 1);
-        let (world, report) = ran.expect("all is as it was");
-        assert_eq!((world.len(), report.sync.born.len()), (4, 2));
+        let ran = fill_in_blocks(&StdThreads, &phase, &mut reservers, &systems, 1);
+        let queues = ran.expect("all is as it was");
+        let mut world = ended((phase, reservers));
+        let report = world.apply(queues).expect("memory");
+        assert_eq!((world.len(), report.born.len()), (4, 2));
     }
-    let (opened, mut reservers) = open(used_world().0, &[10, 10]);
-    let (_other, mut others) = open(used_world().0, &[10, 10]);
-    std::mem::swap(&mut reservers[1], &mut others[1]);
-    let ran = run_frame_in_blocks(&StdThreads, opened, reservers, &vec![one; 2], 2);
-    let Err(Unframed::Unrun {
-        reservers, error, ..
-    }) = ran
-    else {
-        panic!("a reserver of another phase")
-    };
-    assert_eq!((error, reservers.len()), (RunError::OtherPhase, 2));
 }
 
-/// All systems ran, and a block has no system: the world isn't closed. Then it is, with the
-/// reserver that was missing.
+/// No system of a world runs with a reserver of another phase, and nothing changes.
+#[test]
+fn a_reserver_of_another_phase_of_a_world_is_refused() {
+    let systems = vec![Script(vec![Step::Spawn(1)]); 2];
+    let (phase, mut reservers) = open(used_world().0, &[10, 10]);
+    let (_other, mut others) = open(used_world().0, &[10, 10]);
+    reservers[1].reserve_many(3).expect("of the block");
+    others[1].reserve_many(5).expect("of the block");
+    std::mem::swap(&mut reservers[1], &mut others[1]);
+    let ran = fill_in_blocks(&StdThreads, &phase, &mut reservers, &systems, 2);
+    assert_eq!(ran.expect_err("refused"), RunError::OtherPhase);
+    assert_eq!([used_of(&reservers), used_of(&others)], [[0, 5], [0, 3]]);
+    std::mem::swap(&mut reservers[1], &mut others[1]);
+    let ran = fill_in_blocks(&StdThreads, &phase, &mut reservers, &systems, 2);
+    assert_eq!(ran.expect("all are of the phase").len(), 2);
+    assert_eq!(used_of(&reservers), [1, 4]);
+}
+
+/// Two runs in one phase: the second one goes on in the blocks where the first one ended.
+#[test]
+fn a_phase_may_have_several_runs() {
+    for workers in WORKERS {
+        let systems = vec![Script(vec![Step::Spawn(5), Step::Spawn(6)]); 2];
+        let (phase, mut reservers) = open(World::new(), &[5, 5]);
+        let mut fill = || {
+            let ran = fill_in_blocks(&StdThreads, &phase, &mut reservers, &systems, workers);
+            (ran.expect("memory"), used_of(&reservers))
+        };
+        let ((queues, used), (_, then)) = (fill(), fill());
+        assert_eq!((used, then), (vec![2, 2], vec![4, 4]));
+        let mut world = ended((phase, reservers));
+        let born = world.apply(queues).expect("memory").born;
+        let index = |of: &Handle| of.index();
+        let mut all: Vec<u32> = born.iter().map(index).collect();
+        all.sort_unstable();
+        assert_eq!(all, [0, 1, 2, 3, 5, 6, 7, 8]);
+        // Only what the first run issued took effect.
+        let energies = world.by_birth().expect("memory");
+        let with = energies.iter().filter(|it| world.get(**it, HP).is_some());
+        let mut with: Vec<u32> = with.map(index).collect();
+        with.sort_unstable();
+        assert_eq!(with, [0, 1, 5, 6]);
+    }
+}
+
+/// All systems ran, and a block has no system: the phase isn't closed without its reserver.
 #[test]
 fn a_frame_without_a_reserver_of_each_block_ends_later() {
     let systems = vec![Script(vec![Step::Spawn(5), Step::Spawn(6)]); 2];
-    let (opened, mut reservers) = open(used_world().0, &[10; 3]);
+    let (phase, mut reservers) = open(used_world().0, &[10; 3]);
+    let ran = fill_in_blocks(&StdThreads, &phase, &mut reservers[..2], &systems, 2);
+    let queues = ran.expect("memory");
+    assert_eq!(used_of(&reservers), [2, 2, 0]);
     let last = reservers.pop().expect("three");
-    let ran = run_frame_in_blocks(&StdThreads, opened, reservers, &systems, 2);
-    let unframed = ran.expect_err("one is missing");
-    assert_eq!(unframed.to_string(), "missing reservers: 1");
-    let Unframed::Unended { unended, queues } = unframed else {
-        panic!("{unframed}")
-    };
-    let ((world, mut reservers), error) = unended.into_parts();
-    assert_eq!(error, EndError::Missing { count: 1 });
-    assert!(reservers.iter().all(|it| it.used() == 2));
+    let unclosed = phase.close(reservers).expect_err("one is missing");
+    assert_eq!(unclosed.to_string(), "missing callers: 1");
+    let ((phase, mut reservers), error) = unclosed.into_parts();
+    assert_eq!(error, CloseError::Missing { count: 1 });
+    assert_eq!(used_of(&reservers), [2, 2]);
 
-    // Neither in another order, nor with one of another phase.
-    reservers.insert(0, last);
-    let unended = world.close(reservers).expect_err("in another order");
-    let ((world, mut reservers), error) = unended.into_parts();
-    assert_eq!(error, EndError::Order);
-    reservers.rotate_left(1);
+    // Neither with one of another phase, nor in another order.
+    reservers.push(last);
     let (_other, mut others) = open(World::new(), &[1]);
     reservers.append(&mut others);
-    let unended = world.close(reservers).expect_err("one is of another phase");
-    let ((world, mut reservers), error) = unended.into_parts();
-    assert_eq!(error, EndError::OtherPhase);
+    let unclosed = phase.close(reservers).expect_err("one is of another phase");
+    let ((phase, mut reservers), error) = unclosed.into_parts();
+    assert_eq!((error, reservers.len()), (CloseError::OtherPhase, 4));
     reservers.truncate(3);
+    reservers.rotate_left(1);
+    let unclosed = phase.close(reservers).expect_err("in another order");
+    let ((mut phase, none), error) = unclosed.into_parts();
+    assert_eq!((error, none.len()), (CloseError::Order, 0));
+    let mut reservers = vec![];
+    while let Some(reserver) = phase.reserver().expect("few owners") {
+        reservers.insert(0, reserver);
+    }
+    reservers.rotate_right(1);
 
-    let mut closed = world.close(reservers).expect("all are here");
+    let mut world = ended((phase, reservers));
     // The queues are of this world alone.
     let Err(SyncError::OtherWorld(queues)) = World::new().apply(queues) else {
         panic!("the queues are of another world")
     };
-    let report = closed.apply(queues).expect("memory");
-    assert_eq!((report.born.len(), closed.len()), (4, 6));
+    let report = world.apply(queues).expect("memory");
+    assert_eq!((report.born.len(), world.len()), (4, 6));
+}
+
+/// What is left of the block of a lost reserver counts as used.
+#[test]
+fn a_world_whose_reservers_are_lost() {
+    let (world, blocks) = used_world();
+    let (phase, reservers) = open(world, &[10; 3]);
+    let unclosed = phase.close(vec![]).expect_err("none is here");
+    let ((phase, none), error) = unclosed.into_parts();
+    assert_eq!((error, none.len()), (CloseError::Missing { count: 3 }, 0));
+    let unclosed = phase.close_lost(none).expect_err("they are in use");
+    let ((phase, none), error) = unclosed.into_parts();
+    assert_eq!(error, CloseError::InUse);
+    drop(reservers);
+    let ended = phase.close_lost(none).expect("nobody else has one");
+    expect_all_born(ended.into_world().expect("memory"), &blocks);
 }
 
 #[test]
 fn a_world_is_opened_in_blocks_only_after_a_flush() {
-    let (opened, mut reservers) = open(World::new(), &[2]);
-    let one = opened
-        .blocks()
-        .reserve(&mut reservers[0])
-        .expect("a handle");
-    assert_eq!(opened.blocks().count(), 1);
-    let closed = opened.close(reservers).expect("all are here");
-    let undealt = closed.open_in_blocks(&[2]).expect_err("it needs a flush");
-    assert_eq!(undealt.to_string(), "a flush is needed first");
-    let (mut world, error) = undealt.into_parts();
-    assert_eq!(error, DealError::NeedsFlush);
+    let (phase, mut reservers) = open(World::new(), &[2]);
+    let one = reservers[0].reserve().expect("a handle");
+    assert_eq!((phase.count(), reservers[0].wanted()), (1, 1));
+    let closed = ended((phase, reservers));
+    let unopened = closed.open_in_blocks(&[2]).expect_err("it needs a flush");
+    assert_eq!(unopened.to_string(), "a flush is needed first");
+    let (mut world, error) = unopened.into_parts();
+    assert_eq!(error, ShareError::NeedsFlush);
     world.flush().expect("memory");
     assert!(world.contains(one));
 
     // Spawns before the phase are counted on after it: no two entities have the same birth.
-    let (cart, (opened, reservers)) = (world.spawn(&[]).expect("a slot"), open(world, &[]));
-    let mut world = opened.close(reservers).expect("none is missing");
+    let (cart, parts) = (world.spawn(&[]).expect("a slot"), open(world, &[]));
+    let mut world = ended(parts);
     let horse = world.spawn(&[]).expect("a slot");
     let ordinal = |one| world.birth(one).expect("alive").ordinal;
     assert_eq!((ordinal(cart), ordinal(horse)), (0, 1));
@@ -907,12 +971,9 @@ fn a_world_is_opened_in_blocks_only_after_a_flush() {
 #[test]
 fn no_systems_make_a_frame_in_blocks() {
     for workers in WORKERS {
-        let (world, _) = used_world();
-        let (opened, reservers) = open(world, &[]);
-        let ran = run_frame_in_blocks(&StdThreads, opened, reservers, &[] as &[Script], workers);
-        let (world, report) = ran.expect("no memory is needed");
+        let (world, report, _) = framed(used_world().0, &[], &[] as &[Script], workers);
         assert_eq!((world.len(), world.frame()), (2, 1));
-        assert!(report.sync.born.is_empty() && report.queues.is_empty());
+        assert!(report.born.is_empty());
     }
 }
 
@@ -932,15 +993,13 @@ fn systems_of_several_types_run_together() {
         }),
         Box::new(|view, commands| commands.despawn(view.by_birth()?[0])),
     ];
-    let (opened, reservers) = open(used_world().0, &[1, 0]);
-    let ran = run_frame_in_blocks(&StdThreads, opened, reservers, &systems, 2);
-    let (world, report) = ran.expect("memory");
-    let one = report.sync.born[0];
+    let (world, report, _) = framed(used_world().0, &[1, 0], &systems, 2);
+    let one = report.born[0];
     assert_eq!(
         (world.get(one, HP), world.get(one, AGE)),
         (Some(9), Some(1))
     );
-    assert_eq!((world.len(), report.sync.faults.len()), (2, 1));
+    assert_eq!((world.len(), report.faults.len()), (2, 1));
 }
 
 /// More than 70,000 handles in one frame: of slots that wait, and of new ones.
@@ -962,11 +1021,9 @@ fn large_frames_in_blocks() {
             Step::Spawn(3),
             Step::Spawn(4),
         ]);
-        let (opened, reservers) = open(world, &[EACH; 4]);
-        let ran = run_frame_in_blocks(&StdThreads, opened, reservers, &vec![script; 4], workers);
-        let (world, report) = ran.expect("memory");
-        assert_eq!((report.sync.born.len(), world.len()), (80_000, 80_000));
-        assert_eq!(report.sync.faults.len(), 4);
+        let (world, report, _) = framed(world, &[EACH; 4], &vec![script; 4], workers);
+        assert_eq!((report.born.len(), world.len()), (80_000, 80_000));
+        assert_eq!(report.faults.len(), 4);
         for (nth, one) in (0..).zip(world.by_birth().expect("memory")) {
             let (system, ordinal) = (nth / EACH, nth % EACH);
             assert_eq!(

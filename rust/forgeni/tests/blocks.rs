@@ -3,19 +3,27 @@
 //! `FORGENI_PHASES` sets how many phases are run.
 
 use crate::common::{flushed, handle, small, Model, Numbers};
-use forgeni::{
-    BlockError, BlockReserver, BlockSize, Blocks, DealError, EndError, Entities, Handle,
-};
+use forgeni::{BlockSize, Blocks, CloseError, Entities, Handle, Phase, ReserveError, Reserver};
+use forgeni::{Refused, ShareError};
 use std::collections::HashSet;
 use std::sync::Barrier;
 use std::thread;
 
-fn opened(entities: Entities, sizes: &[u32]) -> (Blocks, Vec<BlockReserver>) {
-    entities.open_in_blocks(sizes).expect("memory")
+type Parts = (Phase<Blocks>, Vec<Reserver<Blocks>>);
+
+fn opened(entities: Entities, sizes: &[u32]) -> Parts {
+    entities.share_in_blocks(sizes).expect("memory")
+}
+
+/// The allocator after a phase of which all reservers are here.
+fn closed((phase, reservers): Parts) -> Entities {
+    let ended = phase.close(reservers).expect("all are here");
+    assert_eq!(ended.requested_past(), 0);
+    ended.into_entities().expect("memory")
 }
 
 /// What a request got: the handles as they were listed, or what it wanted and what was left.
-type Reply = Result<Vec<Handle>, BlockError>;
+type Reply = Result<Vec<Handle>, ReserveError>;
 
 /// The handles of each block, as the definition has them: the next ones of the pool.
 pub fn dealt(model: &Model, sizes: &[u32]) -> Vec<Vec<Handle>> {
@@ -31,7 +39,7 @@ fn replies(made: u32, block: &[Handle], requests: &[u32]) -> (usize, Vec<Reply>)
         let rest = &block[used..];
         let left = rest.len() as u32;
         if n > left {
-            return Err(BlockError::Space { wanted: n, left });
+            return Err(ReserveError::Space { wanted: n, left });
         }
         let given = &rest[..n as usize];
         used += n as usize;
@@ -64,27 +72,23 @@ pub fn close(model: &mut Model, blocks: &[Vec<Handle>], used: &[usize]) -> Vec<H
 }
 
 /// Makes a caller's requests. A request for one handle is a single one now and then.
-fn reserve_all(blocks: &Blocks, reserver: &mut BlockReserver, requests: &[u32]) -> Vec<Reply> {
+fn reserve_all(reserver: &mut Reserver<Blocks>, requests: &[u32]) -> Vec<Reply> {
     let mut list = vec![handle(0, 1)];
     let mut reply = |(turn, n): (usize, &u32)| match (n, turn % 3) {
-        (1, 0) => blocks.reserve(reserver).map(|one| vec![one]),
+        (1, 0) => Ok(vec![reserver.reserve()?]),
         (n, 1) => {
             list.truncate(1);
-            let told = blocks.reserve_into(reserver, &mut list, *n);
+            let told = reserver.reserve_into(&mut list, *n);
             assert_eq!(list[0], handle(0, 1));
             told.map(|()| list[1..].to_vec())
         }
-        (n, _) => blocks.reserve_many(reserver, *n),
+        (n, _) => reserver.reserve_many(*n),
     };
     requests.iter().enumerate().map(&mut reply).collect()
 }
 
 /// Each caller on a thread of its own. All begin together.
-fn side_by_side(
-    blocks: &Blocks,
-    reservers: &mut [BlockReserver],
-    requests: &[Vec<u32>],
-) -> Vec<Vec<Reply>> {
+fn side_by_side(reservers: &mut [Reserver<Blocks>], requests: &[Vec<u32>]) -> Vec<Vec<Reply>> {
     let start = &Barrier::new(reservers.len());
     thread::scope(|scope| {
         let callers = reservers.iter_mut().zip(requests);
@@ -92,7 +96,7 @@ fn side_by_side(
             .map(|(reserver, requests)| {
                 scope.spawn(move || {
                     start.wait();
-                    reserve_all(blocks, reserver, requests)
+                    reserve_all(reserver, requests)
                 })
             })
             .collect();
@@ -115,8 +119,8 @@ fn phase(entities: Entities, model: &mut Model, numbers: &mut Numbers) -> Entiti
 
     let handles = dealt(model, &sizes);
     let total = entities.total();
-    let (blocks, mut reservers) = opened(entities, &sizes);
-    let told = side_by_side(&blocks, &mut reservers, &requests);
+    let (phase, mut reservers) = opened(entities, &sizes);
+    let told = side_by_side(&mut reservers, &requests);
     let mut used = vec![];
     for (caller, told) in told.iter().enumerate() {
         let (count, all) = replies(model.made, &handles[caller], &requests[caller]);
@@ -132,12 +136,13 @@ fn phase(entities: Entities, model: &mut Model, numbers: &mut Numbers) -> Entiti
 
     let mut at = 0..;
     reservers.retain(|_| !lost[at.next().expect("a caller")]);
-    let closed = if lost.contains(&true) {
-        blocks.close_lost(reservers)
+    let ended = if lost.contains(&true) {
+        phase.close_lost(reservers)
     } else {
-        blocks.close(reservers)
+        phase.close(reservers)
     };
-    let mut entities = closed.expect("memory");
+    let ended = ended.expect("the others are here");
+    let mut entities = ended.into_entities().expect("memory");
     let born = close(model, &handles, &used);
     let flushed: HashSet<Handle> = flushed(&mut entities).into_iter().collect();
     assert_eq!(flushed, born.iter().copied().collect());
@@ -182,14 +187,14 @@ fn any_order_of_callers() {
         for one in &all[2..9] {
             entities.free(*one).expect("alive");
         }
-        let (blocks, mut reservers) = opened(entities, &[3, 6, 5]);
+        let (phase, mut reservers) = opened(entities, &[3, 6, 5]);
         let mut told = vec![vec![]; 3];
         for caller in order {
             let reserver = &mut reservers[caller];
-            told[caller] = blocks.reserve_many(reserver, 2).expect("room");
-            told[caller].push(blocks.reserve(reserver).expect("room"));
+            told[caller] = reserver.reserve_many(2).expect("room");
+            told[caller].push(reserver.reserve().expect("room"));
         }
-        let mut entities = blocks.close(reservers).expect("memory");
+        let mut entities = closed((phase, reservers));
         (told, flushed(&mut entities), entities.total())
     };
     let first = run([0, 1, 2]);
@@ -201,21 +206,21 @@ fn any_order_of_callers() {
 
 #[test]
 fn a_block_that_is_used_up() {
-    let (blocks, mut reservers) = opened(small(5, 9), &[4, 4]);
+    let (phase, mut reservers) = opened(small(5, 9), &[4, 4]);
     assert_eq!(
-        (blocks.count(), reservers[0].size(), reservers[1].size()),
+        (phase.count(), reservers[0].size(), reservers[1].size()),
         (2, 4, 1)
     );
-    let refused = Err(BlockError::Space { wanted: 2, left: 1 });
-    assert_eq!(blocks.reserve_many(&mut reservers[1], 2), refused);
-    assert_eq!(blocks.reserve(&mut reservers[1]), Ok(handle(4, 1)));
-    let refused = Err(BlockError::Space { wanted: 1, left: 0 });
-    assert_eq!(blocks.reserve(&mut reservers[1]), refused);
-    assert_eq!(blocks.reserve_many(&mut reservers[1], 0), Ok(vec![]));
+    let refused = Err(ReserveError::Space { wanted: 2, left: 1 });
+    assert_eq!(reservers[1].reserve_many(2), refused);
+    assert_eq!(reservers[1].reserve(), Ok(handle(4, 1)));
+    let refused = Err(Refused::Space { wanted: 1, left: 0 });
+    assert_eq!(reservers[1].reserve(), refused);
+    assert_eq!(reservers[1].reserve_many(0), Ok(vec![]));
 
     // The others are served as before, and nothing of the first block is lost.
-    assert_eq!(blocks.reserve(&mut reservers[0]), Ok(handle(0, 1)));
-    let mut entities = blocks.close(reservers).expect("memory");
+    assert_eq!(reservers[0].reserve(), Ok(handle(0, 1)));
+    let mut entities = closed((phase, reservers));
     assert_eq!(flushed(&mut entities).len(), 2);
     assert_eq!(entities.total(), 5);
     assert_eq!(entities.alloc(), Ok(handle(1, 1)));
@@ -224,13 +229,12 @@ fn a_block_that_is_used_up() {
 /// New slots that nobody used are made only below one that was used.
 #[test]
 fn new_slots() {
-    let (blocks, reservers) = opened(small(1_000_000_000, 9), &[500_000_000; 2]);
-    let entities = blocks.close(reservers).expect("no memory is taken");
+    let entities = closed(opened(small(1_000_000_000, 9), &[500_000_000; 2]));
     assert_eq!((entities.total(), entities.asked()), (0, 0));
 
-    let (blocks, mut reservers) = opened(entities, &[3, 3, 3]);
-    blocks.reserve_many(&mut reservers[1], 2).expect("room");
-    let mut entities = blocks.close(reservers).expect("memory");
+    let (phase, mut reservers) = opened(entities, &[3, 3, 3]);
+    reservers[1].reserve_many(2).expect("room");
+    let mut entities = closed((phase, reservers));
     assert_eq!((entities.total(), entities.reserved()), (5, 2));
     assert_eq!(flushed(&mut entities), [handle(4, 1), handle(3, 1)]);
     for index in [0, 1, 2, 5] {
@@ -242,34 +246,41 @@ fn new_slots() {
 fn a_phase_that_is_not_opened() {
     let mut entities = small(9, 9);
     entities.request().expect("a handle");
-    let (entities, error) = entities.open_in_blocks(&[1]).unwrap_err().into_parts();
-    assert_eq!((error, entities.reserved()), (DealError::NeedsFlush, 1));
+    let (entities, error) = entities.share_in_blocks(&[1]).unwrap_err().into_parts();
+    assert_eq!((error, entities.reserved()), (ShareError::NeedsFlush, 1));
 }
 
 /// A phase that isn't closed goes on, with all its reservers.
 #[test]
 fn a_phase_that_is_not_closed() {
-    let (blocks, mut reservers) = opened(small(9, 9), &[2, 2, 0, 2]);
+    let (phase, mut reservers) = opened(small(9, 9), &[2, 2, 0, 2]);
     let (_other, mut strangers) = opened(small(9, 9), &[2, 2]);
-    assert!(reservers[0].is_of(&blocks) && !strangers[0].is_of(&blocks));
-    let refused = blocks.reserve(&mut strangers[0]);
-    assert_eq!(refused, Err(BlockError::OtherPhase));
+    assert!(reservers[0].is_of(&phase) && !strangers[0].is_of(&phase));
 
-    let used = blocks.reserve(&mut reservers[3]).expect("room");
+    let used = reservers[3].reserve().expect("room");
     reservers.swap(0, 1);
-    let ((blocks, mut reservers), error) = blocks.close(reservers).unwrap_err().into_parts();
-    assert_eq!(error, EndError::Order);
+    let ((mut phase, none), error) = phase.close(reservers).unwrap_err().into_parts();
+    assert_eq!(
+        (error, none.len(), phase.returned()),
+        (CloseError::Order, 0, 4)
+    );
+    // The phase gives them back, the last one first.
+    let mut reservers = vec![];
+    while let Some(reserver) = phase.reserver().expect("few owners") {
+        reservers.insert(0, reserver);
+    }
     reservers.swap(0, 1);
     reservers.push(strangers.remove(1));
-    let ((blocks, mut reservers), error) = blocks.close(reservers).unwrap_err().into_parts();
-    assert_eq!((error, reservers.len()), (EndError::OtherPhase, 5));
+    let ((phase, mut reservers), error) = phase.close(reservers).unwrap_err().into_parts();
+    assert_eq!((error, reservers.len()), (CloseError::OtherPhase, 5));
     reservers.pop();
     reservers.remove(1);
-    let ((blocks, reservers), error) = blocks.close(reservers).unwrap_err().into_parts();
-    assert_eq!(error, EndError::Missing { count: 1 });
+    let ((phase, reservers), error) = phase.close(reservers).unwrap_err().into_parts();
+    assert_eq!(error, CloseError::Missing { count: 1 });
 
     // What the lost one may have used is not given again.
-    let mut entities = blocks.close_lost(reservers).expect("memory");
+    let ended = phase.close_lost(reservers).expect("the others are here");
+    let mut entities = ended.into_entities().expect("memory");
     let born = flushed(&mut entities);
     assert_eq!(born, [used, handle(3, 1), handle(2, 1)]);
     assert_eq!(entities.alloc(), Ok(handle(0, 1)));
@@ -281,14 +292,14 @@ fn a_refused_bulk_fits_the_next_block() {
     for (used, bulk) in [(0, 100), (0, 65), (30, 100), (64, 1), (63, 2), (1, 5000)] {
         let (mut entities, mut size) = (Entities::new(), BlockSize::new(100_000));
         for frame in 0..2 {
-            let (blocks, mut reservers) = opened(entities, &[size.size()]);
-            blocks.reserve_many(&mut reservers[0], used).expect("few");
-            let served = blocks.reserve_many(&mut reservers[0], bulk);
+            let (phase, mut reservers) = opened(entities, &[size.size()]);
+            reservers[0].reserve_many(used).expect("few");
+            let served = reservers[0].reserve_many(bulk);
             assert_eq!(served.is_ok(), frame == 1, "{used} and then {bulk}");
             assert_eq!(reservers[0].wanted(), used + bulk);
             size.adapt(reservers[0].wanted());
             assert_eq!(size.size(), 2 * (used + bulk));
-            entities = blocks.close(reservers).expect("all are here");
+            entities = closed((phase, reservers));
             entities.flush(&mut vec![]).expect("memory");
         }
     }
@@ -315,26 +326,22 @@ fn a_block_may_begin_with_a_size() {
     );
 }
 
-/// The largest refused request counts, whichever call made it, and none that failed otherwise.
+/// The largest refused request counts, whichever call made it.
 #[test]
 fn a_reserver_remembers_the_largest_refused_request() {
-    let (blocks, mut reservers) = opened(Entities::new(), &[10, 10]);
-    let (other, mut others) = opened(Entities::new(), &[10]);
+    let (_phase, mut reservers) = opened(Entities::new(), &[10, 10]);
     let one = &mut reservers[0];
     assert_eq!((one.used(), one.wanted()), (0, 0));
-    assert!(other.reserve_many(one, 500).is_err());
-    assert!(blocks.reserve_many(&mut others[0], 500).is_err());
-    assert_eq!((one.wanted(), others[0].wanted()), (0, 0));
-    blocks.reserve_many(one, 4).expect("few");
+    one.reserve_many(4).expect("few");
     assert_eq!(one.wanted(), 4);
     let mut list = vec![];
-    assert!(blocks.reserve_into(one, &mut list, 30).is_err());
-    assert!(blocks.reserve_many(one, 20).is_err());
+    assert!(one.reserve_into(&mut list, 30).is_err());
+    assert!(one.reserve_many(20).is_err());
     assert_eq!((one.used(), one.wanted()), (4, 34));
-    blocks.reserve_many(one, 6).expect("few");
-    assert!(blocks.reserve(one).is_err());
+    one.reserve_many(6).expect("few");
+    assert!(one.reserve().is_err());
     assert_eq!((one.used(), one.wanted()), (10, 40));
-    assert!(blocks.reserve_many(one, u32::MAX).is_err());
+    assert!(one.reserve_many(u32::MAX).is_err());
     assert_eq!((one.used(), one.wanted()), (10, u32::MAX));
 
     // At a limit, and at the largest number.
@@ -346,7 +353,7 @@ fn a_reserver_remembers_the_largest_refused_request() {
     let two = &mut reservers[1];
     assert_eq!(two.wanted(), 0);
     for number in 1..=11 {
-        assert_eq!(blocks.reserve(two).is_ok(), number <= 10);
+        assert_eq!(two.reserve().is_ok(), number <= 10);
         assert_eq!(two.wanted(), number);
     }
 }

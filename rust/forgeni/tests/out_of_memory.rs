@@ -1999,8 +1999,8 @@ fn a_flush_of_a_world() {
 mod frames {
     use super::*;
     use forgeni::{
-        run_frame, run_frame_in_blocks, BlockReserver, CommandsInBlocks, DealError, EndError,
-        FrameError, HandedBack, RunError, SystemCommands, Unframed, View, WorldInBlocks,
+        fill_in_blocks, run_frame, run_in_blocks, BlockCommands, Blocks, CommandsInBlocks, Deals,
+        FrameError, InWorld, Phase, Reserver, RunError, SystemCommands, View,
     };
 
     /// Systems that issue by commands of this type.
@@ -2105,107 +2105,221 @@ mod frames {
         );
     }
 
-    /// What a frame in blocks comes to: the world and its faults, or what comes back.
-    type Framed = Result<(World, Vec<Fault>), Unframed>;
-
-    fn run(world: WorldInBlocks, reservers: Vec<BlockReserver>) -> Framed {
-        let ran = run_frame_in_blocks(&StdThreads, world, reservers, &of_blocks::SYSTEMS, 1);
-        ran.map(|(world, report)| (world, report.sync.faults))
+    /// The step of a frame in blocks in which memory is refused.
+    #[derive(Clone, Copy, PartialEq)]
+    enum Step {
+        Fill,
+        IntoWorld,
+        Apply,
     }
 
+    type Parts = (Phase<InWorld<Blocks>>, Vec<Reserver<InWorld<Blocks>>>);
+
     /// Blocks of six handles.
-    fn framed(world: World) -> Result<Framed, HandedBack<World, DealError>> {
-        world
-            .open_in_blocks(&[6; 3])
-            .map(|(world, reservers)| run(world, reservers))
+    fn opened() -> Parts {
+        two().open_in_blocks(&[6; 3]).expect("memory")
+    }
+
+    fn used_of(reservers: &[Reserver<InWorld<Blocks>>]) -> Vec<u32> {
+        reservers.iter().map(|it| it.used()).collect()
+    }
+
+    /// The world after the phase, and how many allocations were refused meanwhile: the close takes
+    /// no memory, and the rest is done again if it is refused.
+    fn into_world<S: Deals>(
+        (phase, reservers): (Phase<InWorld<S>>, Vec<Reserver<InWorld<S>>>),
+        refusal: Refusal,
+    ) -> (World, usize) {
+        let close = || phase.close(reservers).expect("all are here");
+        let (ended, unasked) = refusing(Refusal::All { after: 0 }, close);
+        assert_eq!(unasked, 0);
+        let past = ended.requested_past();
+        let (world, refused) = refusing(refusal, || ended.into_world());
+        let world = world.or_else(|refusal| {
+            assert!(refused > 0);
+            let (ended, error) = refusal.into_parts();
+            assert_eq!((error, ended.requested_past()), (OutOfMemory, past));
+            ended.into_world()
+        });
+        (world.expect("memory"), refused)
+    }
+
+    /// A frame in blocks on one worker, with memory refused in one step: what it comes to, whether
+    /// it was broken off, and how many allocations were refused.
+    fn in_blocks(at: Step, refusal: Refusal) -> ((Vec<Fault>, Vec<Told>), [usize; 3], usize) {
+        let of = |step| if step == at { refusal } else { Refusal::None };
+        let (phase, mut reservers) = opened();
+        let mut fill =
+            || fill_in_blocks(&StdThreads, &phase, &mut reservers, &of_blocks::SYSTEMS, 1);
+        let (filled, refused) = refusing(of(Step::Fill), &mut fill);
+        let (mut before, mut lost, mut stopped) = (0, 0, 0);
+        let queues = match filled {
+            Ok(queues) => queues,
+            Err(RunError::Memory) => {
+                before = 1;
+                // Nothing has changed, so the same run succeeds.
+                fill().expect("memory")
+            }
+            Err(RunError::Lost(_)) => {
+                lost = 1;
+                assert_eq!(used_of(&reservers), [6, 6, 6]);
+                let (mut world, _) = into_world((phase, reservers), Refusal::None);
+                assert_eq!(all(&world), all(&two()));
+                world.flush().expect("memory");
+                assert_eq!(world.len(), 2 + 3 * 6);
+                return ((vec![], all(&two())), [before, lost, stopped], refused);
+            }
+            Err(other) => panic!("{other}"),
+        };
+        assert_eq!(used_of(&reservers), [4, 0, 0]);
+        let (mut world, more) = into_world((phase, reservers), of(Step::IntoWorld));
+        let (applied, again) = refusing(of(Step::Apply), || world.apply(queues));
+        let faults = match applied {
+            Ok(report) => report.faults.to_vec(),
+            refused => {
+                stopped = 1;
+                ended(&mut world, refused)
+            }
+        };
+        let told = all(&world);
+        world.spawn(&[]).expect("nothing is reserved any more");
+        (
+            (faults, told),
+            [before, lost, stopped],
+            refused + more + again,
+        )
     }
 
     #[test]
     fn a_frame_in_blocks_refused_on_one_thread() {
-        let memory = framed(two()).expect("memory").expect("memory");
-        let wanted = (memory.1, all(&memory.0));
-        let mut seen = [0; 6];
-        each_in_turn(|refusal| {
-            let world = two();
-            let (done, refused) = refusing(refusal, || framed(world));
-            let (mut world, case) = match done {
-                Ok(Ok((world, faults))) => {
-                    assert_eq!((faults, all(&world)), wanted);
-                    return refused;
+        let (wanted, ..) = in_blocks(Step::Fill, Refusal::None);
+        let mut seen = [0; 3];
+        for at in [Step::Fill, Step::IntoWorld, Step::Apply] {
+            each_in_turn(|refusal| {
+                let (done, cases, refused) = in_blocks(at, refusal);
+                if cases[1] == 0 {
+                    assert!(done == wanted);
                 }
-                Err(undealt) => {
-                    let (world, error) = undealt.into_parts();
-                    assert_eq!(error, DealError::Memory);
-                    assert_eq!(all(&world), all(&two()));
-                    let again = framed(world).expect("memory").expect("memory");
-                    assert_eq!((again.1, all(&again.0)), wanted);
-                    (again.0, 0)
+                for (seen, case) in seen.iter_mut().zip(cases) {
+                    *seen += case;
                 }
-                Ok(Err(Unframed::Unrun {
-                    world,
-                    reservers,
-                    error: RunError::Lost(_),
-                })) => {
-                    let mut world = world.close_lost(reservers).expect("memory");
-                    assert_eq!(all(&world), all(&two()));
-                    world.flush().expect("memory");
-                    assert_eq!(world.len(), 2 + 3 * 6);
-                    (world, 1)
-                }
-                Ok(Err(Unframed::Unrun {
-                    world,
-                    reservers,
-                    error,
-                })) => {
-                    assert_eq!((error, reservers.len()), (RunError::Memory, 3));
-                    let again = run(world, reservers).expect("memory");
-                    assert_eq!((again.1, all(&again.0)), wanted);
-                    (again.0, 2)
-                }
-                Ok(Err(Unframed::Unended { unended, queues })) => {
-                    let ((opened, reservers), error) = unended.into_parts();
-                    assert_eq!(error, EndError::Memory);
-                    let closed = opened.close(reservers);
-                    let mut world = closed.expect("memory");
-                    let faults = world.apply(queues).expect("memory").faults;
-                    assert_eq!((faults, all(&world)), wanted);
-                    (world, 3)
-                }
-                Ok(Err(Unframed::Unapplied { mut world, queues })) => {
-                    let faults = ended(&mut world, Err(SyncError::Memory(queues)));
-                    assert_eq!((faults, all(&world)), wanted);
-                    (world, 4)
-                }
-                Ok(Err(Unframed::Stopped { mut world, stopped })) => {
-                    let faults = ended(&mut world, Err(SyncError::Stopped(stopped)));
-                    assert_eq!((faults, all(&world)), wanted);
-                    (world, 5)
-                }
-            };
-            seen[case] += 1;
-            world.spawn(&[]).expect("nothing is reserved any more");
-            refused
-        });
+                refused
+            });
+        }
         assert!(seen.iter().all(|times| *times > 0), "{seen:?}");
     }
 
-    /// What is left of a block is lost with its reserver. To end such a phase may take memory, and
-    /// it may be done again.
+    /// A world that isn't opened in blocks is handed back.
+    #[test]
+    fn a_world_is_handed_back_if_its_blocks_are_refused() {
+        let before = all(&two());
+        each_block_in_turn(|refusal| {
+            let world = two();
+            let (opened, refused) = refusing(refusal, || world.open_in_blocks(&[6; 3]));
+            let parts = opened.unwrap_or_else(|unopened| {
+                assert!(refused > 0);
+                let (world, error) = unopened.into_parts();
+                assert_eq!(error, ShareError::Memory);
+                assert_eq!(all(&world), before);
+                world.open_in_blocks(&[6; 3]).expect("memory")
+            });
+            let (world, _) = into_world(parts, Refusal::None);
+            assert_eq!((all(&world), world.needs_flush()), (before.clone(), false));
+            refused
+        });
+        each_block_in_turn(|refusal| {
+            let world = two();
+            let (opened, refused) = refusing(refusal, || world.open_behind_blocks(&[6; 3]));
+            let parts = opened.unwrap_or_else(|unopened| {
+                assert!(refused > 0);
+                let (world, error) = unopened.into_parts();
+                assert_eq!(error, ShareError::Memory);
+                assert_eq!(all(&world), before);
+                world.open_behind_blocks(&[6; 3]).expect("memory")
+            });
+            let (world, _) = into_world(parts, Refusal::None);
+            assert_eq!((all(&world), world.needs_flush()), (before.clone(), false));
+            refused
+        });
+    }
+
+    /// The world after blocks that were used, and past them, is made again if memory ran out.
+    #[test]
+    fn a_world_behind_blocks_that_are_used() {
+        each_in_turn(|refusal| {
+            let (phase, mut reservers) = two().open_behind_blocks(&[2, 40]).expect("memory");
+            for wanted in [2, 3] {
+                reservers[0].reserve_many(wanted).expect("a handle");
+            }
+            let (mut world, refused) = into_world((phase, reservers), refusal);
+            world.flush().expect("memory");
+            assert_eq!(world.len(), 2 + 5);
+            refused
+        });
+    }
+
+    /// What is left of a block is lost with its reserver. What such a phase ends with gives the
+    /// world when there is memory.
     #[test]
     fn a_world_in_blocks_closed_without_its_reservers() {
         each_in_turn(|refusal| {
-            let (opened, _) = two().open_in_blocks(&[6; 3]).expect("memory");
-            let (closed, refused) = refusing(refusal, || opened.close_lost(vec![]));
-            let closed = closed.or_else(|unended| {
-                let ((opened, reservers), error) = unended.into_parts();
-                assert_eq!(error, EndError::Memory);
-                opened.close_lost(reservers)
-            });
-            let mut world = closed.expect("memory");
+            let (phase, reservers) = opened();
+            drop(reservers);
+            let (ended, unasked) = refusing(Refusal::All { after: 0 }, || phase.close_lost(vec![]));
+            assert_eq!(unasked, 0);
+            let ended = ended.expect("nobody else has one");
+            let (world, refused) = refusing(refusal, || ended.into_world());
+            let world = world.or_else(|refused| refused.into_parts().0.into_world());
+            let mut world = world.expect("memory");
             world.flush().expect("memory");
             assert_eq!(world.len(), 2 + 3 * 6);
             refused
         });
+    }
+
+    /// A run of logs in blocks: refused before a system runs, nothing has changed. Later the logs
+    /// are lost, and the blocks are used up.
+    #[test]
+    fn logs_in_blocks_refused_on_one_thread() {
+        let fills = |commands: &mut BlockCommands<'_, u64>| -> Result<(), OutOfMemory> {
+            for number in 0..5 {
+                commands
+                    .spawn()
+                    .map_or_else(ReserveError::or_memory, |_| Ok(()))?;
+                commands.push(number)?;
+            }
+            Ok(())
+        };
+        let (mut before, mut lost) = (0, 0);
+        each_in_turn(|refusal| {
+            let (phase, mut reservers) = opened();
+            let mut run = || run_in_blocks(&StdThreads, &phase, &mut reservers, &[fills; 3], 1);
+            let (ran, refused) = refusing(refusal, &mut run);
+            let ran = match ran {
+                Err(RunError::Memory) => {
+                    before += 1;
+                    run()
+                }
+                ran => ran,
+            };
+            let count = match ran {
+                Ok(logs) => {
+                    assert!(logs.iter().all(|log| log.len() == 10));
+                    5
+                }
+                Err(error) => {
+                    lost += 1;
+                    assert!(matches!(error, RunError::Lost(_)));
+                    6
+                }
+            };
+            assert_eq!(used_of(&reservers), [count; 3]);
+            let (mut world, _) = into_world((phase, reservers), Refusal::None);
+            world.flush().expect("memory");
+            assert_eq!(world.len(), 2 + 3 * count as usize);
+            refused
+        });
+        assert!(before > 0 && lost > 0, "{before}, {lost}");
     }
 
     /// Allocations fail only on the worker that runs the system: starting a thread needs memory,
@@ -2252,6 +2366,26 @@ fn with_one_refused(call: &str, after: usize) {
             let (shared, refused) = refusing(refusal, || entities.share(5));
             assert_eq!(shared.is_err(), refused > 0);
         }
+        "blocks" => {
+            let entities = three();
+            let (shared, refused) = refusing(refusal, || entities.share_in_blocks(&[3; 5]));
+            assert_eq!(shared.is_err(), refused > 0);
+        }
+        "behind" => {
+            let entities = three();
+            let (shared, refused) = refusing(refusal, || entities.share_behind_blocks(&[3; 5]));
+            assert_eq!(shared.is_err(), refused > 0);
+        }
+        "world" => {
+            let world = two();
+            let (opened, refused) = refusing(refusal, || world.open_in_blocks(&[3; 5]));
+            assert_eq!(opened.is_err(), refused > 0);
+        }
+        "world_behind" => {
+            let world = two();
+            let (opened, refused) = refusing(refusal, || world.open_behind_blocks(&[3; 5]));
+            assert_eq!(opened.is_err(), refused > 0);
+        }
         _ => {
             let world = two();
             let (opened, refused) = refusing(refusal, || world.open(3));
@@ -2260,8 +2394,8 @@ fn with_one_refused(call: &str, after: usize) {
     }
 }
 
-/// Of all requests of `share` and `open` one can't be refused: that of the `Arc`, if another thread
-/// has taken the memory that was there for it. It ends the process, as the docs say.
+/// Of all requests of a call that opens a phase one can't be refused: that of the `Arc`, if another
+/// thread has taken the memory that was there for it. It ends the process, as the docs say.
 #[test]
 fn one_request_ends_the_process() {
     let name = "one_request_ends_the_process";
@@ -2269,7 +2403,7 @@ fn one_request_ends_the_process() {
         let (call, after) = set.split_once(' ').expect("two words");
         return with_one_refused(call, after.parse().expect("a number"));
     }
-    for call in ["share", "open"] {
+    for call in ["share", "open", "blocks", "behind", "world", "world_behind"] {
         let ends = |after: &usize| {
             let program = this_program();
             let run = std::process::Command::new(&program[0])

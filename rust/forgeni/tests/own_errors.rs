@@ -2,12 +2,12 @@
 //! in the order of the systems.
 
 use crate::common::small;
-use forgeni::{fill_in_blocks, run_frame, run_frame_in_blocks, run_in_blocks, run_logs};
+use forgeni::{fill_in_blocks, run_frame, run_in_blocks, run_logs};
 use forgeni::{
     run_to_sync_point, BlockCommands, CommandsInBlocks, Entities, FrameError, LogCommands,
 };
 use forgeni::{LogError, LogSystem, OutOfMemory, ReserveError, RunError, SharedSource, StdThreads};
-use forgeni::{System, SystemCommands, Unframed, View, World};
+use forgeni::{System, SystemCommands, View, World};
 use std::error::Error;
 use std::io;
 use std::sync::{Arc, Mutex};
@@ -106,21 +106,15 @@ fn blocks_return_the_first_error() {
         .map(|number| move |_: &View<'_>, _: &mut CommandsInBlocks<'_>| told(number))
         .collect();
     for workers in WORKERS {
-        let (blocks, reservers) = Entities::new().open_in_blocks(&[1; 40]).expect("memory");
-        let ran = run_in_blocks(&StdThreads, &blocks, reservers, &logging, workers);
-        let (_, error) = ran.expect_err("system 7 stops").into_parts();
+        let shared = Entities::new().share_in_blocks(&[1; 40]);
+        let (phase, mut reservers) = shared.expect("memory");
+        let ran = run_in_blocks(&StdThreads, &phase, &mut reservers, &logging, workers);
+        let error = ran.expect_err("system 7 stops");
         assert_eq!(error, RunError::Lost(Some(first())));
 
-        let (open, reservers) = World::new().open_in_blocks(&[1; 40]).expect("memory");
-        let filled = fill_in_blocks(&StdThreads, &open, reservers, &issuing, workers);
-        let (_, error) = filled.expect_err("system 7 stops").into_parts();
-        assert_eq!(error, RunError::Lost(Some(first())));
-
-        let (open, reservers) = World::new().open_in_blocks(&[1; 40]).expect("memory");
-        let ran = run_frame_in_blocks(&StdThreads, open, reservers, &issuing, workers);
-        let Err(Unframed::Unrun { error, .. }) = ran else {
-            panic!("system 7 stops")
-        };
+        let (phase, mut reservers) = World::new().open_in_blocks(&[1; 40]).expect("memory");
+        let filled = fill_in_blocks(&StdThreads, &phase, &mut reservers, &issuing, workers);
+        let error = filled.expect_err("system 7 stops");
         assert_eq!(error, RunError::Lost(Some(first())));
     }
 }

@@ -1,7 +1,7 @@
 //! What is a system, of either kind and over either source of handles.
 
 use forgeni::{
-    run_frame, run_frame_in_blocks, run_in_blocks, run_logs, Entities, Handle, Log, LogCommands,
+    fill_in_blocks, run_frame, run_in_blocks, run_logs, Entities, Handle, Log, LogCommands,
     LogSystem, OutOfMemory, Source, StdThreads, System, View, World, WorldCommands,
 };
 use std::sync::{Arc, Mutex};
@@ -74,10 +74,13 @@ fn of_a_world() {
 
 #[test]
 fn of_a_world_in_blocks() {
-    let (opened, reservers) = World::new().open_in_blocks(&[9, 1]).expect("memory");
+    let (phase, mut reservers) = World::new().open_in_blocks(&[9, 1]).expect("memory");
     let systems: [&(dyn System<_> + Sync); 2] = [&All, &spawn];
-    let ran = run_frame_in_blocks(&StdThreads, opened, reservers, &systems, 2);
-    assert_eq!(ran.expect("memory").0.len(), 10);
+    let queues = fill_in_blocks(&StdThreads, &phase, &mut reservers, &systems, 2).expect("memory");
+    let ended = phase.close(reservers).expect("all are here");
+    let mut world = ended.into_world().expect("memory");
+    world.apply(queues).expect("memory");
+    assert_eq!(world.len(), 10);
 }
 
 #[test]
@@ -90,10 +93,25 @@ fn of_logs() {
 
 #[test]
 fn of_logs_in_blocks() {
-    let (blocks, reservers) = Entities::new().open_in_blocks(&[9, 1]).expect("memory");
+    let shared = Entities::new().share_in_blocks(&[9, 1]);
+    let (phase, mut reservers) = shared.expect("memory");
     let systems: [Box<dyn LogSystem<_, _> + Sync>; 2] = [Box::new(All), Box::new(burst)];
-    let ran = run_in_blocks(&StdThreads, &blocks, reservers, &systems, 2);
-    assert!(ran.expect("memory").0.iter().map(Log::len).eq([18, 2]));
+    let ran = run_in_blocks(&StdThreads, &phase, &mut reservers, &systems, 2);
+    assert!(ran.expect("memory").iter().map(Log::len).eq([18, 2]));
+}
+
+/// A run of systems that fill logs can use the blocks of a world too.
+#[test]
+fn of_logs_in_the_blocks_of_a_world() {
+    let (phase, mut reservers) = World::new().open_in_blocks(&[9, 1]).expect("memory");
+    let systems: [Box<dyn LogSystem<_, _> + Sync>; 2] = [Box::new(All), Box::new(burst)];
+    let ran = run_in_blocks(&StdThreads, &phase, &mut reservers, &systems, 2);
+    assert!(ran.expect("memory").iter().map(Log::len).eq([18, 2]));
+    assert!(reservers.iter().map(|it| it.used()).eq([9, 1]));
+    let ended = phase.close(reservers).expect("all are here");
+    let mut world = ended.into_world().expect("memory");
+    world.flush().expect("memory");
+    assert_eq!(world.len(), 10);
 }
 
 /// A system that fills a log sees what was alive when the phase was opened, and the rows that were
@@ -122,9 +140,9 @@ fn systems_see_what_is_alive() {
     entities.free(all[2]).expect("alive");
     let logs = run_logs(&mut entities, &[Sees(all)], 1).expect("memory");
     entities.flush(&mut vec![]).expect("memory");
-    let (blocks, reservers) = entities.open_in_blocks(&[1]).expect("memory");
-    let (in_blocks, _) =
-        run_in_blocks(&StdThreads, &blocks, reservers, &[Sees(all)], 1).expect("memory");
+    let (phase, mut reservers) = entities.share_in_blocks(&[1]).expect("memory");
+    let ran = run_in_blocks(&StdThreads, &phase, &mut reservers, &[Sees(all)], 1);
+    let in_blocks = ran.expect("memory");
     let entries = |logs: &[Log<Handle>]| logs[0].entries().to_vec();
     assert!(entries(&logs).len() == 2 && entries(&logs) != entries(&in_blocks));
 }

@@ -2,7 +2,7 @@
 //! end of a phase with its flush.
 
 use crate::{median, COUNT};
-use forgeni::{BlockReserver, Blocks, Entities, Handle, Phase, Reserver};
+use forgeni::{Blocks, Entities, Handle, Phase, Reserver};
 use std::hint::black_box;
 use std::sync::atomic::{AtomicU64, Ordering};
 use std::sync::Barrier;
@@ -13,7 +13,7 @@ use std::time::Instant;
 const ROUNDS: usize = 31;
 
 pub fn tables() {
-    println!("| Threads | `Blocks::reserve` | `Reserver::reserve` | An atomic counter | Ratio |");
+    println!("| Threads | In blocks | Shared | An atomic counter | Ratio |");
     println!("|---|---|---|---|---|");
     for threads in [1, 2, 4, 8] {
         let (mut blocks, mut shared, mut counter) = (vec![], vec![], vec![]);
@@ -76,10 +76,10 @@ fn on_threads<T: Send>(each: &mut [T], work: impl Fn(&mut T) + Sync) -> f64 {
 }
 
 fn in_blocks(threads: usize) -> f64 {
-    let (blocks, mut reservers) = opened(Entities::new(), &vec![COUNT; threads]);
+    let (_phase, mut reservers) = opened(Entities::new(), &vec![COUNT; threads]);
     on_threads(&mut reservers, |reserver| {
         for _ in 0..COUNT {
-            black_box(blocks.reserve(reserver).expect("room"));
+            black_box(reserver.reserve().expect("room"));
         }
     })
 }
@@ -102,8 +102,15 @@ fn counted(threads: usize) -> f64 {
     })
 }
 
-fn opened(entities: Entities, sizes: &[u32]) -> (Blocks, Vec<BlockReserver>) {
-    entities.open_in_blocks(sizes).expect("memory")
+type Parts = (Phase<Blocks>, Vec<Reserver<Blocks>>);
+
+fn opened(entities: Entities, sizes: &[u32]) -> Parts {
+    entities.share_in_blocks(sizes).expect("memory")
+}
+
+fn closed((phase, reservers): Parts) -> Entities {
+    let ended = phase.close(reservers).expect("all are here");
+    ended.into_entities().expect("memory")
 }
 
 fn opening(old: u32) -> f64 {
@@ -138,13 +145,13 @@ fn list() -> Vec<Handle> {
 
 fn end_of_blocks(is_old: bool, spare: u32) -> f64 {
     let size = HANDLES * (1 + spare);
-    let (blocks, mut reservers) = opened(prepared(is_old, 64 * size), &[size; 64]);
+    let (phase, mut reservers) = opened(prepared(is_old, 64 * size), &[size; 64]);
     for reserver in &mut reservers {
-        blocks.reserve_many(reserver, HANDLES).expect("room");
+        reserver.reserve_many(HANDLES).expect("room");
     }
     let mut born = list();
     let from = Instant::now();
-    let mut entities = blocks.close(reservers).expect("memory");
+    let mut entities = closed((phase, reservers));
     entities.flush(&mut born).expect("memory");
     let seconds = from.elapsed().as_secs_f64();
     assert_eq!(black_box(born).len(), 64 * HANDLES as usize);
@@ -169,13 +176,13 @@ fn end_of_shared(is_old: bool) -> f64 {
 fn frame(old: u32, size: u32) -> f64 {
     let (entities, sizes, mut born) = (waiting(old), [size; 64], Vec::with_capacity(640));
     let from = Instant::now();
-    let (blocks, mut reservers) = opened(entities, &sizes);
+    let (phase, mut reservers) = opened(entities, &sizes);
     for reserver in &mut reservers {
         for _ in 0..10 {
-            black_box(blocks.reserve(reserver).expect("room"));
+            black_box(reserver.reserve().expect("room"));
         }
     }
-    let mut entities = blocks.close(reservers).expect("memory");
+    let mut entities = closed((phase, reservers));
     entities.flush(&mut born).expect("memory");
     from.elapsed().as_secs_f64()
 }

@@ -61,12 +61,13 @@ pub fn table() {
 
 /// A world in blocks of these sizes, of which half is used.
 fn half_used(world: World, sizes: &[u32]) -> World {
-    let (open, mut reservers) = world.open_in_blocks(sizes).expect("memory");
+    let (phase, mut reservers) = world.open_in_blocks(sizes).expect("memory");
     for (reserver, size) in reservers.iter_mut().zip(sizes) {
-        let reserved = open.blocks().reserve_many(reserver, size / 2);
+        let reserved = reserver.reserve_many(size / 2);
         reserved.expect("the block has them");
     }
-    open.close(reservers).expect("all of them")
+    let ended = phase.close(reservers).expect("all of them");
+    ended.into_world().expect("memory")
 }
 
 /// One phase in four blocks.

@@ -229,45 +229,50 @@ fn std_s_calls_end_the_process() {
 /// Sizes above those at which a list might be thought long.
 mod of_many {
     use super::*;
-    use forgeni::DealError;
-
     /// More than 500 blocks.
     #[test]
     fn blocks() {
         let sizes = [2; 1_100];
-        each_in_turn(|refusal| {
+        each_block_in_turn(|refusal| {
             let entities = three();
-            let (opened, refused) = refusing(refusal, || entities.open_in_blocks(&sizes));
-            let (blocks, reservers) = opened.unwrap_or_else(|undealt| {
+            let (opened, refused) = refusing(refusal, || entities.share_in_blocks(&sizes));
+            let (phase, mut reservers) = opened.unwrap_or_else(|undealt| {
                 assert!(refused > 0);
                 let (entities, error) = undealt.into_parts();
-                assert_eq!((error, entities.len()), (DealError::Memory, 2));
-                entities.open_in_blocks(&sizes).expect("memory")
+                assert_eq!((error, entities.len()), (ShareError::Memory, 2));
+                entities.share_in_blocks(&sizes).expect("memory")
             });
             assert_eq!(reservers.len(), 1_100);
-            let (closed, more) = refusing(refusal, || blocks.close(reservers));
-            let entities = closed.or_else(|unended| {
+            reservers[1_099].reserve().expect("of the block");
+            let none = Refusal::All { after: 0 };
+            let (ended, unasked) = refusing(none, || phase.close(reservers));
+            assert_eq!(unasked, 0);
+            let ended = ended.expect("all are here");
+            let (entities, more) = refusing(refusal, || ended.into_entities());
+            let entities = entities.or_else(|unended| {
                 assert!(more > 0);
-                let ((blocks, reservers), error) = unended.into_parts();
-                assert_eq!(error, forgeni::EndError::Memory);
-                blocks.close(reservers)
+                let (ended, error) = unended.into_parts();
+                assert_eq!(error, OutOfMemory);
+                ended.into_entities()
             });
-            assert_eq!(entities.expect("memory").len(), 2);
+            let entities = entities.expect("memory");
+            assert_eq!((entities.len(), entities.reserved()), (2, 1));
             refused + more
         });
-        each_in_turn(|refusal| {
+        each_block_in_turn(|refusal| {
             let world = two();
             let (opened, refused) = refusing(refusal, || world.open_in_blocks(&sizes));
-            let (open, reservers) = opened.unwrap_or_else(|undealt| {
+            let (phase, reservers) = opened.unwrap_or_else(|undealt| {
                 assert!(refused > 0);
                 let (world, error) = undealt.into_parts();
-                assert_eq!(error, DealError::Memory);
+                assert_eq!(error, ShareError::Memory);
                 assert_eq!(all(&world), all(&two()));
                 world.open_in_blocks(&sizes).expect("memory")
             });
             assert_eq!(reservers.len(), 1_100);
-            let closed = open.close(reservers);
-            assert_eq!(all(&closed.expect("memory")), all(&two()));
+            let ended = phase.close(reservers).expect("all are here");
+            let world = ended.into_world();
+            assert_eq!(all(&world.expect("memory")), all(&two()));
             refused
         });
     }
@@ -383,7 +388,7 @@ mod systems {
         }
     }
 
-    /// The same of systems in blocks: before any of them runs, all reservers are handed back.
+    /// The same of systems in blocks: before any of them runs, nothing has changed.
     #[test]
     fn systems_in_blocks() {
         let system = |commands: &mut BlockCommands<'_, u8>| -> Result<(), OutOfMemory> {
@@ -392,19 +397,18 @@ mod systems {
         };
         let systems = vec![system; 1_100];
         each_in_turn(|refusal| {
-            let (blocks, reservers) = three().open_in_blocks(&[1; 1_100]).expect("memory");
-            let run = || run_in_blocks(&StdThreads, &blocks, reservers, &systems, 1);
-            let (done, refused) = refusing(refusal, run);
-            let (logs, reservers) = done.unwrap_or_else(|unrun| {
+            let shared = three().share_in_blocks(&[1; 1_100]);
+            let (phase, mut reservers) = shared.expect("memory");
+            let mut run = || run_in_blocks(&StdThreads, &phase, &mut reservers, &systems, 1);
+            let (done, refused) = refusing(refusal, &mut run);
+            let logs = done.unwrap_or_else(|error| {
                 assert!(refused > 0);
-                let (reservers, error) = unrun.into_parts();
-                assert_eq!((error, reservers.len()), (RunError::Memory, 1_100));
-                run_in_blocks(&StdThreads, &blocks, reservers, &systems, 1).expect("memory")
+                assert_eq!(error, RunError::Memory);
+                run().expect("memory")
             });
-            assert_eq!(
-                (logs.len(), blocks.close(reservers).expect("memory").len()),
-                (1_100, 2)
-            );
+            let ended = phase.close(reservers).expect("all are here");
+            let entities = ended.into_entities().expect("memory");
+            assert_eq!((logs.len(), entities.len()), (1_100, 2));
             refused
         });
     }
