@@ -1,7 +1,7 @@
 // Made of crates/ent_runner/specs by .ci/contracts.py. It isn't edited by hand.
 
 //! The definitions of crate `ent_runner`, in the order in which one reads them:
-//! [`runs`], [`frame`], [`logs`], [`blocks_filling`], [`blocks`], [`blocks_queues`], [`blocks_frame`], [`blocks_unframed`], [`blocks_refusing`].
+//! [`runs`], [`frame`], [`logs`], [`blocks_filling`], [`blocks`], [`blocks_queues`], [`blocks_refusing`].
 
 #[doc(alias("AreRun", "HasReturned", "StopShort", "first_some"))]
 /// Which systems workers have run, and how far the systems came if they were broken off.
@@ -68,7 +68,7 @@
 /// </pre>
 pub mod runs {}
 
-#[doc(alias("IsHalf", "SystemMayIssue", "SystemMayLeave", "queue_at"))]
+#[doc(alias("SystemMayIssue", "SystemMayLeave", "queue_at"))]
 /// A frame: systems run on workers over one shared world, each with a queue of its own, and the sync point applies the queues in the order of the systems.
 ///
 /// <pre>
@@ -91,16 +91,6 @@ pub mod runs {}
 ///     → <a href="../../logic/index.html#ℕ">ℕ</a> → <a href="../../logic/index.html#List">List</a> <a href="../../ent_queue/command/index.html#Command">Command</a> → E → Type 0
 /// <a href="#SystemMayLeave">SystemMayLeave</a> leave systems view n queue error =
 ///     <a href="#SystemMayIssue">SystemMayIssue</a> (λ system view queue. leave system view queue error) systems view n queue
-/// </pre>
-///
-/// <pre>
-/// -- The sync of the queues has been done up to that handle of that command of that system, and no
-/// -- further.
-/// pub record <b id="IsHalf">IsHalf</b> (queues : <a href="../../logic/index.html#List">List</a> (<a href="../../logic/index.html#List">List</a> <a href="../../ent_queue/command/index.html#Command">Command</a>)) (before : <a href="../../ent_world/world/index.html#World">World</a>) (system command done : <a href="../../logic/index.html#ℕ">ℕ</a>)
-///     (so_far : SyncReport) (after : <a href="../../ent_world/world/index.html#World">World</a>) : Type 0 where
-///   pub stop : <a href="../../ent_world/sync/index.html#IsStop">IsStop</a> system command done queues
-///   pub so : <a href="../../ent_world/rest/index.html#HasStoppedSo">HasStoppedSo</a> system command done queues before after so_far.faults.items
-///   pub born_are : so_far.born.items ≡ <a href="../../ent_alloc/sequential/index.html#born">born</a> before.allocator
 /// </pre>
 pub mod frame {}
 
@@ -259,83 +249,22 @@ pub mod blocks {}
 /// </pre>
 pub mod blocks_queues {}
 
-#[doc(alias("EndsInBlocks", "StopsInBlocks", "reserved_in_blocks", "view_in_blocks"))]
-/// A frame in blocks: systems fill queues, each from a block of its own, and the sync point applies the queues in the order of the systems. What it ends with depends on the world, the sizes of the blocks and the systems alone: there is no history, and workers don\'t appear.
-///
-/// <pre>
-/// -- what systems see of the world
-/// abbrev pub <b id="view_in_blocks">view_in_blocks</b> : <a href="../../ent_world/in_blocks/index.html#WorldInBlocks">WorldInBlocks</a> → <a href="../../ent_world/open_world/index.html#View">View</a>
-/// <a href="#view_in_blocks">view_in_blocks</a> w = record { phase = w.phase; entities = w.entities }
-/// </pre>
-///
-/// <pre>
-/// -- the world after systems have reserved what these queues say
-/// abbrev pub <b id="reserved_in_blocks">reserved_in_blocks</b> : <a href="../../ent_world/in_blocks/index.html#WorldInBlocks">WorldInBlocks</a> → <a href="../../logic/index.html#List">List</a> <a href="../../ent_blocks/blocks/index.html#Block">Block</a> → <a href="../../logic/index.html#List">List</a> (<a href="../../logic/index.html#List">List</a> <a href="../../ent_queue/command/index.html#Command">Command</a>) → <a href="../../ent_world/world/index.html#World">World</a>
-/// <a href="#reserved_in_blocks">reserved_in_blocks</a> w blocks queues =
-///     <a href="../../ent_world/in_blocks/index.html#world_after">world_after</a> (<a href="../../ent_world/in_blocks/index.html#world_dealt">world_dealt</a> w.blocks.phase w.phase w.entities) (<a href="../blocks_queues/index.html#blocks_after_queues">blocks_after_queues</a> blocks queues)
-/// </pre>
-///
-/// <pre>
-/// -- Each queue is what its system may issue, with handles of its own block, and the frame ends with
-/// -- the world and the report of the sync point of these queues.
-/// pub record <b id="EndsInBlocks">EndsInBlocks</b> {S : Type 0} (may : S → <a href="../../ent_world/open_world/index.html#View">View</a> → <a href="../../logic/index.html#List">List</a> <a href="../../ent_queue/command/index.html#Command">Command</a> → Type 0) (systems : <a href="../../logic/index.html#List">List</a> S)
-///     (opened : <a href="../../ent_world/in_blocks/index.html#WorldInBlocks">WorldInBlocks</a>) (blocks : <a href="../../logic/index.html#List">List</a> <a href="../../ent_blocks/blocks/index.html#Block">Block</a>) (queues : <a href="../../logic/index.html#List">List</a> (<a href="../../logic/index.html#List">List</a> <a href="../../ent_queue/command/index.html#Command">Command</a>)) (after : <a href="../../ent_world/world/index.html#World">World</a>)
-///     (came : <a href="../../logic/index.html#List">List</a> <a href="../../ent_handle/handle/index.html#Handle">Handle</a>) (faults : <a href="../../logic/index.html#List">List</a> Fault) : Type 0 where
-///   pub issued : <a href="../blocks_queues/index.html#HaveIssued">HaveIssued</a> may systems (<a href="#view_in_blocks">view_in_blocks</a> opened) opened.blocks.phase.start blocks
-///       queues
-///       (<a href="../blocks_queues/index.html#blocks_after_queues">blocks_after_queues</a> blocks queues)
-///   pub world : after ≡ (<a href="../../ent_world/sync/index.html#sync">sync</a> queues (<a href="#reserved_in_blocks">reserved_in_blocks</a> opened blocks queues)).world
-///   pub born_are : came ≡ <a href="../../ent_alloc/sequential/index.html#born">born</a> (<a href="#reserved_in_blocks">reserved_in_blocks</a> opened blocks queues).allocator
-///   pub faults_are : faults ≡ (<a href="../../ent_world/sync/index.html#sync">sync</a> queues (<a href="#reserved_in_blocks">reserved_in_blocks</a> opened blocks queues)).faults
-/// </pre>
-///
-/// <pre>
-/// -- The systems ran, and the sync point stopped and left this world.
-/// pub record <b id="StopsInBlocks">StopsInBlocks</b> {S : Type 0} (may : S → <a href="../../ent_world/open_world/index.html#View">View</a> → <a href="../../logic/index.html#List">List</a> <a href="../../ent_queue/command/index.html#Command">Command</a> → Type 0) (systems : <a href="../../logic/index.html#List">List</a> S)
-///     (opened : <a href="../../ent_world/in_blocks/index.html#WorldInBlocks">WorldInBlocks</a>) (blocks : <a href="../../logic/index.html#List">List</a> <a href="../../ent_blocks/blocks/index.html#Block">Block</a>) (queues : <a href="../../logic/index.html#List">List</a> (<a href="../../logic/index.html#List">List</a> <a href="../../ent_queue/command/index.html#Command">Command</a>)) (after : <a href="../../ent_world/world/index.html#World">World</a>)
-///     (fault : SyncFault) : Type 0 where
-///   pub issued : <a href="../blocks_queues/index.html#HaveIssued">HaveIssued</a> may systems (<a href="#view_in_blocks">view_in_blocks</a> opened) opened.blocks.phase.start blocks
-///       queues
-///       (<a href="../blocks_queues/index.html#blocks_after_queues">blocks_after_queues</a> blocks queues)
-///   pub flush_memory : fault ≡ stop.FlushMemory → after ≡ <a href="#reserved_in_blocks">reserved_in_blocks</a> opened blocks queues
-///   pub memory : (system command done : <a href="../../logic/index.html#ℕ">ℕ</a>) (so_far : SyncReport)
-///       → fault ≡ stop.Memory system command done so_far
-///       → <a href="../frame/index.html#IsHalf">IsHalf</a> queues (<a href="#reserved_in_blocks">reserved_in_blocks</a> opened blocks queues) system command done so_far after
-/// </pre>
-pub mod blocks_frame {}
-
-#[doc(alias("IsWhyUnended"))]
-/// What holds of a frame in blocks that wasn\'t completed.
-///
-/// <pre>
-/// -- Why a world was not closed whose blocks are the first, with reservers of its phase whose blocks
-/// -- are the second.
-/// pub record <b id="IsWhyUnended">IsWhyUnended</b> (blocks reservers : <a href="../../logic/index.html#List">List</a> <a href="../../ent_blocks/blocks/index.html#Block">Block</a>) (error : EndError) : Type 0 where
-///   pub of_phase : error ≢ unended.OtherPhase
-///   pub order : (error ≡ unended.Order) ↔ ¬ (<a href="../../logic/index.html#IsTrue">IsTrue</a> (<a href="../../ent_blocks/blocks/index.html#are_among">are_among</a> blocks reservers))
-///   pub missing : <a href="../../ent_blocks/faults/index.html#IsMissing">IsMissing</a> (<a href="../../logic/index.html#length">length</a> blocks - <a href="../../logic/index.html#length">length</a> reservers) error
-///       ↔ (<a href="../../logic/index.html#IsTrue">IsTrue</a> (<a href="../../ent_blocks/blocks/index.html#are_among">are_among</a> blocks reservers) × (<a href="../../logic/index.html#length">length</a> reservers &lt; <a href="../../logic/index.html#length">length</a> blocks))
-///   pub missing_count : (n : <a href="../../logic/index.html#ℕ">ℕ</a>) → <a href="../../ent_blocks/faults/index.html#IsMissing">IsMissing</a> n error → n ≡ <a href="../../logic/index.html#length">length</a> blocks - <a href="../../logic/index.html#length">length</a> reservers
-///   pub memory : error ≡ unended.Memory → 0 &lt; <a href="../../logic/index.html#length">length</a> blocks
-/// </pre>
-pub mod blocks_unframed {}
-
 #[doc(alias("IfLost", "IfNotLost", "IsRefused"))]
-/// When systems in blocks are refused before any of them runs, as one fact: each field is a clause of `run_frame_in_blocks`, `fill_in_blocks` and `run_in_blocks`.
+/// When systems in blocks are refused before any of them runs, as one fact: each field is a clause of `fill_in_blocks` and `run_in_blocks`.
 ///
 /// <pre>
-/// -- That many systems run on that many workers, with these reservers in the phase of this number. The
-/// -- run is refused for an error if this holds of it.
-/// pub record <b id="IsRefused">IsRefused</b> {E : Type 0} (workers systems number : <a href="../../logic/index.html#ℕ">ℕ</a>) (reservers : <a href="../../logic/index.html#List">List</a> <a href="../../ent_blocks/blocks/index.html#Reserver">Reserver</a>)
+/// -- That many systems run on that many workers, with so many reservers, which are of the phase if
+/// -- that is so. The run is refused for an error if this holds of it.
+/// pub record <b id="IsRefused">IsRefused</b> {E : Type 0} (workers systems reservers : <a href="../../logic/index.html#ℕ">ℕ</a>) (AreOf : Type 0)
 ///     (refuses : RunError E → Type 0) : Type 0 where
 ///   pub workers_are : refuses failed.Workers ↔ ((workers ≡ 0) ⊎ (64 &lt; workers))
 ///   pub systems_are : refuses failed.Systems
 ///       ↔ ((0 &lt; workers) × (workers ≤ 64) × (2 ^ 16 &lt; systems))
 ///   pub reservers_are : refuses failed.Reservers
-///       ↔ ((0 &lt; workers) × (workers ≤ 64) × (systems ≤ 2 ^ 16) × (<a href="../../logic/index.html#length">length</a> reservers ≢ systems))
+///       ↔ ((0 &lt; workers) × (workers ≤ 64) × (systems ≤ 2 ^ 16) × (reservers ≢ systems))
 ///   pub other_phase : refuses failed.OtherPhase
-///       ↔ ((0 &lt; workers) × (workers ≤ 64) × (systems ≤ 2 ^ 16) × (<a href="../../logic/index.html#length">length</a> reservers ≡ systems)
-///       × ¬ (<a href="../../logic/index.html#All">All</a> (λ (r : <a href="../../ent_blocks/blocks/index.html#Reserver">Reserver</a>). r.number ≡ number) reservers))
+///       ↔ ((0 &lt; workers) × (workers ≤ 64) × (systems ≤ 2 ^ 16) × (reservers ≡ systems)
+///       × ¬ AreOf)
 /// </pre>
 ///
 /// <pre>

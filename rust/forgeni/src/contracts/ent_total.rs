@@ -1,7 +1,7 @@
 // Made of crates/ent_total/specs by .ci/contracts.py. It isn't edited by hand.
 
 //! The definitions of crate `ent_total`, in the order in which one reads them:
-//! [`batch`], [`applying`], [`births`], [`closing`], [`framing`], [`issuing`], [`phases`], [`reserving`], [`image`], [`unframed`].
+//! [`batch`], [`applying`], [`births`], [`closing`], [`issuing`], [`phases`], [`reserving`], [`image`], [`in_world`], [`lending`].
 
 #[doc(alias("IsFinished", "IsLeftUntil", "IsSynced", "IsSyncedUntil", "Queues", "Stopped"))]
 /// Queues that are applied together, and where their sync point stopped.
@@ -221,17 +221,6 @@ pub mod births {}
 /// </pre>
 pub mod closing {}
 
-#[doc(alias("spawned_after"))]
-/// What holds of a frame that wasn\'t completed.
-///
-/// <pre>
-/// -- How many are counted after a sync point that stopped like this: none if it had flushed.
-/// abbrev pub <b id="spawned_after">spawned_after</b> : SyncFault → <a href="../../logic/index.html#ℕ">ℕ</a> → <a href="../../logic/index.html#ℕ">ℕ</a>
-/// <a href="#spawned_after">spawned_after</a> fault.FlushMemory spawned = spawned
-/// <a href="#spawned_after">spawned_after</a> (fault.Memory system command done so_far) spawned = 0
-/// </pre>
-pub mod framing {}
-
 #[doc(alias("AreCommandsOf", "Commands", "Extends", "IsClosed", "IsClosedLost", "IsRefused", "IsWorldOf", "MayReturn", "OpenWorld", "issued", "queues_returned", "reservers_returned", "with_returned"))]
 /// What contracts see of a world in a phase, and of a system that issues commands in it.
 ///
@@ -440,84 +429,42 @@ pub mod reserving {}
 /// </pre>
 pub mod image {}
 
-#[doc(alias("AreUnfilled", "IsHeld", "IsLeft", "IsStopped", "IsUnended", "IsUnrunFor"))]
-/// What holds of a frame in blocks that wasn\'t completed.
+#[doc(alias("InWorld", "view_in"))]
+/// What contracts see of a world in a phase, and of one whose phase has ended.
 ///
 /// <pre>
-/// -- no queues were filled, for this reason
-/// abbrev pub <b id="IsUnrunFor">IsUnrunFor</b> : {J E : Type 0} → Unframed J E → RunError E → Type 0
-/// <a href="#IsUnrunFor">IsUnrunFor</a> (unframed.Unrun world reservers error) why = error ≡ why
-/// <a href="#IsUnrunFor">IsUnrunFor</a> (unframed.Unended left queues) why = ⊥
-/// <a href="#IsUnrunFor">IsUnrunFor</a> (unframed.Unapplied world queues) why = ⊥
-/// <a href="#IsUnrunFor">IsUnrunFor</a> (unframed.Stopped world stopped) why = ⊥
+/// -- what serves the reservers, the rest of the world, by which number queues know it, and how many
+/// -- entities were spawned since the last flush
+/// pub record <b id="InWorld">InWorld</b> (S : Type 0) : Type 0 where
+///   pub source : S
+///   pub rest : <a href="../../ent_world/in_blocks/index.html#WorldRest">WorldRest</a>
+///   pub of_world : <a href="../../logic/index.html#ℕ">ℕ</a>
+///   pub spawned : <a href="../../logic/index.html#ℕ">ℕ</a>
 /// </pre>
 ///
 /// <pre>
-/// module _ {S E : Type 0} (may : S → <a href="../../ent_world/open_world/index.html#View">View</a> → <a href="../../logic/index.html#List">List</a> <a href="../../ent_queue/command/index.html#Command">Command</a> → Type 0)
-///     (leave : S → <a href="../../ent_world/open_world/index.html#View">View</a> → <a href="../../logic/index.html#List">List</a> <a href="../../ent_queue/command/index.html#Command">Command</a> → E → Type 0) (systems : <a href="../../logic/index.html#List">List</a> S) (workers : <a href="../../logic/index.html#ℕ">ℕ</a>) where
-///   -- What holds if these systems, with reservers of these, filled no queues. Only if they were
-///   -- broken off are the reservers lost.
-///   pub record <b id="AreUnfilled">AreUnfilled</b> {J : Type 0} (opened : WorldInBlocks J) (reservers left : <a href="../../logic/index.html#List">List</a> <a href="../../ent_blocks/blocks/index.html#Reserver">Reserver</a>)
-///       (error : RunError E) : Type 0 where
-///     pub handed_back : <a href="../../ent_runner/blocks_refusing/index.html#IfNotLost">IfNotLost</a> (left ≡ reservers) error
-///     pub memory_some : error ≡ failed.Memory → 0 &lt; <a href="../../logic/index.html#length">length</a> systems
-///     pub lost : <a href="../../ent_runner/blocks_refusing/index.html#IfLost">IfLost</a> (<a href="../../ent_runner/blocks_queues/index.html#HaveStopped">HaveStopped</a> may leave systems workers (<a href="../../ent_runner/blocks_frame/index.html#view_in_blocks">view_in_blocks</a> opened.world)
-///         opened.world.blocks.phase.start (<a href="../../ent_blocks/blocks/index.html#blocks_of">blocks_of</a> reservers)) error
-///     pub lost_some : <a href="../../ent_runner/blocks_refusing/index.html#IfLost">IfLost</a> (λ _. 0 &lt; <a href="../../logic/index.html#length">length</a> systems) error
-///     pub lost_reservers : <a href="../../ent_runner/blocks_refusing/index.html#IfLost">IfLost</a> (λ _. left ≡ []) error
+/// -- what systems see of the world
+/// abbrev pub <b id="view_in">view_in</b> : {S : Type 0} → <a href="#InWorld">InWorld</a> S → <a href="../../ent_world/open_world/index.html#View">View</a>
+/// <a href="#view_in">view_in</a> w = record { phase = w.rest.phase; entities = w.rest.store.entities }
+/// </pre>
+pub mod in_world {}
+
+#[doc(alias("lent_out", "returned"))]
+/// Reservers of blocks that are lent to a run of systems.
+///
+/// <pre>
+/// module _ {S : Type 0} where
+///   -- while its block is away
+///   abbrev pub <b id="lent_out">lent_out</b> : <a href="../phases/index.html#Reserver">Reserver</a> S <a href="../../ent_blocks/blocks/index.html#Reserver">BlockReserver</a> → <a href="../phases/index.html#Reserver">Reserver</a> S <a href="../../ent_blocks/blocks/index.html#Reserver">BlockReserver</a>
+///   <a href="#lent_out">lent_out</a> r = record r { reserver = <a href="../../ent_blocks/blocks/index.html#used_up">used_up</a> r.reserver }
 /// </pre>
 ///
 /// <pre>
-///   -- What holds if all systems ran, and the world was not closed. If the reservers are those of all
-///   -- blocks, in their order, it is because memory ran out.
-///   pub record <b id="IsUnended">IsUnended</b> {J : Type 0} (opened world : WorldInBlocks J)
-///       (reservers left : <a href="../../logic/index.html#List">List</a> <a href="../../ent_blocks/blocks/index.html#Reserver">Reserver</a>)
-///       (error : EndError) (queues : <a href="../batch/index.html#Queues">Queues</a>) : Type 0 where
-///     pub same : world ≡ opened
-///     pub issued : <a href="../../ent_runner/blocks_queues/index.html#HaveIssued">HaveIssued</a> may systems (<a href="../../ent_runner/blocks_frame/index.html#view_in_blocks">view_in_blocks</a> opened.world)
-///         opened.world.blocks.phase.start (<a href="../../ent_blocks/blocks/index.html#blocks_of">blocks_of</a> reservers) queues.queues (<a href="../../ent_blocks/blocks/index.html#blocks_of">blocks_of</a> left)
-///     pub of : <a href="../../logic/index.html#All">All</a> (λ (r : <a href="../../ent_blocks/blocks/index.html#Reserver">Reserver</a>). r.number ≡ opened.world.blocks.number) left
-///     pub of_world : queues.world ≡ opened.of_world
-///     pub why : <a href="../../ent_runner/blocks_unframed/index.html#IsWhyUnended">IsWhyUnended</a> opened.world.blocks.phase.blocks (<a href="../../ent_blocks/blocks/index.html#blocks_of">blocks_of</a> reservers) error
-///     pub whole : <a href="../../logic/index.html#map">map</a> <a href="../../ent_blocks/blocks/index.html#unused">unused</a> (<a href="../../ent_blocks/blocks/index.html#blocks_of">blocks_of</a> reservers) ≡ opened.world.blocks.phase.blocks
-///         → error ≡ unended.Memory
+///   -- The first ones have these to reserve with, in their order.
+///   abbrev pub <b id="returned">returned</b> : <a href="../../logic/index.html#List">List</a> (<a href="../phases/index.html#Reserver">Reserver</a> S <a href="../../ent_blocks/blocks/index.html#Reserver">BlockReserver</a>) → <a href="../../logic/index.html#List">List</a> <a href="../../ent_blocks/blocks/index.html#Reserver">BlockReserver</a>
+///       → <a href="../../logic/index.html#List">List</a> (<a href="../phases/index.html#Reserver">Reserver</a> S <a href="../../ent_blocks/blocks/index.html#Reserver">BlockReserver</a>)
+///   <a href="#returned">returned</a> reservers [] = reservers
+///   <a href="#returned">returned</a> [] (b ∷ back) = []
+///   <a href="#returned">returned</a> (r ∷ reservers) (b ∷ back) = record r { reserver = b } ∷ <a href="#returned">returned</a> reservers back
 /// </pre>
-///
-/// <pre>
-///   -- What holds if all systems ran, with the reservers of all blocks, and the sync point stopped.
-///   pub record <b id="IsHeld">IsHeld</b> {J : Type 0} (opened : WorldInBlocks J) (reservers : <a href="../../logic/index.html#List">List</a> <a href="../../ent_blocks/blocks/index.html#Reserver">Reserver</a>)
-///       (world : World)
-///       (why : SyncFault) (queues : <a href="../batch/index.html#Queues">Queues</a>) : Type 0 where
-///     pub all : <a href="../../logic/index.html#map">map</a> <a href="../../ent_blocks/blocks/index.html#unused">unused</a> (<a href="../../ent_blocks/blocks/index.html#blocks_of">blocks_of</a> reservers) ≡ opened.world.blocks.phase.blocks
-///     pub stops : <a href="../../ent_runner/blocks_frame/index.html#StopsInBlocks">StopsInBlocks</a> may systems opened.world (<a href="../../ent_blocks/blocks/index.html#blocks_of">blocks_of</a> reservers) queues.queues
-///         world.world why
-///     pub number : world.number ≡ opened.of_world
-///     pub counted : world.spawned ≡ <a href="../framing/index.html#spawned_after">spawned_after</a> why opened.spawned
-///     pub of_world : queues.world ≡ opened.of_world
-/// </pre>
-///
-/// <pre>
-///   -- and if it stopped at a command
-///   pub record <b id="IsStopped">IsStopped</b> {J : Type 0} (opened : WorldInBlocks J) (reservers : <a href="../../logic/index.html#List">List</a> <a href="../../ent_blocks/blocks/index.html#Reserver">Reserver</a>)
-///       (world : World) (stopped : <a href="../batch/index.html#Stopped">Stopped</a>) : Type 0 where
-///     pub held : <a href="#IsHeld">IsHeld</a> opened reservers world (fault.Memory stopped.stop.system
-///         stopped.stop.command stopped.stop.done stopped.so_far) stopped.queues
-///     pub flushed : world.world.allocator.asked ≡ 0
-///     pub memory : <a href="../../ent_world/memory/index.html#TakesMemoryAt">TakesMemoryAt</a> world.world stopped.stop.system stopped.stop.command
-///         stopped.stop.done stopped.queues.queues
-/// </pre>
-///
-/// <pre>
-///   -- A frame of these systems left this.
-///   abbrev pub <b id="IsLeft">IsLeft</b> : {J : Type 0} → WorldInBlocks J → <a href="../../logic/index.html#List">List</a> <a href="../../ent_blocks/blocks/index.html#Reserver">Reserver</a> → Unframed J E → Type 0
-///   <a href="#IsLeft">IsLeft</a> opened reservers (unframed.Unrun world left error) =
-///       (world ≡ opened) × <a href="#AreUnfilled">AreUnfilled</a> opened reservers left.items error
-///   <a href="#IsLeft">IsLeft</a> opened reservers (unframed.Unended left queues) =
-///       <a href="#IsUnended">IsUnended</a> opened left.value.0 reservers left.value.1.items left.error queues
-///   <a href="#IsLeft">IsLeft</a> opened reservers (unframed.Unapplied world queues) =
-///       <a href="#IsHeld">IsHeld</a> opened reservers world fault.FlushMemory queues
-///       × (0 &lt; <a href="../../logic/index.html#length">length</a> world.world.allocator.taken)
-///   <a href="#IsLeft">IsLeft</a> opened reservers (unframed.Stopped world stopped) =
-///       <a href="#IsStopped">IsStopped</a> opened reservers world stopped
-/// </pre>
-pub mod unframed {}
+pub mod lending {}

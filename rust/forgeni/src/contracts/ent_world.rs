@@ -509,22 +509,20 @@ pub mod rest {}
 /// </pre>
 pub mod memory {}
 
-#[doc(alias("WorldInBlocks", "world_after", "world_dealt"))]
-/// What contracts see of a world whose allocator is dealt in blocks.
+#[doc(alias("WorldRest", "world_after", "world_with"))]
+/// What contracts see of a world whose allocator is in a phase in blocks.
 ///
 /// <pre>
-/// -- the same under the number that distinguishes phases in blocks
-/// pub record <b id="WorldInBlocks">WorldInBlocks</b> : Type 0 where
-///   pub blocks : <a href="../../ent_blocks/blocks/index.html#Phase">Phase</a>
+/// -- a world without its allocator: where its entities are, and how often it was flushed
+/// pub record <b id="WorldRest">WorldRest</b> : Type 0 where
+///   pub store : <a href="../../ent_storage/entity_map/index.html#Store">Store</a>
 ///   pub phase : <a href="../../logic/index.html#ℕ">ℕ</a>
-///   pub entities : <a href="../../ent_storage/entity_map/index.html#EntityMap">EntityMap</a>
 /// </pre>
 ///
 /// <pre>
-/// -- the world that was dealt
-/// abbrev pub <b id="world_dealt">world_dealt</b> : <a href="../../ent_blocks/blocks/index.html#Blocks">Blocks</a> → <a href="../../logic/index.html#ℕ">ℕ</a> → <a href="../../ent_storage/entity_map/index.html#EntityMap">EntityMap</a> → <a href="../world/index.html#World">World</a>
-/// <a href="#world_dealt">world_dealt</a> blocks phase entities =
-///     record { allocator = blocks.start; phase = phase; entities = entities }
+/// -- the world that this is the rest of, with this allocator
+/// abbrev pub <b id="world_with">world_with</b> : <a href="../../ent_alloc/sequential/index.html#Allocator">Allocator</a> → <a href="#WorldRest">WorldRest</a> → <a href="../world/index.html#World">World</a>
+/// <a href="#world_with">world_with</a> s rest = record { allocator = s; phase = rest.phase; entities = rest.store.entities }
 /// </pre>
 ///
 /// <pre>
