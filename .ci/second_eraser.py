@@ -107,7 +107,7 @@ ASSOCIATED = named(
 )
 PRELUDE = set(
     "Some None Ok Err Option Result Vec Self self Iterator DoubleEndedIterator ExactSizeIterator From Into Default Copy Clone Send Sync Fn "
-    "FnMut FnOnce Ord PartialOrd PartialEq Eq bool str u8 u16 u32 u64 u128 usize i64".split()
+    "FnMut FnOnce Ord PartialOrd PartialEq Eq Sized bool str u8 u16 u32 u64 u128 usize i64".split()
 )
 METHODS = set(
     "all as_bytes as_chunks as_mut_slice as_slice binary_search binary_search_by_key capacity cast_signed cast_unsigned checked_add "

@@ -74,8 +74,7 @@
 use crate::phase::opened;
 use crate::phases::share_in;
 use crate::shown::shows;
-use crate::threads::{Phase, Reserver, ShareError};
-use crate::{Entities, HandedBack};
+use crate::{Entities, HandedBack, Phase, Reserver, ShareError};
 use alloc::vec::Vec;
 
 pub use crate::in_blocks::{BlockReserver, BlockSize, Blocks, Deals, Ended, InBlocks, Overflow};
@@ -129,7 +128,6 @@ impl Entities {
     /// # Aborts
     ///
     /// The same as for `share`.
-    #[allow(clippy::type_complexity)]
     pub fn share_in_blocks(
         self,
         sizes: &[u32],
@@ -174,7 +172,6 @@ impl Entities {
     /// # Aborts
     ///
     /// The same as for `share`.
-    #[allow(clippy::type_complexity)]
     pub fn share_behind_blocks(
         self,
         sizes: &[u32],

@@ -307,7 +307,6 @@ pub fn run_logs_on<J: Join + Sync, C: Send, S: LogSystem<C, SharedSource, E> + S
 /// If a system panics, or a command panics when it is dropped: the same as [`run_logs`]. If no
 /// system panics but the `Join` does, its panic is propagated when all workers have ended. What
 /// they reserved is alive, and their logs are dropped.
-#[allow(clippy::type_complexity)]
 pub fn run_to_sync_point<J: Join + Sync, C: Send, S, E: Send>(
     join: &J,
     entities: &mut Entities,

@@ -1,7 +1,6 @@
 //! A reserver that is lent, and how anything is lent.
 
-use crate::threads::{OtherPhase, Phased, Reserver};
-use crate::{Handle, Refused, ReserveError, SharedSource};
+use crate::{Handle, OtherPhase, Phased, Refused, ReserveError, Reserver, SharedSource};
 use alloc::vec::Vec;
 
 /// A [`Reserver`] that is lent by a [`phase`](crate::Entities::phase) or by a pool of reservers. It

@@ -2,6 +2,8 @@
 #![cfg_attr(not(test), no_std)]
 #![forbid(unsafe_code)]
 #![deny(missing_docs)]
+// What opens a phase returns it with its reservers, or hands back what it was given.
+#![allow(clippy::type_complexity)]
 
 // The words of a phase, of claims and of numbers are an `AtomicU64` each.
 #[cfg(not(target_has_atomic = "64"))]
@@ -72,7 +74,6 @@ mod room;
 mod serde_impls;
 mod shown;
 mod storage;
-mod sync;
 mod system;
 mod tracked;
 #[cfg(feature = "std")]

@@ -30,8 +30,7 @@
 //! ```
 
 use crate::lent::Lent;
-use crate::threads::Phased;
-use crate::{Handle, Refused};
+use crate::{Handle, Phased, Refused};
 use core::fmt;
 
 pub use crate::logs::{BeginError, Entry, Log, Reserves, SyncPoint};

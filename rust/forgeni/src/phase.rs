@@ -4,8 +4,7 @@ use crate::lending::Lending;
 use crate::lent::Lent;
 use crate::numbers::next_number;
 use crate::phases::Opening;
-use crate::threads::{Phase, Phased, Reserver, ShareError};
-use crate::{Entities, HandedBack};
+use crate::{Entities, HandedBack, Phase, Phased, Reserver, ShareError};
 use alloc::vec::Vec;
 
 /// # Phases
@@ -84,7 +83,6 @@ impl Entities {
 
 /// The phase of this opening under a number of its own, and all its reservers. If they can't be
 /// given out, `back` makes what was shared of what the phase ended with.
-#[allow(clippy::type_complexity)]
 pub(crate) fn opened<S: Phased, T>(
     opening: Result<Opening<S>, HandedBack<T, ShareError>>,
     back: impl FnOnce(S::Closed) -> T,

@@ -2,9 +2,8 @@
 
 use crate::lent::Lent;
 use crate::shown::shows;
-use crate::threads::{Phased, Reserver};
 use crate::waiting::Waiting;
-use crate::{HandedBack, OutOfMemory};
+use crate::{HandedBack, OutOfMemory, Phased, Reserver};
 use alloc::vec::Vec;
 use core::sync::atomic::{AtomicUsize, Ordering};
 use std::sync::{Mutex, MutexGuard, PoisonError, TryLockError};

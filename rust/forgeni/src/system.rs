@@ -1,8 +1,7 @@
 //! Systems, and what they fill.
 
-use crate::in_blocks::Blocks;
 use crate::shown::shows;
-use crate::{Log, OutOfMemory, View};
+use crate::{Blocks, Log, OutOfMemory, View};
 use alloc::boxed::Box;
 use alloc::sync::Arc;
 #[cfg(feature = "std")]

@@ -25,12 +25,10 @@
 //! # Ok::<(), Box<dyn std::error::Error + Send + Sync>>(())
 //! ```
 
-use crate::in_blocks::InBlocks;
 use crate::phase::opened;
 use crate::phases::share;
-use crate::reserving::SharedSource;
 use crate::shown::shows;
-use crate::{Entities, HandedBack};
+use crate::{Entities, HandedBack, InBlocks, SharedSource};
 use alloc::vec::Vec;
 
 pub use crate::allocator::Phased;

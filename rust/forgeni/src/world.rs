@@ -11,12 +11,12 @@ use crate::shown::shows;
 use crate::Limits;
 
 pub use crate::component::{Birth, ComponentId};
-pub use crate::errors::{StorageImageFault, WorldImageFault};
+pub use crate::components::StorageImageFault;
 pub use crate::phases::{CommandQueue, Commands, EndedWorld, InWorld, OpenWorld, World};
+pub use crate::phases::{GoOnError, Queues, Stop, Stopped, SyncError};
 pub use crate::storage::{Bundle, InlineBundle, Items, Storage, StorageError};
-pub use crate::sync::{Fault, FaultKind, GoOnError, Queues, Report, Stop, Stopped, SyncError};
 pub use crate::world_phase::LentCommands;
-pub use crate::worlds::View;
+pub use crate::worlds::{Fault, FaultKind, Report, View, WorldImageFault};
 
 /// # Making one
 impl World {

@@ -4,10 +4,9 @@
 use crate::numbers::next_number;
 use crate::phase::opened;
 use crate::phases::{clone_world, clone_world_from, open, open_in, read_world, read_world_within};
-use crate::threads::{Phase, Reserver, ShareError};
 use crate::world_phase::closed;
 use crate::{Blocks, Commands, EndedWorld, HandedBack, InWorld, OpenWorld, OutOfMemory, Overflow};
-use crate::{World, WorldImageFault};
+use crate::{Phase, Reserver, ShareError, World, WorldImageFault};
 use alloc::vec::Vec;
 
 /// # Snapshots
@@ -175,10 +174,8 @@ impl World {
         self,
         count: usize,
     ) -> Result<(OpenWorld, Vec<Commands>), HandedBack<World, ShareError>> {
-        let opening = open(self, count)?;
-        opening
-            .numbered(next_number())
-            .map_err(|phase| HandedBack::new(closed(phase).0, ShareError::Memory))
+        let parts = open(self, count)?.numbered(next_number());
+        parts.map_err(|parts| HandedBack::new(closed(parts).0, ShareError::Memory))
     }
 
     /// Opens the world in blocks of these sizes: each caller gets a reserver of its own block, so
@@ -211,7 +208,6 @@ impl World {
     /// # Aborts
     ///
     /// The same as for [`open`](Self::open).
-    #[allow(clippy::type_complexity)]
     pub fn open_in_blocks(
         self,
         sizes: &[u32],
@@ -252,7 +248,6 @@ impl World {
     /// # Aborts
     ///
     /// The same as for [`open`](Self::open).
-    #[allow(clippy::type_complexity)]
     pub fn open_behind_blocks(
         self,
         sizes: &[u32],
