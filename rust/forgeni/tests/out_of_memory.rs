@@ -2000,7 +2000,7 @@ mod frames {
     use super::*;
     use forgeni::{
         fill_in_blocks, run_frame, run_in_blocks, BlockCommands, Blocks, CommandsInBlocks, Deals,
-        FrameError, InWorld, Phase, Reserver, RunError, SystemCommands, View,
+        FrameError, HandedBack, InWorld, Overflow, Phase, Reserver, RunError, SystemCommands, View,
     };
 
     /// Systems that issue by commands of this type.
@@ -2209,38 +2209,69 @@ mod frames {
         assert!(seen.iter().all(|times| *times > 0), "{seen:?}");
     }
 
+    /// What opens a phase in blocks: in `S`, of a world or an allocator.
+    type Opens<S, T> =
+        fn(T, &[u32]) -> Result<(Phase<S>, Vec<Reserver<S>>), HandedBack<T, ShareError>>;
+
     /// A world that isn't opened in blocks is handed back.
     #[test]
     fn a_world_is_handed_back_if_its_blocks_are_refused() {
-        let before = all(&two());
-        each_block_in_turn(|refusal| {
-            let world = two();
-            let (opened, refused) = refusing(refusal, || world.open_in_blocks(&[6; 3]));
-            let parts = opened.unwrap_or_else(|unopened| {
-                assert!(refused > 0);
-                let (world, error) = unopened.into_parts();
-                assert_eq!(error, ShareError::Memory);
-                assert_eq!(all(&world), before);
-                world.open_in_blocks(&[6; 3]).expect("memory")
+        fn refuses<S: Deals>(open: Opens<InWorld<S>, World>) {
+            let before = all(&two());
+            each_block_in_turn(|refusal| {
+                let world = two();
+                let (opened, refused) = refusing(refusal, || open(world, &[6; 3]));
+                let parts = opened.unwrap_or_else(|unopened| {
+                    assert!(refused > 0);
+                    let (world, error) = unopened.into_parts();
+                    assert_eq!(error, ShareError::Memory);
+                    assert_eq!(all(&world), before);
+                    open(world, &[6; 3]).expect("memory")
+                });
+                let (world, _) = into_world(parts, Refusal::None);
+                assert_eq!((all(&world), world.needs_flush()), (before.clone(), false));
+                refused
             });
-            let (world, _) = into_world(parts, Refusal::None);
-            assert_eq!((all(&world), world.needs_flush()), (before.clone(), false));
-            refused
-        });
-        each_block_in_turn(|refusal| {
-            let world = two();
-            let (opened, refused) = refusing(refusal, || world.open_behind_blocks(&[6; 3]));
-            let parts = opened.unwrap_or_else(|unopened| {
-                assert!(refused > 0);
-                let (world, error) = unopened.into_parts();
-                assert_eq!(error, ShareError::Memory);
-                assert_eq!(all(&world), before);
-                world.open_behind_blocks(&[6; 3]).expect("memory")
+        }
+        refuses::<Blocks>(World::open_in_blocks);
+        refuses::<Overflow>(World::open_behind_blocks);
+    }
+
+    /// An allocator that isn't shared in blocks is handed back. What the phase ends with gives it
+    /// when there is memory.
+    #[test]
+    fn an_allocator_is_handed_back_if_its_blocks_are_refused() {
+        fn refuses<S: Deals>(open: Opens<S, Entities>) {
+            each_block_in_turn(|refusal| {
+                let entities = three();
+                let (opened, refused) = refusing(refusal, || open(entities, &[6; 3]));
+                let (phase, mut reservers) = opened.unwrap_or_else(|unopened| {
+                    assert!(refused > 0);
+                    let (entities, error) = unopened.into_parts();
+                    assert_eq!(error, ShareError::Memory);
+                    assert_eq!((entities.len(), entities.top()), (2, 1));
+                    assert!(!entities.needs_flush());
+                    open(entities, &[6; 3]).expect("memory")
+                });
+                reservers[2].reserve_many(4).expect("of the block");
+                let close = || phase.close(reservers).expect("all are here");
+                let (ended, unasked) = refusing(Refusal::All { after: 0 }, close);
+                assert_eq!(unasked, 0);
+                let ended = S::into_ended(ended);
+                let (entities, more) = refusing(refusal, || ended.into_entities());
+                let entities = entities.or_else(|unended| {
+                    assert!(more > 0);
+                    let (ended, error) = unended.into_parts();
+                    assert_eq!((error, ended.requested_past()), (OutOfMemory, 0));
+                    ended.into_entities()
+                });
+                let entities = entities.expect("memory");
+                assert_eq!((entities.len(), entities.reserved()), (2, 4));
+                refused + more
             });
-            let (world, _) = into_world(parts, Refusal::None);
-            assert_eq!((all(&world), world.needs_flush()), (before.clone(), false));
-            refused
-        });
+        }
+        refuses::<Blocks>(Entities::share_in_blocks);
+        refuses::<Overflow>(Entities::share_behind_blocks);
     }
 
     /// The world after blocks that were used, and past them, is made again if memory ran out.
