@@ -133,7 +133,7 @@ def groups_of(lines):
                 groups.setdefault(part, []).append(
                     (f"{how}, threads: {row[0]}", ratios, [], row[column + 3])
                 )
-    for threads, ours, _, counter, ratio in rows_with(lines, "Threads", "`Blocks::reserve`"):
+    for threads, ours, _, counter, ratio in rows_with(lines, "Threads", "In blocks"):
         ratios = [float(ours) / float(counter), None, None, float(ratio)]
         groups.setdefault("A reservation from a block", []).append(
             (f"from a block, threads: {threads}", ratios, [], ours)

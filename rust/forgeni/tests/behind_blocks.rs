@@ -3,9 +3,9 @@
 //! (`rust/erased_tests/src/values/overflow.rs`).
 
 use forgeni::{
-    BlockSize, Blocks, CloseError, ComponentId, Deals, Entities, Entry, Handle, InBlocks, InWorld,
-    Log, LogCommands, Overflow, Phase, Phased, Refused, ReserveError, Reserver, Reservers,
-    ShareError, World,
+    BlockSize, Blocks, CloseError, ComponentId, Deals, EndedWorld, Entities, Entry, Handle,
+    InBlocks, InWorld, Log, LogCommands, Overflow, Phase, Phased, Refused, ReserveError, Reserver,
+    Reservers, ShareError, World,
 };
 use std::panic::{catch_unwind, AssertUnwindSafe};
 
@@ -371,4 +371,35 @@ fn logs_and_pools_of_a_world_in_blocks() {
     let mut world = ended.into_world().expect("memory");
     world.flush().expect("memory");
     assert_eq!(world.len(), 3);
+}
+
+/// Any thread may have them, and read a phase that others reserve in.
+#[test]
+fn they_go_to_any_thread() {
+    fn goes<T: Send + Sync>() {}
+    goes::<PartsOf<Blocks>>();
+    goes::<PartsOf<Overflow>>();
+    goes::<PartsOf<InWorld<Blocks>>>();
+    goes::<PartsOf<InWorld<Overflow>>>();
+    goes::<EndedWorld>();
+    let (phase, mut reservers) = world().0.open_in_blocks(&[4; 3]).expect("memory");
+    let (phase, seen) = (&phase, std::sync::atomic::AtomicUsize::new(0));
+    std::thread::scope(|scope| {
+        for mine in &mut reservers {
+            scope.spawn(|| {
+                mine.reserve_many(3).expect("of the block");
+                let count = phase.view().by_birth().expect("memory").len();
+                seen.fetch_add(count, std::sync::atomic::Ordering::Relaxed);
+            });
+        }
+    });
+    assert_eq!(seen.into_inner(), 3 * 2);
+    // Each has its own block, whichever thread came first.
+    let nexts = reservers
+        .iter_mut()
+        .map(|it| it.reserve().expect("one is left").index());
+    assert_eq!(nexts.collect::<Vec<_>>(), [5, 9, 13]);
+    let shown = format!("{:?} {:?}", phase, reservers[0]);
+    let expected = "Phase { count: 3, returned: 0, .. } Reserver { size: 4, used: 4, .. }";
+    assert_eq!(shown, expected);
 }
