@@ -231,7 +231,7 @@ def contract_of(file, name):
     def is_head(at):
         is_of = re.match(r"impl(?:<.*?>)? (\w+)", within(at))
         return (
-            re.match(rf"\s*pub (?:const )?fn {function}\b", lines[at])
+            re.match(rf"\s*(?:pub )?(?:const )?fn {function}\b", lines[at])
             and (is_of[1] if is_of else "") == owner
         )
 

@@ -1,7 +1,8 @@
 //! An allocator is dealt in blocks.
 ghost use Rattle.std.specs.Prelude.{◌≡◌, ◌^◌, ◌<◌, ◌≤◌, IfOk, IfErr, OnErr, All, IsTrue, [], length};
 ghost use Rattle.std.specs.Vec.{vec_capacity};
-ghost use Rattle.ent_blocks.specs.Blocks.{IsOf, IsUnused, are_among, blocks_from, blocks_of, dealt, lesser};
+ghost use Rattle.ent_blocks.specs.Blocks.{IsOf, IsUnused, are_among, blocks_from, blocks_of};
+ghost use Rattle.ent_blocks.specs.Blocks.{dealt, lesser};
 
 use crate::block_reserver::BlockReserver;
 use crate::blocks::Blocks;

@@ -4,7 +4,8 @@ use Rattle.ent_runner.proofs.Common.{StopShort, get_or, slice_get, [], zero, suc
 use Rattle.ent_runner.proofs.Common.{List, Option, Some, rules, arith, inl, inr, length, map, refl}
 use Rattle.ent_runner.proofs.Common.{sym, ℕ, ⊎_elim, ◌<◌, ◌∙◌, ◌∷◌, ◌≡◌, ◌⊎◌, length-map}
 use Rattle.ent_runner.proofs.Common.{get_or_from_slice_get, slice_get-get_or, slice_get_within}
-use Rattle.ent_runner.proofs.Common.{Block, Blocks, IsOfPhase, after_use, blocks_of, spawned_in, Entry, Command}
+use Rattle.ent_runner.proofs.Common.{Block, Blocks, IsOfPhase, after_use, blocks_of, spawned_in}
+use Rattle.ent_runner.proofs.Common.{Entry, Command}
 use Rattle.ent_runner.proofs.Common.{after_commands, AreBrokenOff, AreDone, Draws, AreReady}
 use Rattle.ent_runner.proofs.Common.{IsDealt, Logs, HaveFilled, blocks_after, Ended, Stopped, None}
 use Rattle.ent_runner.proofs.Common.{ap, first_error, SystemMayIssue, SystemMayLeave, View}

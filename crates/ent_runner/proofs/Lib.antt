@@ -22,4 +22,5 @@ pub mod Nothing
 pub mod Drawn
 pub mod Filled
 pub mod Staged
+pub mod Used
 pub mod Common

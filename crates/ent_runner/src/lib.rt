@@ -9,9 +9,10 @@ mod logs;
 mod stage;
 mod systems;
 
-pub use blocks::fill_in_blocks;
-pub use blocks::run_in_blocks;
-pub use blocks::{RunError, check_run};
+pub use blocks::filling::fill_in_blocks;
+pub use blocks::room::check_run;
+pub use blocks::run_error::RunError;
+pub use blocks::running::run_in_blocks;
 pub use crew::{ClaimRecord, Claimer, Claims, Crew, Jobs};
 pub use either::{Either, Left, Right};
 pub use frame::gate::{Gate, NoGate};

@@ -5,6 +5,7 @@ use Rattle.ent_script.proofs.Common.{cond, refl, sym, ◌∙◌, arith, bytes_eq
 use Rattle.ent_script.proofs.Common.{BTreeMap, common_steps, get_by, Updates, slice_cmp}
 use Rattle.ent_script.proofs.Common.{btree_map_updates_str, bytes_eq-Decides, Data, as_name}
 use Rattle.ent_script.proofs.Common.{number_among, with_name, new_name, HaveNumbers}
+use Rattle.ent_script.proofs.Common.{◌-◌, length-append, map}
 use Rattle.std.specs.Ordering.{nat_cmp}
 
 -- a name's number is less than how many there are
@@ -43,6 +44,23 @@ numbers_added names numbers after name n count old none updates = λ text. rw (
   ← length-map names (λ n. n.now),
   map-append,
 ) (at_end text name.now _ (sym (old name.now) ∙ none))
+
+-- and is found there
+pub last_added : (names : List (Bor (List ℕ))) (name : Bor (List ℕ))
+    → number_among name.now (map (λ n. n.now) names) ≡ None
+    → (0 < length (names ++ name ∷ []))
+    × (number_among name.now (map (λ n. n.now) (names ++ name ∷ []))
+    ≡ Some (length (names ++ name ∷ []) - 1))
+last_added names name none = search (
+  rules,
+  arith,
+  map-append,
+  length-map,
+  length-append,
+  number_among-append name.now name.now (map (λ n. n.now) names),
+  bytes_eq-Decides,
+  none,
+)
 
 pub none_of : (found : Option ℕ) (b : Bool) → b ≡ is_some found → b ≡ false → found ≡ None
 none_of it b e h = search (rules, true≢false)

@@ -6,6 +6,7 @@ ghost use Rattle.serde_json.specs.Read.{of_members, converted};
 ghost use Rattle.ent_script.specs.Cut.{cut};
 ghost use Rattle.ent_script.specs.Part.{data_of};
 ghost use Rattle.ent_script.specs.Fields.{AreKinds, AreFields, ReadsFields};
+ghost use Rattle.ent_script.specs.Passing.{after_members};
 
 use crate::part::{Part, read_part};
 use crate::read_fault::ReadFault;
@@ -115,6 +116,7 @@ pub(crate) fn read_fields<'a>(
     ensures value { (n : ℕ) (ms : Members) (rest : List SpecToken)
         → converted (λ ms. of_members ms no_members) (members (value depth) n reader.old)
         ≡ Some (ms, rest) → ReadsFields result reader.new ms rest }
+    ensures passes { OnOk result (after_members depth reader.old ≡ Some reader.new) }
     ensures shorter { OnOk result (length reader.new ≤ length reader.old) }
     ensures no_longer { length reader.new ≤ length reader.old }
 {

@@ -11,6 +11,7 @@ ghost use Rattle.ent_script.specs.Reading.{births_before};
 ghost use Rattle.ent_script.specs.Reading.{ReadsPart, ReadsAs};
 ghost use Rattle.ent_script.specs.declared.read_fault.ReadFault.TheVariants as fault;
 ghost use Rattle.ent_script.specs.Streaming.{Streams, StreamsList, frames_of};
+ghost use Rattle.ent_script.specs.Passing.{after_value, after_items};
 ghost use Rattle.ent_script.specs.Sizes.{most_components};
 
 use crate::at::At;
@@ -159,6 +160,7 @@ fn next_operation<'a>(
     ensures binds { OnOk result ((d : Data) (rest : List SpecToken)
         → converted of_json (value depth reader.old) ≡ Some (d, rest)
         → bound.new ≡ with_part bound.old (bound_name d)) }
+    ensures passes { OnOk result (after_value depth reader.old ≡ Some reader.new) }
     ensures shorter { OnOk result (length reader.new < length reader.old) }
     ensures no_longer { length reader.new ≤ length reader.old }
 {
@@ -187,6 +189,7 @@ fn operations(
         → converted of_items (items (value depth) n reader.old) ≡ Some (ds, rest)
         → Streams result reader.new (system_of format components.now frame system (array ds))
         rest }
+    ensures passes { OnOk result (after_items depth reader.old ≡ Some reader.new) }
     ensures shorter { OnOk result (length reader.new ≤ length reader.old) }
     ensures no_longer { length reader.new ≤ length reader.old }
 {
@@ -229,6 +232,7 @@ fn system(
     ensures value { (d : Data) (rest : List SpecToken)
         → converted of_json (value depth reader.old) ≡ Some (d, rest)
         → Streams result reader.new (system_of format components.now frame number d) rest }
+    ensures passes { OnOk result (after_value depth reader.old ≡ Some reader.new) }
     ensures shorter { OnOk result (length reader.new < length reader.old) }
     ensures no_longer { length reader.new ≤ length reader.old }
 {
@@ -254,6 +258,7 @@ fn systems(
     ensures value { (n : ℕ) (ds : Items) (rest : List SpecToken)
         → converted of_items (items (value depth) n reader.old) ≡ Some (ds, rest)
         → Streams result reader.new (frame_of format components.now frame (array ds)) rest }
+    ensures passes { OnOk result (after_items depth reader.old ≡ Some reader.new) }
     ensures shorter { OnOk result (length reader.new ≤ length reader.old) }
     ensures no_longer { length reader.new ≤ length reader.old }
 {
@@ -289,6 +294,7 @@ fn frame(
     ensures value { (d : Data) (rest : List SpecToken)
         → converted of_json (value depth reader.old) ≡ Some (d, rest)
         → Streams result reader.new (frame_of format components.now number d) rest }
+    ensures passes { OnOk result (after_value depth reader.old ≡ Some reader.new) }
     ensures shorter { OnOk result (length reader.new < length reader.old) }
     ensures no_longer { length reader.new ≤ length reader.old }
 {
@@ -310,6 +316,7 @@ fn frames_inside(
     ensures value { (n : ℕ) (ds : Items) (rest : List SpecToken)
         → converted of_items (items (value depth) n reader.old) ≡ Some (ds, rest)
         → StreamsList result reader.new (frames_of format components.now (Some (array ds))) rest }
+    ensures passes { OnOk result (after_items depth reader.old ≡ Some reader.new) }
     ensures shorter { OnOk result (length reader.new ≤ length reader.old) }
     ensures no_longer { length reader.new ≤ length reader.old }
 {
@@ -343,6 +350,7 @@ pub(crate) fn frames(
     ensures value { (d : Data) (rest : List SpecToken)
         → converted of_json (value depth reader.old) ≡ Some (d, rest)
         → StreamsList result reader.new (frames_of format components.now (Some d)) rest }
+    ensures passes { OnOk result (after_value depth reader.old ≡ Some reader.new) }
     ensures shorter { OnOk result (length reader.new < length reader.old) }
     ensures no_longer { length reader.new ≤ length reader.old }
 {

@@ -13,6 +13,7 @@ mod frame;
 mod frames;
 mod front;
 mod heading;
+mod in_order;
 mod kind;
 mod leaf;
 mod names;

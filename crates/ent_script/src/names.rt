@@ -1,4 +1,4 @@
-ghost use Rattle.std.specs.Prelude.{◌≡◌, ◌<◌, [], length, map, OnOk, IfSome, IsTrue};
+ghost use Rattle.std.specs.Prelude.{◌≡◌, ◌<◌, ◌-◌, [], length, map, OnOk, IfSome, IsTrue, Some};
 ghost use Rattle.std.specs.List.{list_all};
 ghost use Rattle.ent_script.specs.Names.{is_name_byte, is_name, number_among, with_name};
 
@@ -20,11 +20,13 @@ fn are_name_bytes(bytes: &[u8]) -> bool
     bytes.iter().all(|byte| byte.is_ascii_lowercase() || byte.is_ascii_digit() || *byte == b'_')
 }
 
-/// Different names in order, each found in logarithmic time.
+/// Different names in order, each found in logarithmic time, and the last one at once: mostly a
+/// name is used soon after it is bound.
 #[derive(Drop)]
 pub(crate) struct Names<'a> {
     list: Vec<&'a str>,
     numbers: BTreeMap<&'a str, usize>,
+    last: Option<&'a str>,
 }
 
 impl<'a> Model for Names<'a> {
@@ -32,11 +34,11 @@ impl<'a> Model for Names<'a> {
 
     ghost Value = { List (List ℕ) };
 
-    ghost use Rattle.ent_script.specs.Numbers.{HaveNumbers};
+    ghost use Rattle.ent_script.specs.Numbers.{HaveNumbers, IsLast};
 
     ghost view = { λ n. map (λ name. name.now) n.list.items };
 
-    ghost invariant = { λ n. HaveNumbers n.list.items n.numbers };
+    ghost invariant = { λ n. HaveNumbers n.list.items n.numbers × IsLast n.list.items n.last };
 }
 
 impl<'a> Names<'a> {
@@ -47,6 +49,7 @@ impl<'a> Names<'a> {
         Names {
             list: Vec::new(alloc),
             numbers: BTreeMap::new(alloc),
+            last: None,
         }
     }
 
@@ -62,20 +65,35 @@ impl<'a> Names<'a> {
         ensures value { result ≡ number_among name.now self.now }
         ensures within { IfSome result (λ number. number < length self.now) }
     {
+        if self.is_last(name) {
+            return Some(self.list.len() - 1);
+        }
         self.numbers.get(name).copied()
+    }
+
+    /// Whether it is the last name.
+    fn is_last(&self, name: &str) -> bool
+        ensures last { IsTrue result → number_among name.now self.now ≡ Some (length self.now - 1) }
+        ensures some { IsTrue result → 0 < length self.now }
+    {
+        match self.last {
+            Some(last) => last == name,
+            None => false,
+        }
     }
 
     /// Puts the name last, unless it is there.
     pub(crate) fn add(&mut self, name: &'a str) -> Result<(), Memory>
         ensures ok { OnOk result (self.new ≡ with_name self.old name.now) }
     {
-        if self.numbers.contains_key(name) {
+        if self.is_last(name) || self.numbers.contains_key(name) {
             return Ok(());
         }
         self.list.reserve(1)?;
         let number = self.list.as_slice().len();
         self.numbers.insert(name, number)?;
         self.list.push_reserved(name);
+        self.last = Some(name);
         Ok(())
     }
 

@@ -26,6 +26,7 @@ use crate::frame::Frame;
 use crate::frames::frames;
 use crate::front::Front;
 use crate::heading::Heading;
+use crate::in_order::script_in_order;
 use crate::names::Names;
 use crate::passing::pass_value;
 use crate::read_fault::ReadFault;
@@ -61,7 +62,7 @@ fn format(part: Option<&Value>) -> Result<Format, ScriptCause>
 
 /// The heading, after the tests of all that comes before it.
 #[tactic(auto, unfolding(crate::specs::Reading::heading_of))]
-fn heading(value: &Value) -> Result<Heading, ScriptCause>
+pub(crate) fn heading(value: &Value) -> Result<Heading, ScriptCause>
     ensures { result ≡ heading_of (view value.now) }
 {
     let found = members(value).ok_or(ScriptCause::Top)?;
@@ -92,7 +93,10 @@ fn new_name<'a>(names: &Names<'_>, value: &'a Value) -> Option<&'a str>
 }
 
 /// The names that all of the values are, no two the same.
-fn different_names<'a>(alloc: Global, values: &'a [Value]) -> Result<Names<'a>, ReadFault>
+pub(crate) fn different_names<'a>(
+    alloc: Global,
+    values: &'a [Value],
+) -> Result<Names<'a>, ReadFault>
     ensures names { ReadsAs result (in_script (numbered (component_at (map view values.now)) 0
         (map view values.now))) }
     ensures few { IfOk result (λ names. length names ≤ length values.now) }
@@ -106,7 +110,7 @@ fn different_names<'a>(alloc: Global, values: &'a [Value]) -> Result<Names<'a>, 
 }
 
 /// The names as texts of their own.
-fn owned(alloc: Global, names: &[&str]) -> Result<Vec<String>, ReadFault>
+pub(crate) fn owned(alloc: Global, names: &[&str]) -> Result<Vec<String>, ReadFault>
     ensures ok { IfOk result (λ texts. map string_bytes texts.items
         ≡ map (λ name. name.now) names.now) }
     ensures err { IfErr result (λ fault. fault ≡ Memory) }
@@ -119,7 +123,7 @@ fn owned(alloc: Global, names: &[&str]) -> Result<Vec<String>, ReadFault>
 }
 
 /// How deep arrays and objects nest at most.
-const DEPTH: usize = 127;
+pub(crate) const DEPTH: usize = 127;
 
 /// What a text says before its frames. If the text is no JSON, that is found first.
 fn front_in(alloc: Global, text: &str, scratch: &mut Scratch) -> Result<Front, ReadFault>
@@ -140,7 +144,7 @@ fn front_in(alloc: Global, text: &str, scratch: &mut Scratch) -> Result<Front, R
 }
 
 /// Takes the brace that begins an object, if one is next.
-fn opens(reader: &mut Reader<'_>) -> bool
+pub(crate) fn opens(reader: &mut Reader<'_>) -> bool
     ensures { MatchBool result (reader.old ≡ begin_object ∷ reader.new)
         (begins_object reader.old ≡ false) }
 {
@@ -224,8 +228,9 @@ fn script_in(
 
 /// The script that a JSON text means.
 ///
-/// It takes time linear in the text, and logarithmic time for each look-up of a name. The text is
-/// read twice, and no more than one operation is kept at a time as a value.
+/// It takes time linear in the text, and logarithmic time for each look-up of a name. A script whose
+/// frames come last is read once. Any other text is read again from the start, twice. No more than
+/// one operation is kept at a time as a value.
 ///
 /// # Errors
 ///
@@ -239,6 +244,11 @@ pub fn read_script(alloc: Global, text: &[u8]) -> Result<Script, ReadFault>
         return Err(ReadFault::Json);
     };
     let mut scratch = Scratch::new(alloc);
+    match script_in_order(alloc, checked, &mut scratch) {
+        Ok(script) => return Ok(script),
+        Err(ReadFault::Memory) => return Err(ReadFault::Memory),
+        Err(_) => (),
+    }
     let front = front_in(alloc, checked, &mut scratch)?;
     script_in(alloc, front, checked, &mut scratch)
 }

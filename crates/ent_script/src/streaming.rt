@@ -8,6 +8,7 @@ ghost use Rattle.serde_json.specs.Read.{of_json, of_items, converted};
 ghost use Rattle.ent_script.specs.declared.read_fault.ReadFault.TheVariants.{Json, Memory};
 ghost use Rattle.ent_script.specs.Fields.{BeginsObject};
 ghost use Rattle.ent_script.specs.Passing.{Passes, left, after_value, after_items};
+ghost use Rattle.ent_script.specs.Passing.{after_members};
 ghost use Rattle.ent_script.specs.Streaming.{BeginsArray, PassesAtMost, FaultOfArray};
 ghost use Rattle.ent_script.specs.Streaming.{ReadsElements};
 
@@ -47,6 +48,8 @@ pub(crate) fn begins_object(reader: &mut Reader<'_>, depth: usize) -> Result<boo
     ensures value { (d : Data) (rest : List SpecToken)
         → converted of_json (value depth reader.old) ≡ Some (d, rest)
         → BeginsObject depth result reader.new d rest }
+    ensures passes { result ≡ Ok true
+        → after_value depth reader.old ≡ after_members (depth - 1) reader.new }
     ensures deep { result ≡ Ok true → 0 < depth }
     ensures shorter { OnOk result (length reader.new < length reader.old) }
     ensures no_longer { length reader.new ≤ length reader.old }

@@ -3,8 +3,12 @@ use Rattle.ent_total.proofs.Common.{rules, ◌≡◌, ◌∙◌, refl, ap, sym, 
 use Rattle.ent_total.proofs.Common.{[], ◌∷◌, ◌++◌, arith, length, map, take, drop}
 use Rattle.ent_total.specs.Lending.{AreFrom, lent_out, returned}
 use Rattle.ent_total.specs.Phases.{Reserver, reservers_of}
-use Rattle.std.specs.Prelude.{suc}
-use Rattle.std.proofs.lemmas.List.Elements.{All-cons, All-map, All-tail}
+use Rattle.std.specs.Prelude.{suc, ◌⊎◌}
+use Rattle.std.proofs.Common.{inl, inr, ⊎_elim}
+use Rattle.ent_runner.specs.Blocks.Refusing.{IfLost, IfNotLost}
+use Rattle.ent_runner.specs.declared.blocks.run_error.RunError.{RunError}
+use Rattle.ent_runner.specs.declared.blocks.run_error.RunError.TheVariants as failed
+use Rattle.std.proofs.lemmas.List.Elements.{All-cons, All-map, All-nil, All-same, All-tail}
 use Rattle.ent_blocks.specs.Blocks.{Reserver as BlockReserver}
 use Rattle.std.proofs.Common.{get_or, set}
 use Rattle.std.proofs.lemmas.List.{length-map, length-take, drop_more, get_or_at, length-append}
@@ -79,3 +83,78 @@ walked_length f xs ys i is =
     ap length is ∙ length-append (map f (take i xs)) (drop i xs)
     ∙ ap (λ n. n + length (drop i xs)) (length-map (take i xs) f)
     ∙ sym (length-append (take i xs) (drop i xs)) ∙ ap length (take-append-drop i xs)
+
+-- Reservers that were lent out, after they got back what a run of systems handed back.
+module _ {S : Type 0} (old new : List (Reserver S BlockReserver)) (back : List BlockReserver)
+    (is : new ≡ returned (map lent_out old) back) where
+  same_of_all : length back ≡ length old
+      → (reservers_of new ≡ back) × (new ≡ returned old (reservers_of new))
+  same_of_all many =
+      let whole : new ≡ returned old back = is ∙ returned_lent old back many in
+      let of : reservers_of new ≡ back =
+      ap reservers_of whole ∙ reservers-returned old back many in
+      (of, whole ∙ ap (returned old) (sym of))
+
+  pub all_back : length back ≡ length old → reservers_of new ≡ back
+  all_back many = (same_of_all many).0
+
+  pub same_back : length back ≡ length old → new ≡ returned old (reservers_of new)
+  same_back many = (same_of_all many).1
+
+  -- none came back
+  pub none_back : back ≡ [] → new ≡ map lent_out old
+  none_back none = is ∙ ap (returned (map lent_out old)) none
+
+  pub same_if_none : back ≡ [] → new ≡ returned old (reservers_of new)
+  same_if_none none = none_back none ∙ lent_returned old
+      ∙ ap (λ l. returned old (reservers_of l)) (sym (none_back none))
+    where
+      lent_returned : (rs : List (Reserver S BlockReserver))
+          → map lent_out rs ≡ returned rs (reservers_of (map lent_out rs))
+      lent_returned [] = refl
+      lent_returned (r ∷ rs) = ap (λ l. lent_out r ∷ l) (lent_returned rs)
+
+  -- they came back as they were
+  pub unchanged_back : back ≡ reservers_of old → new ≡ old
+  unchanged_back same =
+      is ∙ returned_lent old back (ap length same ∙ length-map old (λ r. r.reserver))
+      ∙ ap (returned old) same ∙ returned_all old
+
+module _ {E : Type 0} where
+  -- a run that failed hands back all as they were, or none
+  pub all_or_none : {X : Type 0} (e : RunError E) (back lent : List X) → IfNotLost (back ≡ lent) e
+      → IfLost (λ _. back ≡ []) e → (back ≡ lent) ⊎ (back ≡ [])
+  all_or_none failed.Workers back lent same none = inl same
+  all_or_none failed.Systems back lent same none = inl same
+  all_or_none failed.Reservers back lent same none = inl same
+  all_or_none failed.OtherPhase back lent same none = inl same
+  all_or_none failed.Memory back lent same none = inl same
+  all_or_none (failed.Lost error) back lent same none = inr none
+
+  pub if_not_lost : {A B : Type 0} (e : RunError E) → (A → B) → IfNotLost A e → IfNotLost B e
+  if_not_lost failed.Workers f a = f a
+  if_not_lost failed.Systems f a = f a
+  if_not_lost failed.Reservers f a = f a
+  if_not_lost failed.OtherPhase f a = f a
+  if_not_lost failed.Memory f a = f a
+  if_not_lost (failed.Lost error) f a = tt
+
+  pub if_lost : {A B : Type 0} (e : RunError E) → (A → B) → IfLost (λ _. A) e → IfLost (λ _. B) e
+  if_lost failed.Workers f a = tt
+  if_lost failed.Systems f a = tt
+  if_lost failed.Reservers f a = tt
+  if_lost failed.OtherPhase f a = tt
+  if_lost failed.Memory f a = tt
+  if_lost (failed.Lost error) f a = f a
+
+-- so each of those is what each of these is, and there are no more
+module _ {X : Type 0} (back lent : List X) (are : (back ≡ lent) ⊎ (back ≡ [])) where
+  pub own_if : (P : X → Type 0) → All P lent → All P back
+  own_if P all =
+      ⊎_elim (λ same. All-same P back lent same all) (λ none. All-same P back [] none (All-nil P)) are
+
+  pub few_if : length back ≤ length lent
+  few_if = ⊎_elim
+      (λ same. let long = ap length same in omega arith)
+      (λ none. let long = ap length none in omega arith)
+      are

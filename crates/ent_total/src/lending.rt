@@ -58,6 +58,8 @@ pub(crate) fn lend_all<J: Numbering, S: OfBlocks>(
 ) -> Result<Vec<BlockReserver>, Memory>
     ensures lent { IfOk result (λ lent. lent.items ≡ reservers_of reservers.old) }
     ensures left { OnOk result (reservers.new ≡ map lent_out reservers.old) }
+    ensures own { (source : S) → AreFrom source reservers.old
+        → IfOk result (λ lent. All (IsOfPhase (S.of source)) lent.items) }
     ensures memory { OnErr result (0 < length reservers.old) }
     ensures err { OnErr result (reservers.new ≡ reservers.old) }
 {

@@ -118,16 +118,17 @@ where
     let Ok(lent) = lend_all(alloc, reservers) else {
         return Err(RunError::Memory);
     };
-    let blocks = phase.server().blocks();
-    match ent_runner::run_in_blocks(rt, alloc, blocks, lent, systems, workers) {
+    let source = phase.server();
+    let dealt = source.blocks();
+    match ent_runner::run_in_blocks(rt, alloc, dealt, lent, systems, workers) {
         Ok((logs, lent)) => {
-            put_back(reservers, phase.server(), lent);
+            put_back(reservers, source, lent);
             Ok(logs)
         }
         Err(back) => {
             // None, if they are lost.
             let (lent, error) = back.into_parts();
-            put_back(reservers, phase.server(), lent);
+            put_back(reservers, source, lent);
             Err(error)
         }
     }

@@ -12,7 +12,7 @@ use Rattle.ent_world.proofs.Common.{eq-eqb, ◌++◌, length, none-some, same_So
 use Rattle.ent_world.proofs.Common.{birth_of, Command, ordinal, handles_listed, listed_birth}
 use Rattle.ent_world.proofs.Common.{first_birth, next_birth, birth_after, named, named_handles}
 use Rattle.ent_world.proofs.Common.{named_queues, or_left, or_right, not, ◌&&◌, true≢false, is_none}
-use Rattle.ent_world.proofs.Common.{Contains-permutation, any-filter_same}
+use Rattle.ent_world.proofs.Common.{Contains-permutation, any-filter_same, ◌∙◌}
 use Rattle.ent_world.proofs.Common.{handle_cmp-IsAntisymmetric, Allocator, born, after_flush}
 use Rattle.ent_world.proofs.Common.{IsSound, stands_in-from_Contains, live-after_flush, live-stays}
 use Rattle.ent_world.proofs.Common.{born-IsPermutation, born-lives, born-apart, born-not_live}
@@ -27,6 +27,20 @@ pub named-append : (born : List Handle) (birth : Birth) (xs ys : List Handle) (m
 named-append born birth [] ys m = refl
 named-append born birth (x ∷ xs) ys m =
     named-append born (next_birth birth) xs ys (named born x birth m)
+
+-- if nobody is born, no handle gets a birth
+pub named_handles-nobody : (birth : Birth) (hs : List Handle) (m : EntityMap)
+    → named_handles [] birth hs m ≡ m
+named_handles-nobody birth [] m = refl
+named_handles-nobody birth (h ∷ hs) m = named_handles-nobody (next_birth birth) hs m
+
+pub named_queues-nobody : (phase system : ℕ) (queues : List (List Command)) (m : EntityMap)
+    → named_queues [] phase system queues m ≡ m
+named_queues-nobody phase system [] m = refl
+named_queues-nobody phase system (queue ∷ queues) m =
+    named_queues-nobody phase (system + 1) queues
+    (named_handles [] (first_birth phase system) (handles_listed queue) m)
+    ∙ named_handles-nobody (first_birth phase system) (handles_listed queue) m
 
 -- what a map has after births were given: an entity that has none of a system gets its own
 abbrev pub or_named : Option Entity → Option Birth → Option Entity

@@ -16,7 +16,7 @@ use Rattle.ent_world.proofs.Left.{commands_cut-step, commands_left-skip, each_le
 use Rattle.ent_world.proofs.Kept.{keys-components, same_keys-components}
 use Rattle.ent_world.proofs.PlacedRows.{anyhow, end_taken_back, on_err, on_ok, some_entity}
 use Rattle.ent_world.proofs.PlacedRows.{taken_back, new_later, stands_nowhere}
-use Rattle.ent_world.proofs.Born.{named-append, named_before}
+use Rattle.ent_world.proofs.Born.{named-append, named_before, named_queues-nobody}
 
 pub ruleset laws = (
   common_steps,
@@ -40,6 +40,7 @@ pub ruleset laws = (
   letters,
   named-append,
   named_before,
+  named_queues-nobody,
   new_later,
   next_left,
   next_takes_memory,

@@ -1,4 +1,3 @@
-pub mod Dealt
 pub mod OneCourse
 mod WorkedSystems
 pub mod SystemRunning

@@ -7,7 +7,7 @@ use Rattle.spawnrun_lib.proofs.Common.{cases_lt, false≢true, get_or_default, B
 use Rattle.spawnrun_lib.proofs.Common.{birth_cmp_total, birth_cmp-IsAntisymmetric, Handle}
 use Rattle.spawnrun_lib.proofs.Common.{handle_cmp, handle_cmp_total, birth_order, ListsAll}
 use Rattle.spawnrun_lib.proofs.Common.{EntityMap, birth_of, same_birth, View, is_before}
-use Rattle.spawnrun_lib.proofs.Common.{IsFirstFrom}
+use Rattle.spawnrun_lib.proofs.Common.{IsFirstFrom, ◌-◌}
 
 abbrev key_cmp : Option Birth → Option Birth → Ordering
 key_cmp = option_cmp birth_cmp
@@ -59,6 +59,34 @@ module _ (view : View) (birth : Birth) where
         before_too (get_or handles i d) (get_or handles j d),
         lists.rising i j d,
       )
+
+  module _ (handles : List Handle) (lists : ListsAll m handles) (index : ℕ) (d e : Handle)
+      (within : index < length handles)
+      (later : is_before view birth (get_or handles index d) ≡ false) where
+    -- from there on nobody has an earlier birth
+    later_too : (k : ℕ) (f : Handle) → index ≤ k → k < length handles
+        → is_before view birth (get_or handles k f) ≡ false
+    later_too k f le lt = search (
+      rules,
+      false≢true,
+      parted handles lists index k f le lt,
+      get_or_default handles index d f within,
+      later,
+    )
+
+    -- a guess that was right
+    pub first_of_all : index ≡ 0 → IsFirstFrom view birth handles index
+    first_of_all none = (λ k f z lt. absurd (omega (arith, none, lt)), later_too)
+
+    pub first_behind : (index ≡ 0 → ⊥)
+        → is_before view birth (get_or handles (index - 1) e) ≡ true
+        → IsFirstFrom view birth handles index
+    first_behind some before = (
+      λ k f z lt.
+          parted handles lists k (index - 1) f (omega (arith, lt)) (omega (arith, within, lt))
+          (rw (← get_or_default handles (index - 1) e f (omega (arith, within, lt))) before),
+      later_too,
+    )
 
   -- who has a birth is listed
   listed : (handles : List Handle) → ListsAll m handles → (h : Handle) → birth_of m h ≡ Some birth

@@ -1,6 +1,8 @@
 //! One frame of a script whose systems get their handles from blocks.
-ghost use Rattle.std.specs.Prelude.{◌≡◌, ◌<◌, ◌≤◌, length, List, IfOk, IsErrOf};
+ghost use Rattle.std.specs.Prelude.{◌≡◌, ◌<◌, ◌≤◌, length, List, Option, IfOk, IsErrOf};
+ghost use Rattle.ent_handle.specs.declared.memory.Memory.{Memory};
 ghost use Rattle.ent_queue.specs.Command.{Command};
+ghost use Rattle.ent_runner.specs.declared.blocks.run_error.RunError.TheVariants as failed;
 ghost use Rattle.ent_script.specs.Sizes.{most_systems};
 ghost use Rattle.spawnrun_lib.specs.ReportInBlocks.{sizes_of};
 ghost use Rattle.spawnrun_lib.specs.CourseInBlocks.{EndsInBlocks, StopsInBlocks};
@@ -34,6 +36,16 @@ fn sizes(alloc: Global, size: u32, systems: &[System]) -> Result<Vec<u32>, Memor
     Ok(sizes)
 }
 
+/// Why a frame didn't end whose systems were refused or broken off.
+fn why_undone(error: RunError) -> Undone
+    ensures { result ≡ Undone.Lost → (first : Option Memory) × (error ≡ failed.Lost first) }
+{
+    match error {
+        RunError::Lost(_) => Undone::Lost,
+        _ => Undone::Memory,
+    }
+}
+
 /// Runs the systems in blocks of these sizes, and the sync point.
 fn run_dealt<R>(
     rt: &R,
@@ -64,10 +76,8 @@ where
     let (queues, reservers) = match filled {
         Ok(filled) => filled,
         Err(refused) => {
-            return Err(match refused.into_parts().1 {
-                RunError::Lost(_) => Undone::Lost,
-                _ => Undone::Memory,
-            });
+            let (_, error) = refused.into_parts();
+            return Err(why_undone(error));
         }
     };
     let Ok(mut world) = rest.settle(blocks.close(reservers)) else {

@@ -1,4 +1,5 @@
 ghost use Rattle.std.specs.Prelude.{◌≡◌, ◌≢◌, ◌∷◌, [], IfOk, IfSome, IfNone, OnErr};
+ghost use Rattle.std.specs.Prelude.{IsTrue};
 ghost use Rattle.std.specs.FinMap as map;
 ghost use Rattle.ent_storage.specs.BirthOrder.{ListsAll};
 ghost use Rattle.spawnrun_lib.specs.Issuing.{IsOfBirth};
@@ -14,10 +15,15 @@ use std::marker::Model;
 const LOOKS: u32 = 2;
 
 /// The entities of a view in the order of their births, listed once many births are looked up.
+///
+/// Where a system's spawns all live, each stands as far behind another as it was spawned after it.
+/// So a birth is first looked for as far from its ordinal as the one before was.
 #[derive(Drop)]
 pub(crate) struct Roll {
     handles: Vec<Handle>,
     looks: u32,
+    ahead: usize,
+    behind: usize,
 }
 
 impl Model for Roll {
@@ -37,6 +43,8 @@ impl Roll {
         Roll {
             handles: Vec::new(alloc),
             looks: 0,
+            ahead: 0,
+            behind: 0,
         }
     }
 
@@ -58,17 +66,26 @@ impl Roll {
         if self.handles.is_empty() {
             self.handles = view.by_birth()?;
         }
-        Ok(of_birth(&self.handles, view, birth))
+        let ordinal = birth.ordinal as usize;
+        let guess = ordinal
+            .saturating_add(self.ahead)
+            .saturating_sub(self.behind);
+        let index = first_from(&self.handles, view, birth, guess);
+        self.ahead = index.saturating_sub(ordinal);
+        self.behind = ordinal.saturating_sub(index);
+        Ok(of_birth(&self.handles, view, birth, index))
     }
 }
 
-/// The same among the handles of all entities, in the order of births.
-fn of_birth(handles: &[Handle], view: &View<'_>, birth: Birth) -> Option<Handle>
-    requires { ListsAll view.now.entities handles.now }
+/// The same among the handles of all entities, in the order of births. So many of them have an
+/// earlier birth.
+fn of_birth(handles: &[Handle], view: &View<'_>, birth: Birth, index: usize) -> Option<Handle>
+    requires lists { ListsAll view.now.entities handles.now }
+    requires first { IsFirstFrom view.now birth handles.now index }
     ensures found { IfSome result (λ handle. IsOfBirth view.now birth (handle ∷ [])) }
     ensures none { IfNone result (IsOfBirth view.now birth []) }
 {
-    let first = *handles.get(first_from(handles, view, birth))?;
+    let first = *handles.get(index)?;
     if view.birth(first) == Some(birth) {
         Some(first)
     } else {
@@ -76,12 +93,27 @@ fn of_birth(handles: &[Handle], view: &View<'_>, birth: Birth) -> Option<Handle>
     }
 }
 
-/// How many of the handles have an earlier birth.
-fn first_from(handles: &[Handle], view: &View<'_>, birth: Birth) -> usize
+/// How many of the handles have an earlier birth. The guess is tried first.
+fn first_from(handles: &[Handle], view: &View<'_>, birth: Birth, guess: usize) -> usize
     requires { ListsAll view.now.entities handles.now }
     ensures { IsFirstFrom view.now birth handles.now result }
 {
+    if is_first(handles, view, birth, guess) {
+        return guess;
+    }
     handles.partition_point(|handle| is_before(view, *handle, birth))
+}
+
+/// Whether there is a handle at the index, and those before it, and no others, have an earlier
+/// birth.
+fn is_first(handles: &[Handle], view: &View<'_>, birth: Birth, index: usize) -> bool
+    requires { ListsAll view.now.entities handles.now }
+    ensures { IsTrue result → IsFirstFrom view.now birth handles.now index }
+{
+    if index >= handles.len() || is_before(view, handles[index], birth) {
+        return false;
+    }
+    index == 0 || is_before(view, handles[index - 1], birth)
 }
 
 /// Whether the entity has an earlier birth.

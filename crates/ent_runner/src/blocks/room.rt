@@ -32,11 +32,7 @@ pub(super) struct Room<O, E> {
 ///
 /// The first of these that holds: [`RunError::Workers`], [`RunError::Systems`],
 /// [`RunError::Reservers`].
-pub fn check_run<E>(
-    reservers: usize,
-    systems: usize,
-    workers: usize,
-) -> Result<(), RunError<E>>
+pub fn check_run<E>(reservers: usize, systems: usize, workers: usize) -> Result<(), RunError<E>>
     ensures some { OnOk result (0 < workers) }
     ensures few { OnOk result (workers ≤ 64) }
     ensures within { OnOk result (systems ≤ 2 ^ 16) }

@@ -48,7 +48,8 @@ returns-clause-own c =
       rows = c.args.entities.rows;
       blocks = c.in-Ok-parts_of.parts.items;
     }) c.hand_out.new.reservers.items
-    (dealt (goal.at.returns-clause-own c).In-Ok-parts_of).laid (c.hand_out.ensures.reservers ∙ c.deref.ensures.value))
+    (dealt (goal.at.returns-clause-own c).In-Ok-parts_of).laid
+    (c.hand_out.ensures.reservers ∙ c.deref.ensures.value))
 
 pub returns-clause-many : goal.returns-clause-many
 returns-clause-many c =

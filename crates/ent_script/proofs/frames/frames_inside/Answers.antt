@@ -3,6 +3,7 @@ use Rattle.ent_script.proofs.Common.{value, frame_of}
 use Rattle.ent_script.specs.declared.cause.ScriptCause.TheVariants as script_cause
 use Rattle.ent_script.specs.declared.read_fault.ReadFault.TheVariants as fault
 use Rattle.ent_script.proofs.Listing.{at_next, at_end, at_most_many, at_fault, fault_streams_list}
+use Rattle.ent_script.proofs.Turns.{goes_on, goes_over}
 use Rattle.ent_script.proofs.frames.frames_inside.Goals as goal
 
 pub returns-then-number-eq-FRAMES-clause-value : goal.returns-then-number-eq-FRAMES-clause-value
@@ -34,6 +35,9 @@ frames-preserved c =
       at = λ n ds rest e. rw c.in_ok-push-in-Ok.ensures.items (at_next _ _ _ _ _ _ _ ds rest
           (l.invariant.at n ds rest e) going.0
           (λ d r is. c.in-Ok.ensures.value d r (rw going.1 is)));
+      passed =
+          λ n h. goes_on (value c.args.depth) _ l.reader _ (l.invariant.passed n h) going.0
+          (rw (← going.1) c.in-Ok.ensures.passes) (rw (← going.1) c.in-Ok.ensures.shorter);
       few = omega (arith, l.invariant.few);
       shorter = omega (arith, l.invariant.shorter, ap length going.1, c.in-Ok.ensures.shorter);
     }
@@ -45,3 +49,7 @@ returns-clause-value c n ds rest e =
     (fault.Script script_cause.Frames)
     _ _ _ c.take_end_array.new.self ds rest (c.frames.invariant.at n ds rest e) in
     search (rules, over)
+
+pub returns-clause-passes : goal.returns-clause-passes
+returns-clause-passes c = goes_over (value c.args.depth) _ _ _
+    (c.frames.invariant.passed (length c.args.reader.now) (omega arith)) (grind arith)

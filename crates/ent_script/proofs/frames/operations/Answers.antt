@@ -3,6 +3,7 @@ use Rattle.ent_script.proofs.Common.{after_end_array, value, list_of, system_of,
 use Rattle.ent_script.specs.declared.read_fault.ReadFault.TheVariants as fault
 use Rattle.ent_script.proofs.Listing.{at_end, at_most_many, at_fault, fault_streams, reached_next}
 use Rattle.ent_script.proofs.Listing.{listed_among}
+use Rattle.ent_script.proofs.Turns.{goes_on, goes_over}
 use Rattle.ent_script.proofs.frames.operations.Goals as goal
 
 pub returns-then-number-eq-OPERATIONS-clause-value :
@@ -46,6 +47,9 @@ operations-preserved c =
           (reached_next _ _ _ _ _ _ _ ds _ _ _ at going.0 (λ d r is. rw (← at.6)
           (c.in-Ok.ensures.value d r (rw going.1 is))) (λ d r is.
           c.in-Ok.ensures.binds d r (rw going.1 is)));
+      passed =
+          λ n h. goes_on (value c.args.depth) _ l.reader _ (l.invariant.passed n h) going.0
+          (rw (← going.1) c.in-Ok.ensures.passes) (rw (← going.1) c.in-Ok.ensures.shorter);
       few = omega (arith, l.invariant.few);
       shorter = omega (arith, l.invariant.shorter, ap length going.1, c.in-Ok.ensures.shorter);
     }
@@ -61,3 +65,7 @@ returns-clause-value c n ds rest e =
     rest
     (at.0, at.1, at.2, at.3, at.4) in
     rw (listed_among 10000 g limit (list_of ds)) (search (rules, over))
+
+pub returns-clause-passes : goal.returns-clause-passes
+returns-clause-passes c = goes_over (value c.args.depth) _ _ _
+    (c.operations.invariant.passed (length c.args.reader.now) (omega arith)) (grind arith)

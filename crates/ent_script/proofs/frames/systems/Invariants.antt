@@ -1,6 +1,8 @@
 use Rattle.ent_script.proofs.Common.{◌≡◌, ℕ, ◌≤◌, List, length, Some, Token, items, value, Items}
 use Rattle.ent_script.proofs.Common.{of_items, converted, system_of}
+use Rattle.ent_script.proofs.Common.{left}
 use Rattle.ent_script.proofs.Listing.{At}
+use Rattle.ent_script.proofs.Turns.{Goes}
 use Rattle.ent_script.proofs.frames.systems.Given as goal
 
 abbrev pub invariant-systems : goal.invariant-systems
@@ -11,6 +13,8 @@ invariant-systems l = record {
       → At (value l.depth) (system_of l.format l.components l.frame) l.systems.items l.number
       l.reader
       ds rest;
+  passed : (n : ℕ) → length l.initial.reader ≤ n → Goes (value l.depth)
+      (left (converted of_items (items (value l.depth) n l.initial.reader))) l.reader;
   few : l.number ≤ 256;
   shorter : length l.reader ≤ length l.initial.reader;
 }

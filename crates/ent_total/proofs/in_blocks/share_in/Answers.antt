@@ -12,9 +12,9 @@ returns-in-Ok-begin-clause-fresh g c = rw c.in-Ok-begin.ensures.opening c.in-Ok-
 
 pub returns-in-Err-begin-clause-no_count : goal.returns-in-Err-begin-clause-no_count
 returns-in-Err-begin-clause-no_count g c =
-    let fits : g.S.Deals.may_have (length c.args.sizes.now) = search rules in
-    (
-      λ is. let no : Memory ≡ Count = sym (ap (λ h. h.error) c.new-in-Err-begin.ensures) ∙ is in absurd (cc),
+    let fits : g.S.Deals.may_have (length c.args.sizes.now) = search rules in (
+      λ is. let no : Memory ≡ Count =
+          sym (ap (λ h. h.error) c.new-in-Err-begin.ensures) ∙ is in absurd (cc),
       λ h. absurd (h.1 fits),
     )
 

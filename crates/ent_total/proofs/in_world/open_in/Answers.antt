@@ -16,7 +16,8 @@ returns-in-Ok-begin-clause-fresh g c = rw c.in-Ok-begin.ensures.opening c.in-Ok-
 
 pub returns-in-Ok-begin-clause-needs_flush : goal.returns-in-Ok-begin-clause-needs_flush
 returns-in-Ok-begin-clause-needs_flush g c =
-    (λ no. absurd no, λ some. let yes = c.needs_flush.ensures.1 some in let no = c.if-needs_flush.false in absurd (cc))
+    let no = c.if-needs_flush.false in
+    (λ no. absurd no, λ some. let yes = c.needs_flush.ensures.1 some in absurd (cc))
 
 pub returns-in-Ok-begin-clause-no_count : goal.returns-in-Ok-begin-clause-no_count
 returns-in-Ok-begin-clause-no_count g c =
@@ -26,7 +27,8 @@ pub returns-in-Err-begin-clause-needs_flush : goal.returns-in-Err-begin-clause-n
 returns-in-Err-begin-clause-needs_flush g c = (
   λ is. let no : Memory ≡ NeedsFlush = sym (ap (λ h. h.error) c.new-in-Err-begin.ensures) ∙ is in
       absurd (cc),
-  λ some. let yes = c.needs_flush.ensures.1 some in let no = c.if-needs_flush.false in absurd (cc),
+  λ some. let yes = c.needs_flush.ensures.1 some in
+      let no = c.if-needs_flush.false in absurd (cc),
 )
 
 pub returns-in-Err-begin-clause-no_count : goal.returns-in-Err-begin-clause-no_count

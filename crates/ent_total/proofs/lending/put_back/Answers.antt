@@ -14,9 +14,16 @@ put_back-requires g c =
     walked _ _ _ _ c.in-Some.ensures.steps.0 _ i.all (IsOfPhase (g.S.OfBlocks.of c.args.source.now))
     i.own in
     let few : at < length c.loop-mine.reservers =
-    omega (arith, c.requires.few, ap length i.all, w.3, i.at, ap length i.back,
+    omega (
+      arith,
+      c.requires.few,
+      ap length i.all,
+      w.3,
+      i.at,
+      ap length i.back,
       length-returned c.args.reservers.now c.loop-mine.yielded,
-      length-append c.loop-mine.yielded c.loop-mine.mine-iterator.rest.items) in
+      length-append c.loop-mine.yielded c.loop-mine.mine-iterator.rest.items,
+    ) in
     let from : AreFrom c.args.source.now c.loop-mine.reservers =
     subst (AreFrom c.args.source.now) (sym i.back)
     (sources_stay c.args.source.now c.args.reservers.now c.loop-mine.yielded c.requires.from) in
@@ -30,8 +37,13 @@ loop-mine-preserved g c =
     walked _ _ _ _ c.in-Some.ensures.steps.0 _ i.all (IsOfPhase (g.S.OfBlocks.of c.args.source.now))
     i.own in
     let few : length c.loop-mine.yielded < length c.args.reservers.now =
-    omega (arith, c.requires.few, ap length i.all, w.3,
-      length-append c.loop-mine.yielded c.loop-mine.mine-iterator.rest.items) in
+    omega (
+      arith,
+      c.requires.few,
+      ap length i.all,
+      w.3,
+      length-append c.loop-mine.yielded c.loop-mine.mine-iterator.rest.items,
+    ) in
     record {
       all = w.0;
       at = omega (arith, i.at, length-append c.loop-mine.yielded (c.in-Some.mine ∷ []));

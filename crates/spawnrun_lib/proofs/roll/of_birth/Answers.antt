@@ -18,6 +18,6 @@ returns-else-eq-clause-none c =
     let other : birth_of c.args.view.now.entities h ≢ Some c.args.birth =
     λ is. other_if_not c.birth.result c.args.birth
     (sym tests ∙ c.if-eq.false) (c.birth.ensures ∙ is) in
-    none_here c.args.view.now c.args.birth c.args.handles.now c.requires c.first_from.result
-    c.first_from.ensures h
+    none_here c.args.view.now c.args.birth c.args.handles.now c.requires.lists c.args.index
+    c.requires.first h
     at.3.0 (sym at.1) other

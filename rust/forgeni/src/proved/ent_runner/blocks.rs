@@ -3,13 +3,8 @@
 //! Logs and queues that systems fill side by side, each from a block of handles of its own: so
 //! which handles a system gets depends on no other system, and on no thread.
 
-mod filling;
-mod room;
-mod run_error;
-mod running;
+pub(super) mod filling;
+pub(super) mod room;
+pub(super) mod run_error;
+pub(super) mod running;
 mod splitting;
-
-pub(crate) use crate::running::blocks::filling::fill_in_blocks;
-pub use crate::running::blocks::room::check_run;
-pub use crate::running::blocks::run_error::RunError;
-pub(crate) use crate::running::blocks::running::run_in_blocks;

@@ -10,9 +10,10 @@ mod logs;
 mod stage;
 mod systems;
 
-pub(crate) use blocks::fill_in_blocks;
-pub(crate) use blocks::run_in_blocks;
-pub use blocks::{RunError, check_run};
+pub(crate) use blocks::filling::fill_in_blocks;
+pub use blocks::room::check_run;
+pub use blocks::run_error::RunError;
+pub(crate) use blocks::running::run_in_blocks;
 pub use crew::{ClaimRecord, Claimer, Claims, Crew, Jobs};
 pub use crate::kit::either::{Either, Left, Right};
 pub use frame::gate::{Gate, NoGate};

@@ -109,6 +109,7 @@ pub(super) fn read_fields<'a>(
     // ensures value { (n : ℕ) (ms : Members) (rest : List SpecToken)
     //     → converted (λ ms. of_members ms no_members) (members (value depth) n reader.old)
     //     ≡ Some (ms, rest) → ReadsFields result reader.new ms rest }
+    // ensures passes { OnOk result (after_members depth reader.old ≡ Some reader.new) }
     // ensures shorter { OnOk result (length reader.new ≤ length reader.old) }
     // ensures no_longer { length reader.new ≤ length reader.old }
 {

@@ -146,6 +146,7 @@ fn next_operation<'a>(
     // ensures binds { OnOk result ((d : Data) (rest : List SpecToken)
     //     → converted of_json (value depth reader.old) ≡ Some (d, rest)
     //     → bound.new ≡ with_part bound.old (bound_name d)) }
+    // ensures passes { OnOk result (after_value depth reader.old ≡ Some reader.new) }
     // ensures shorter { OnOk result (length reader.new < length reader.old) }
     // ensures no_longer { length reader.new ≤ length reader.old }
 {
@@ -174,6 +175,7 @@ fn operations(
     //     → converted of_items (items (value depth) n reader.old) ≡ Some (ds, rest)
     //     → Streams result reader.new (system_of format components.now frame system (array ds))
     //     rest }
+    // ensures passes { OnOk result (after_items depth reader.old ≡ Some reader.new) }
     // ensures shorter { OnOk result (length reader.new ≤ length reader.old) }
     // ensures no_longer { length reader.new ≤ length reader.old }
 {
@@ -215,6 +217,7 @@ fn system(
     // ensures value { (d : Data) (rest : List SpecToken)
     //     → converted of_json (value depth reader.old) ≡ Some (d, rest)
     //     → Streams result reader.new (system_of format components.now frame number d) rest }
+    // ensures passes { OnOk result (after_value depth reader.old ≡ Some reader.new) }
     // ensures shorter { OnOk result (length reader.new < length reader.old) }
     // ensures no_longer { length reader.new ≤ length reader.old }
 {
@@ -240,6 +243,7 @@ fn systems(
     // ensures value { (n : ℕ) (ds : Items) (rest : List SpecToken)
     //     → converted of_items (items (value depth) n reader.old) ≡ Some (ds, rest)
     //     → Streams result reader.new (frame_of format components.now frame (array ds)) rest }
+    // ensures passes { OnOk result (after_items depth reader.old ≡ Some reader.new) }
     // ensures shorter { OnOk result (length reader.new ≤ length reader.old) }
     // ensures no_longer { length reader.new ≤ length reader.old }
 {
@@ -274,6 +278,7 @@ fn frame(
     // ensures value { (d : Data) (rest : List SpecToken)
     //     → converted of_json (value depth reader.old) ≡ Some (d, rest)
     //     → Streams result reader.new (frame_of format components.now number d) rest }
+    // ensures passes { OnOk result (after_value depth reader.old ≡ Some reader.new) }
     // ensures shorter { OnOk result (length reader.new < length reader.old) }
     // ensures no_longer { length reader.new ≤ length reader.old }
 {
@@ -295,6 +300,7 @@ fn frames_inside(
     // ensures value { (n : ℕ) (ds : Items) (rest : List SpecToken)
     //     → converted of_items (items (value depth) n reader.old) ≡ Some (ds, rest)
     //     → StreamsList result reader.new (frames_of format components.now (Some (array ds))) rest }
+    // ensures passes { OnOk result (after_items depth reader.old ≡ Some reader.new) }
     // ensures shorter { OnOk result (length reader.new ≤ length reader.old) }
     // ensures no_longer { length reader.new ≤ length reader.old }
 {
@@ -328,6 +334,7 @@ pub(super) fn frames(
     // ensures value { (d : Data) (rest : List SpecToken)
     //     → converted of_json (value depth reader.old) ≡ Some (d, rest)
     //     → StreamsList result reader.new (frames_of format components.now (Some d)) rest }
+    // ensures passes { OnOk result (after_value depth reader.old ≡ Some reader.new) }
     // ensures shorter { OnOk result (length reader.new < length reader.old) }
     // ensures no_longer { length reader.new ≤ length reader.old }
 {

@@ -20,10 +20,12 @@ fn are_name_bytes(bytes: &[u8]) -> bool
     bytes.iter().all(|byte| byte.is_ascii_lowercase() || byte.is_ascii_digit() || *byte == b'_')
 }
 
-/// Different names in order, each found in logarithmic time.
+/// Different names in order, each found in logarithmic time, and the last one at once: mostly a
+/// name is used soon after it is bound.
 pub(super) struct Names<'a> {
     list: Vec<&'a str>,
     numbers: BTreeMap<&'a str, usize>,
+    last: Option<&'a str>,
 }
 
 impl<'a> Names<'a> {
@@ -35,6 +37,7 @@ impl<'a> Names<'a> {
         Names {
             list: Vec::new(),
             numbers: BTreeMap::new(),
+            last: None,
         }
     }
 
@@ -52,7 +55,22 @@ impl<'a> Names<'a> {
         // ensures value { result ≡ number_among name.now self.now }
         // ensures within { IfSome result (λ number. number < length self.now) }
     {
+        if self.is_last(name) {
+            return Some(self.list.len() - 1);
+        }
         self.numbers.get(name).copied()
+    }
+
+    /// Whether it is the last name.
+    #[inline]
+    fn is_last(&self, name: &str) -> bool
+        // ensures last { IsTrue result → number_among name.now self.now ≡ Some (length self.now - 1) }
+        // ensures some { IsTrue result → 0 < length self.now }
+    {
+        match self.last {
+            Some(last) => last == name,
+            None => false,
+        }
     }
 
     /// Puts the name last, unless it is there.
@@ -60,13 +78,14 @@ impl<'a> Names<'a> {
     pub(super) fn add(&mut self, name: &'a str) -> Result<(), OutOfMemory>
         // ensures ok { OnOk result (self.new ≡ with_name self.old name.now) }
     {
-        if self.numbers.contains_key(name) {
+        if self.is_last(name) || self.numbers.contains_key(name) {
             return Ok(());
         }
         self.list.reserve_fallibly(1)?;
         let number = self.list.as_slice().len();
         self.numbers.insert(name, number)?;
         self.list.push_reserved(name);
+        self.last = Some(name);
         Ok(())
     }
 

@@ -10,6 +10,7 @@ use crate::scripts::frame::Frame;
 use crate::scripts::frames::frames;
 use crate::scripts::front::Front;
 use crate::scripts::heading::Heading;
+use crate::scripts::in_order::script_in_order;
 use crate::scripts::names::Names;
 use crate::scripts::passing::pass_value;
 use crate::scripts::read_fault::ReadFault;
@@ -46,7 +47,7 @@ fn format(part: Option<&Value>) -> Result<Format, ScriptCause>
 
 /// The heading, after the tests of all that comes before it.
 #[inline]
-fn heading(value: &Value) -> Result<Heading, ScriptCause>
+pub(super) fn heading(value: &Value) -> Result<Heading, ScriptCause>
     // ensures { result ≡ heading_of (view value.now) }
 {
     let found = members(value).ok_or(ScriptCause::Top)?;
@@ -79,7 +80,9 @@ fn new_name<'a>(names: &Names<'_>, value: &'a Value) -> Option<&'a str>
 
 /// The names that all of the values are, no two the same.
 #[inline]
-fn different_names<'a>(values: &'a [Value]) -> Result<Names<'a>, ReadFault>
+pub(super) fn different_names<'a>(
+    values: &'a [Value],
+) -> Result<Names<'a>, ReadFault>
     // ensures names { ReadsAs result (in_script (numbered (component_at (map view values.now)) 0
     //     (map view values.now))) }
     // ensures few { IfOk result (λ names. length names ≤ length values.now) }
@@ -94,7 +97,7 @@ fn different_names<'a>(values: &'a [Value]) -> Result<Names<'a>, ReadFault>
 
 /// The names as texts of their own.
 #[inline]
-fn owned(names: &[&str]) -> Result<Vec<String>, ReadFault>
+pub(super) fn owned(names: &[&str]) -> Result<Vec<String>, ReadFault>
     // ensures ok { IfOk result (λ texts. map string_bytes texts.items
     //     ≡ map (λ name. name.now) names.now) }
     // ensures err { IfErr result (λ fault. fault ≡ Memory) }
@@ -107,7 +110,7 @@ fn owned(names: &[&str]) -> Result<Vec<String>, ReadFault>
 }
 
 /// How deep arrays and objects nest at most.
-const DEPTH: usize = 127;
+pub(super) const DEPTH: usize = 127;
 
 /// What a text says before its frames. If the text is no JSON, that is found first.
 #[inline]
@@ -130,7 +133,7 @@ fn front_in(text: &str, scratch: &mut Scratch) -> Result<Front, ReadFault>
 
 /// Takes the brace that begins an object, if one is next.
 #[inline]
-fn opens(reader: &mut Reader<'_>) -> bool
+pub(super) fn opens(reader: &mut Reader<'_>) -> bool
     // ensures { MatchBool result (reader.old ≡ begin_object ∷ reader.new)
     //     (begins_object reader.old ≡ false) }
 {
@@ -214,8 +217,9 @@ fn script_in(
 
 /// The script that a JSON text means.
 ///
-/// It takes time linear in the text, and logarithmic time for each look-up of a name. The text is
-/// read twice, and no more than one operation is kept at a time as a value.
+/// It takes time linear in the text, and logarithmic time for each look-up of a name. A script whose
+/// frames come last is read once. Any other text is read again from the start, twice. No more than
+/// one operation is kept at a time as a value.
 ///
 /// # Errors
 ///
@@ -236,6 +240,11 @@ pub fn read_script(text: &[u8]) -> Result<Script, ReadFault> {
         return Err(ReadFault::Json);
     };
     let mut scratch = Scratch::new();
+    match script_in_order(checked, &mut scratch) {
+        Ok(script) => return Ok(script),
+        Err(ReadFault::Memory) => return Err(ReadFault::Memory),
+        Err(_) => (),
+    }
     let front = front_in(checked, &mut scratch)?;
     script_in(front, checked, &mut scratch)
 }

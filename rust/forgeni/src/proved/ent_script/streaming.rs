@@ -39,6 +39,8 @@ pub(super) fn begins_object(reader: &mut Reader<'_>, depth: usize) -> Result<boo
     // ensures value { (d : Data) (rest : List SpecToken)
     //     → converted of_json (value depth reader.old) ≡ Some (d, rest)
     //     → BeginsObject depth result reader.new d rest }
+    // ensures passes { result ≡ Ok true
+    //     → after_value depth reader.old ≡ after_members (depth - 1) reader.new }
     // ensures deep { result ≡ Ok true → 0 < depth }
     // ensures shorter { OnOk result (length reader.new < length reader.old) }
     // ensures no_longer { length reader.new ≤ length reader.old }

@@ -118,16 +118,17 @@ where
     let Ok(lent) = lend_all(reservers) else {
         return Err(RunError::Memory);
     };
-    let blocks = phase.server().blocks();
-    match crate::running::run_in_blocks(rt, blocks, lent, systems, workers) {
+    let source = phase.server();
+    let dealt = source.blocks();
+    match crate::running::run_in_blocks(rt, dealt, lent, systems, workers) {
         Ok((logs, lent)) => {
-            put_back(reservers, phase.server(), lent);
+            put_back(reservers, source, lent);
             Ok(logs)
         }
         Err(back) => {
             // None, if they are lost.
             let (lent, error) = back.into_parts();
-            put_back(reservers, phase.server(), lent);
+            put_back(reservers, source, lent);
             Err(error)
         }
     }

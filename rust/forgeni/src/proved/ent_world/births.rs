@@ -52,6 +52,10 @@ pub(super) fn name_listed(
     // ensures places { storage.new.places ≡ storage.old.places }
     // ensures spare { storage.new.spare ≡ storage.old.spare }
 {
+    if before >= storage.len() {
+        // Nobody is born now, so the queues aren't read.
+        return;
+    }
     for (system, queue) in queues.iter().enumerate() {
         let first = first_birth(phase, system as u32);
         name_queue(entities, storage, before, first, queue);

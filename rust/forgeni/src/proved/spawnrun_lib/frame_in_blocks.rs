@@ -33,6 +33,17 @@ fn sizes(size: u32, systems: &[System]) -> Result<Vec<u32>, OutOfMemory>
     Ok(sizes)
 }
 
+/// Why a frame didn't end whose systems were refused or broken off.
+#[inline]
+fn why_undone(error: RunError) -> Undone
+    // ensures { result ≡ Undone.Lost → (first : Option Memory) × (error ≡ failed.Lost first) }
+{
+    match error {
+        RunError::Lost(_) => Undone::Lost,
+        _ => Undone::Memory,
+    }
+}
+
 /// Runs the systems in blocks of these sizes, and the sync point.
 #[inline]
 fn run_dealt<R>(
@@ -63,10 +74,8 @@ where
     let (queues, reservers) = match filled {
         Ok(filled) => filled,
         Err(refused) => {
-            return Err(match refused.into_parts().1 {
-                RunError::Lost(_) => Undone::Lost,
-                _ => Undone::Memory,
-            });
+            let (_, error) = refused.into_parts();
+            return Err(why_undone(error));
         }
     };
     let Ok(mut world) = rest.settle(blocks.close(reservers)) else {

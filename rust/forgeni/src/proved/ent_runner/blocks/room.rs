@@ -50,11 +50,7 @@ pub(super) struct Room<O, E> {
 ///
 /// </details>
 #[inline]
-pub fn check_run<E>(
-    reservers: usize,
-    systems: usize,
-    workers: usize,
-) -> Result<(), RunError<E>> {
+pub fn check_run<E>(reservers: usize, systems: usize, workers: usize) -> Result<(), RunError<E>> {
     if workers == 0 || workers > WORKERS {
         return Err(RunError::Workers);
     }

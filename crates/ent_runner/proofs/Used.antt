@@ -1,10 +1,9 @@
--- Reservers of all blocks, in their order, still are so after systems have used the blocks.
-use Rattle.spawnrun_lib.proofs.Common.{◌≡◌, List}
-use Rattle.std.proofs.Common.{[], ◌∷◌, refl, ap, suc, length}
-use Rattle.std.specs.Prelude.{if◌then◌else◌}
-use Rattle.ent_queue.specs.Command.{Command}
-use Rattle.ent_blocks.specs.Blocks.{Block, are_among, is_same}
-use Rattle.ent_runner.specs.Blocks.Queues.{blocks_after_queues}
+-- Blocks after systems have used them: there are as many, in the same order.
+use Rattle.ent_runner.proofs.Common.{◌≡◌, refl, ap, suc, List, [], ◌∷◌, length, if◌then◌else◌}
+use Rattle.ent_runner.proofs.Common.{Block, Command, blocks_after_queues}
+use Rattle.ent_blocks.specs.Blocks.{are_among, is_same}
+use Rattle.ent_log.specs.declared.entry.Entry.{Entry}
+use Rattle.ent_runner.specs.Blocks.{blocks_after}
 
 pub among_used : (blocks before : List Block) (queues : List (List Command))
     → are_among blocks (blocks_after_queues before queues) ≡ are_among blocks before
@@ -22,3 +21,8 @@ pub length_used : (before : List Block) (queues : List (List Command))
     → length (blocks_after_queues before queues) ≡ length before
 length_used (r ∷ before) (queue ∷ queues) = ap suc (length_used before queues)
 length_used _ _ = refl
+
+pub length_filled : {C : Type 0} (before : List Block) (logs : List (List (Entry C)))
+    → length (blocks_after before logs) ≡ length before
+length_filled (r ∷ before) (log ∷ logs) = ap suc (length_filled before logs)
+length_filled _ _ = refl
