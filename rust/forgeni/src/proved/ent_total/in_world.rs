@@ -286,6 +286,17 @@ impl EndedWorld {
     /// Returns the world, in which what was used is reserved: a flush or a sync point brings it to
     /// life. What is left of the blocks is given next, in the same order.
     ///
+    /// ```
+    /// use forgeni::World;
+    ///
+    /// let (phase, mut reservers) = World::new().open_in_blocks(&[10, 10])?;
+    /// let one = reservers[1].reserve()?;
+    /// let mut world = phase.close(reservers)?.into_world()?;
+    /// world.flush()?;
+    /// assert!(world.contains(one) && world.len() == 1);
+    /// # Ok::<(), Box<dyn std::error::Error + Send + Sync>>(())
+    /// ```
+    ///
     /// # Errors
     ///
     /// [`HandedBack`] has this value, if an allocation fails, and for no other reason. The call can
@@ -336,6 +347,17 @@ impl EndedWorld {
 
     /// Returns the world as it was when the phase was opened: nothing is reserved.
     ///
+    /// ```
+    /// use forgeni::World;
+    ///
+    /// let (phase, mut reservers) = World::new().open_in_blocks(&[10])?;
+    /// let first = reservers[0].reserve()?;
+    /// let mut world = phase.close(reservers)?.cancel();
+    /// // The handle is given again, so it must not be used any more.
+    /// assert_eq!(world.spawn(&[])?, first);
+    /// # Ok::<(), Box<dyn std::error::Error + Send + Sync>>(())
+    /// ```
+    ///
     /// <details><summary>Contract</summary>
     ///
     /// <code style="display: block; tab-size: 4; white-space: pre-wrap">// In the words of [contracts](crate::contracts):
@@ -358,6 +380,16 @@ impl EndedWorld {
 impl EndedWorld {
     /// Returns the number of handles that were requested past a block, as
     /// [`Ended::requested_past`](crate::in_blocks::Ended::requested_past) does.
+    ///
+    /// ```
+    /// use forgeni::World;
+    ///
+    /// let (phase, mut reservers) = World::new().open_behind_blocks(&[10, 10])?;
+    /// reservers[0].reserve_many(10)?;
+    /// reservers[0].reserve_many(5)?;
+    /// assert_eq!(phase.close(reservers)?.requested_past(), 5);
+    /// # Ok::<(), Box<dyn std::error::Error + Send + Sync>>(())
+    /// ```
     ///
     /// <details><summary>Contract</summary>
     ///
