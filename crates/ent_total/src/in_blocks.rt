@@ -9,8 +9,8 @@ use crate::numbering::Numbering;
 use crate::opening::{Opening, begin};
 use crate::reserver::Reserver;
 use crate::share_error::ShareError;
-use ent_alloc::Entities;
-use ent_blocks::{Deals, InBlocks, Overflow};
+use ent_alloc::{Entities, Phased};
+use ent_blocks::{Deals, InBlocks, OverflowReserver};
 use ent_handle::HandedBack;
 use std::alloc::Global;
 
@@ -148,7 +148,7 @@ impl<J: Numbering, S: InBlocks> Reserver<J, S> {
     }
 }
 
-impl<J: Numbering> Reserver<J, Overflow> {
+impl<J: Numbering, S: Phased<Reserver = OverflowReserver>> Reserver<J, S> {
     /// Returns the number of handles that it has requested past its block, served or refused.
     ///
     /// ```

@@ -6,8 +6,8 @@ use crate::kit::vec::FallibleVec;
 use crate::phases::opening::{Opening, begin};
 use crate::phases::reserver::Reserver;
 use crate::phases::share_error::ShareError;
-use crate::allocator::Entities;
-use crate::in_blocks::{Deals, InBlocks, Overflow};
+use crate::allocator::{Entities, Phased};
+use crate::in_blocks::{Deals, InBlocks, OverflowReserver};
 use crate::handles::HandedBack;
 
 /// Deals the pool's front in blocks of these sizes, one after the other: a block is smaller where
@@ -180,7 +180,7 @@ impl<S: InBlocks> Reserver<S> {
 }
 
 /// # Its block
-impl Reserver<Overflow> {
+impl<S: Phased<Reserver = OverflowReserver>> Reserver<S> {
     /// Returns the number of handles that it has requested past its block, served or refused.
     ///
     /// ```
