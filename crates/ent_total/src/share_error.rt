@@ -18,7 +18,8 @@ pub enum ShareError {
     /// Handles were requested since the last flush, even if the request was refused.
     #[error("a flush is needed first")]
     NeedsFlush,
-    /// The number of callers isn't one from 1 to 1,024.
+    /// The number of callers isn't one from 1 to 1,024, or there are more than 1,023 blocks whose
+    /// callers go on.
     #[error("a phase has 1 to 1,024 callers")]
     Count,
     /// Out of memory.

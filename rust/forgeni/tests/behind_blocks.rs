@@ -234,6 +234,7 @@ fn a_world_whose_spawns_go_past_the_blocks() {
     assert_eq!(indexes(two.reserve_many(2).expect("past it")), [7, 8]);
     assert_eq!(one.reserve().map(Handle::index), Ok(9));
     assert_eq!((one.wanted(), two.wanted(), two.left()), (3, 4, 1));
+    assert_eq!((one.requested_past(), two.requested_past()), (1, 2));
     let mut sizes = [BlockSize::new(1_000); 2];
     adapt(&mut sizes, &reservers);
     assert_eq!(sizes.map(|it| it.size()), [64, 64]);

@@ -17,7 +17,8 @@
 pub enum ShareError {
     /// Handles were requested since the last flush, even if the request was refused.
     NeedsFlush,
-    /// The number of callers isn't one from 1 to 1,024.
+    /// The number of callers isn't one from 1 to 1,024, or there are more than 1,023 blocks whose
+    /// callers go on.
     Count,
     /// Out of memory.
     Memory,
