@@ -2105,7 +2105,7 @@ mod frames {
         );
     }
 
-    /// The step of a frame in blocks in which memory is refused.
+    /// The step of a frame in blocks whose allocation fails.
     #[derive(Clone, Copy, PartialEq)]
     enum Step {
         Fill,

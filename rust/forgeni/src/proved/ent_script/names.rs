@@ -20,8 +20,8 @@ fn are_name_bytes(bytes: &[u8]) -> bool
     bytes.iter().all(|byte| byte.is_ascii_lowercase() || byte.is_ascii_digit() || *byte == b'_')
 }
 
-/// Different names in order, each found in logarithmic time, and the last one at once: mostly a
-/// name is used soon after it is bound.
+/// Different names in order, each found in logarithmic time. The last one is found at once, since
+/// most names are used soon after they are bound.
 pub(super) struct Names<'a> {
     list: Vec<&'a str>,
     numbers: BTreeMap<&'a str, usize>,
