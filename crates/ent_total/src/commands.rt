@@ -1,13 +1,10 @@
-ghost use Rattle.std.specs.Prelude.{◌≡◌, ◌≢◌, ◌↔◌, ◌++◌, ◌∷◌, [], length, IfOk, IfErr, IsErrOf};
+ghost use Rattle.std.specs.Prelude.{◌≡◌, ◌↔◌, ◌++◌, ◌∷◌, [], length, IfOk, IfErr, IsErrOf};
 ghost use Rattle.std.specs.Prelude.{OnOk, OnErr, Ok};
 ghost use Rattle.std.specs.Prelude.{IsTrue};
-ghost use Rattle.std.specs.FinMap as map;
 ghost use Rattle.std.specs.Arc.{arc_value};
 ghost use Rattle.ent_shared.specs.Order.{handles_given};
 ghost use Rattle.ent_shared.specs.Phase.{IsOf};
 ghost use Rattle.ent_storage.specs.Bundle.{bundle_of};
-ghost use Rattle.ent_storage.specs.EntityMap.{birth_of, value_of};
-ghost use Rattle.ent_storage.specs.BirthOrder.{ListsAll};
 ghost use Rattle.ent_queue.specs.Command.{Spawn, SpawnMany, Insert, Remove, Despawn};
 ghost use Rattle.ent_queue.specs.Reserving.{refused_by};
 ghost use Rattle.ent_shared.specs.Replies.{IsReturned};
@@ -16,7 +13,7 @@ use crate::command_queue::CommandQueue;
 use crate::numbering::Numbering;
 use crate::open_world::OpenWorld;
 use ent_alloc::ReserveError;
-use ent_handle::{Birth, ComponentId, Handle, Memory};
+use ent_handle::{ComponentId, Handle, Memory};
 use ent_shared::Reserver;
 use ent_world::View;
 use std::alloc::Global;
@@ -118,7 +115,7 @@ impl<J: Numbering> Commands<J> {
     ///
     /// let (open, mut systems) = World::new().open(1)?;
     /// let cart = systems[0].spawn(&[(ComponentId(0), 5)])?;
-    /// assert!(!open.contains(cart));
+    /// assert!(!open.view().contains(cart));
     /// let queues = systems.into_iter().map(|one| one.finish()).collect();
     /// let (mut world, queues) = open.close(queues)?;
     /// world.apply(queues)?;
@@ -224,7 +221,7 @@ impl<J: Numbering> Commands<J> {
     /// systems[0].insert(oak, &[(AGE, 81)])?;
     ///
     /// // It takes effect when the queue is applied.
-    /// assert_eq!(systems[0].get(oak, AGE), Some(80));
+    /// assert_eq!(systems[0].view().get(oak, AGE), Some(80));
     /// let queues = systems.into_iter().map(|one| one.finish()).collect();
     /// let (mut world, queues) = open.close(queues)?;
     /// world.apply(queues)?;
@@ -332,97 +329,6 @@ impl<J: Numbering> Commands<J> {
         let shared = self.world.shared();
         let empty = ent_queue::Commands::new(alloc, shared, &mut self.reserver).finish();
         mem::replace(&mut self.queue, empty)
-    }
-
-    /// Returns the value of the entity's component, if the entity is alive and has it.
-    ///
-    /// ```
-    /// use forgeni::{ComponentId, World};
-    ///
-    /// const AGE: ComponentId = ComponentId(0);
-    ///
-    /// let mut world = World::new();
-    /// let oak = world.spawn(&[(AGE, 80)])?;
-    /// let (_open, mut systems) = world.open(1)?;
-    /// // A year passes for what is there.
-    /// if let Some(age) = systems[0].get(oak, AGE) {
-    ///     systems[0].insert(oak, &[(AGE, age + 1)])?;
-    /// }
-    /// # Ok::<(), Box<dyn std::error::Error>>(())
-    /// ```
-    #[must_use]
-    pub fn get(&self, handle: Handle, id: ComponentId) -> Option<i64>
-        ensures { result ≡ value_of self.now.world.entities handle id }
-    {
-        self.world.view().get(handle, id)
-    }
-
-    /// Returns the birth of the entity, if it is alive: when it came to life, and by which system.
-    ///
-    /// ```
-    /// use forgeni::World;
-    ///
-    /// let mut world = World::new();
-    /// let oak = world.spawn(&[])?;
-    /// world.flush()?;
-    /// let (_open, mut systems) = world.open(1)?;
-    /// let new = systems[0].spawn(&[])?;
-    /// assert_eq!(systems[0].birth(oak).map(|it| it.frame), Some(0));
-    /// assert_eq!(systems[0].birth(new), None);
-    /// # Ok::<(), Box<dyn std::error::Error>>(())
-    /// ```
-    #[must_use]
-    pub fn birth(&self, handle: Handle) -> Option<Birth>
-        ensures { result ≡ birth_of self.now.world.entities handle }
-    {
-        self.world.view().birth(handle)
-    }
-
-    /// Returns `true` if the entity is alive. What the systems of the phase spawn isn't alive yet.
-    ///
-    /// ```
-    /// use forgeni::World;
-    ///
-    /// let mut world = World::new();
-    /// let oak = world.spawn(&[])?;
-    /// let (_open, mut systems) = world.open(2)?;
-    /// systems[0].despawn(oak)?;
-    /// // Until the sync point every system sees the same world.
-    /// assert!(systems[1].contains(oak));
-    /// # Ok::<(), Box<dyn std::error::Error>>(())
-    /// ```
-    #[must_use]
-    pub fn contains(&self, handle: Handle) -> bool
-        ensures { result ≡ map.contains_key self.now.world.entities handle }
-    {
-        self.world.view().contains(handle)
-    }
-
-    /// Returns the handles of all entities, ordered by birth and then by handle. It takes the time
-    /// of a sort.
-    ///
-    /// ```
-    /// use forgeni::World;
-    ///
-    /// let mut world = World::new();
-    /// world.spawn(&[])?;
-    /// world.spawn(&[])?;
-    /// let (_open, mut systems) = world.open(1)?;
-    /// for one in systems[0].by_birth()? {
-    ///     systems[0].despawn(one)?;
-    /// }
-    /// # Ok::<(), Box<dyn std::error::Error>>(())
-    /// ```
-    ///
-    /// # Errors
-    ///
-    /// `OutOfMemory`: there isn't enough memory for the list. It is never returned if there are no
-    /// entities.
-    pub fn by_birth(&self) -> Result<Vec<Handle>, Memory>
-        ensures ok { IfOk result (λ handles. ListsAll self.now.world.entities handles.items) }
-        ensures memory { OnErr result (self.now.world.entities ≢ map.empty) }
-    {
-        self.world.view().by_birth()
     }
 
     /// Returns a view of the world, like the one that a system of a frame gets.

@@ -1,18 +1,15 @@
-ghost use Rattle.std.specs.Prelude.{◌≡◌, ◌≢◌, ◌+◌, ◌≤◌, [], ◌∷◌, ◌++◌, All, length, reverse};
+ghost use Rattle.std.specs.Prelude.{◌≡◌, ◌+◌, ◌≤◌, [], ◌∷◌, ◌++◌, All, length, reverse};
 ghost use Rattle.std.specs.Prelude.{IfOk, IfErr, IfSome, IfNone, OnErr};
-ghost use Rattle.std.specs.FinMap as map;
 ghost use Rattle.std.specs.Arc.{arc_value};
 ghost use Rattle.std.specs.Vec.{vec_capacity, vec_len};
 ghost use Rattle.ent_shared.specs.Phase.{IsOf};
-ghost use Rattle.ent_storage.specs.EntityMap.{birth_of, value_of};
-ghost use Rattle.ent_storage.specs.BirthOrder.{ListsAll};
 ghost use Rattle.ent_total.specs.Issuing.{AreNew, MayReturn, issuing, new_commands, with_returned};
 
 use crate::command_queue::CommandQueue;
 use crate::commands::Commands;
 use crate::numbering::Numbering;
 use crate::world_returning::bring_back;
-use ent_handle::{Birth, ComponentId, Handle, Memory};
+use ent_handle::Memory;
 use ent_shared::Reserver;
 use ent_world::View;
 use std::alloc::Global;
@@ -32,7 +29,7 @@ use std::sync::Arc;
 /// let (open, systems) = world.open(2)?;
 /// let queues = std::thread::scope(|scope| {
 ///     let run = |mut commands: forgeni::Commands| {
-///         let _out_of_memory = if open.contains(oak) { commands.despawn(oak) } else { Ok(()) };
+///         let _out_of_memory = if open.view().contains(oak) { commands.despawn(oak) } else { Ok(()) };
 ///         commands.finish()
 ///     };
 ///     let threads: Vec<_> = systems.into_iter().map(|it| scope.spawn(move || run(it))).collect();
@@ -133,91 +130,6 @@ impl<J: Numbering> OpenWorld<J> {
             number,
             of: PhantomData,
         }
-    }
-
-    /// Returns the value of the entity's component, if the entity is alive and has it.
-    ///
-    /// ```
-    /// use forgeni::{ComponentId, World};
-    ///
-    /// const AGE: ComponentId = ComponentId(0);
-    ///
-    /// let mut world = World::new();
-    /// let oak = world.spawn(&[(AGE, 80)])?;
-    /// let (open, mut systems) = world.open(1)?;
-    /// systems[0].insert(oak, &[(AGE, 81)])?;
-    /// // It is 81 after the sync point.
-    /// assert_eq!(open.get(oak, AGE), Some(80));
-    /// # Ok::<(), Box<dyn std::error::Error>>(())
-    /// ```
-    #[must_use]
-    pub fn get(&self, handle: Handle, id: ComponentId) -> Option<i64>
-        ensures { result ≡ value_of self.now.world.entities handle id }
-    {
-        self.world.view().get(handle, id)
-    }
-
-    /// Returns the birth of the entity, if it is alive: when it came to life, and by which system.
-    ///
-    /// ```
-    /// use forgeni::World;
-    ///
-    /// let mut world = World::new();
-    /// let (oak, lime) = (world.spawn(&[])?, world.spawn(&[])?);
-    /// let (open, _systems) = world.open(1)?;
-    /// assert!(open.birth(oak) < open.birth(lime));
-    /// # Ok::<(), Box<dyn std::error::Error>>(())
-    /// ```
-    #[must_use]
-    pub fn birth(&self, handle: Handle) -> Option<Birth>
-        ensures { result ≡ birth_of self.now.world.entities handle }
-    {
-        self.world.view().birth(handle)
-    }
-
-    /// Returns `true` if the entity is alive. What the systems spawn isn't alive yet.
-    ///
-    /// ```
-    /// use forgeni::World;
-    ///
-    /// let mut world = World::new();
-    /// let oak = world.spawn(&[])?;
-    /// let (open, mut systems) = world.open(1)?;
-    /// let new = systems[0].spawn(&[])?;
-    /// assert!(open.contains(oak) && !open.contains(new));
-    /// # Ok::<(), Box<dyn std::error::Error>>(())
-    /// ```
-    #[must_use]
-    pub fn contains(&self, handle: Handle) -> bool
-        ensures { result ≡ map.contains_key self.now.world.entities handle }
-    {
-        self.world.view().contains(handle)
-    }
-
-    /// Returns the handles of all entities, ordered by birth and then by handle. It takes the time
-    /// of a sort.
-    ///
-    /// ```
-    /// use forgeni::World;
-    ///
-    /// let mut world = World::new();
-    /// let (oak, lime) = (world.spawn(&[])?, world.spawn(&[])?);
-    /// let (open, _systems) = world.open(4)?;
-    /// // Any thread may draw the world while systems run.
-    /// let drawn = std::thread::scope(|scope| scope.spawn(|| open.by_birth()).join());
-    /// assert_eq!(drawn.expect("no panic")?, [oak, lime]);
-    /// # Ok::<(), Box<dyn std::error::Error>>(())
-    /// ```
-    ///
-    /// # Errors
-    ///
-    /// `OutOfMemory`: there isn't enough memory for the list. It is never returned if there are no
-    /// entities.
-    pub fn by_birth(&self) -> Result<Vec<Handle>, Memory>
-        ensures ok { IfOk result (λ handles. ListsAll self.now.world.entities handles.items) }
-        ensures memory { OnErr result (self.now.world.entities ≢ map.empty) }
-    {
-        self.world.view().by_birth()
     }
 
     /// Returns a view of the world, like the one that a system of a frame gets.

@@ -1,8 +1,6 @@
-ghost use Rattle.std.specs.Prelude.{◌≡◌, ◌↔◌, ◌+◌, ◌≤◌, ◌∷◌, [], ◌++◌, All, AllPairs};
+ghost use Rattle.std.specs.Prelude.{◌≡◌, ◌↔◌, ◌+◌, ◌≤◌, ◌∷◌, [], ◌++◌, All};
 ghost use Rattle.std.specs.Prelude.{IfOk, IfErr, OnErr, IsTrue, length, reverse};
-ghost use Rattle.std.specs.Prelude.{IfSome, IfNone, OnSome, Ok, None, Some, true, ◌<◌};
-ghost use Rattle.std.specs.FinSet as set;
-ghost use Rattle.std.specs.FinMap as map;
+ghost use Rattle.std.specs.Prelude.{IfSome, IfNone, Ok, None, Some};
 ghost use Rattle.std.specs.Vec.{vec_capacity, vec_len};
 ghost use Rattle.std.specs.Arc.{arc_value};
 ghost use Rattle.ent_total.specs.Phases.{AreOf, MayReturn, all_returned, reservers_of};
@@ -10,8 +8,8 @@ ghost use Rattle.ent_total.specs.Phases.{AreOf, MayReturn, all_returned, reserve
 use crate::numbering::Numbering;
 use crate::reserver::Reserver;
 use crate::returning::bring_back;
-use ent_alloc::{Living, Phased};
-use ent_handle::{Handle, Memory};
+use ent_alloc::{Entities, Phased};
+use ent_handle::Memory;
 use ent_shared::Shared;
 use std::alloc::Global;
 use std::marker::{Model, PhantomData};
@@ -35,7 +33,7 @@ use std::sync::Arc;
 /// let (shared, mut reservers) = entities.share(4)?;
 /// std::thread::scope(|scope| {
 ///     for reserver in &mut reservers {
-///         scope.spawn(|| shared.is_alive(old) && reserver.reserve().is_ok());
+///         scope.spawn(|| shared.entities().is_alive(old) && reserver.reserve().is_ok());
 ///     }
 /// });
 /// let mut entities = shared.close(reservers)?;
@@ -144,9 +142,8 @@ impl<J: Numbering, S: Phased> Phase<J, S> {
         self.returned.len()
     }
 
-    /// Returns `true` if the entity was alive when the phase was opened. That doesn't change until
-    /// the close: what is reserved comes to life after it, and nothing is freed before. Any thread
-    /// may call it, and it takes constant time.
+    /// Returns the allocator as it was when the phase was opened. It doesn't change until the close:
+    /// what is reserved comes to life after it, and nothing is freed before. Any thread may read it.
     ///
     /// ```
     /// use forgeni::Entities;
@@ -156,97 +153,20 @@ impl<J: Numbering, S: Phased> Phase<J, S> {
     /// entities.try_set_row(old, 3)?;
     /// entities.phase(1, |shared, reservers| {
     ///     let new = reservers[0].reserve().expect("a handle");
-    ///     assert!(shared.is_alive(old) && !shared.is_alive(new));
-    ///     assert_eq!((shared.row(old), shared.row(new)), (Some(3), None));
+    ///     let before = shared.entities();
+    ///     assert!(before.is_alive(old) && !before.is_alive(new));
+    ///     assert_eq!((before.row(old), before.iter().count()), (Some(3), 1));
     /// })?;
     /// # Ok::<(), Box<dyn std::error::Error + Send + Sync>>(())
     /// ```
     #[must_use]
-    pub fn is_alive(&self, handle: Handle) -> bool
-        ensures { result ≡ set.contains (S.start self.now.source).live handle }
+    pub fn entities(&self) -> &Entities
+        ensures { result.now ≡ record {
+          allocator = S.start self.now.source;
+          rows = S.rows self.now.source;
+        } }
     {
-        self.source.as_opened().is_alive(handle)
-    }
-
-    /// Returns the row that the entity had ([`try_set_row`](forgeni::Entities::try_set_row)) when
-    /// the phase was opened, or `None` if it wasn't alive then or had no row. Any thread may call
-    /// it, and it takes constant time.
-    ///
-    /// ```
-    /// use forgeni::Entities;
-    ///
-    /// let mut entities = Entities::new();
-    /// let (cart, horse) = (entities.alloc()?, entities.alloc()?);
-    /// entities.try_set_row(cart, 7)?;
-    /// let (shared, _reservers) = entities.share(1)?;
-    /// assert_eq!((shared.row(cart), shared.row(horse)), (Some(7), None));
-    /// # Ok::<(), Box<dyn std::error::Error>>(())
-    /// ```
-    #[must_use]
-    pub fn row(&self, handle: Handle) -> Option<u32>
-        ensures value { result ≡ map.get (S.rows self.now.source) handle }
-        ensures alive { OnSome result (set.contains (S.start self.now.source).live handle ≡ true) }
-    {
-        self.source.as_opened().row(handle)
-    }
-
-    /// Returns the number of entities that were alive when the phase was opened.
-    ///
-    /// ```
-    /// use forgeni::Entities;
-    ///
-    /// let mut entities = Entities::new();
-    /// entities.alloc()?;
-    /// let (shared, mut reservers) = entities.share(1)?;
-    /// reservers[0].reserve_many(10)?;
-    /// assert_eq!(shared.len(), 1);
-    /// # Ok::<(), Box<dyn std::error::Error>>(())
-    /// ```
-    #[must_use]
-    pub fn len(&self) -> u32
-        ensures { result ≡ set.len (S.start self.now.source).live }
-    {
-        self.source.as_opened().len()
-    }
-
-    /// Returns `true` if no entity was alive when the phase was opened.
-    ///
-    /// ```
-    /// use forgeni::Entities;
-    ///
-    /// let (shared, mut reservers) = Entities::new().share(1)?;
-    /// let first = reservers[0].reserve()?;
-    /// // It is reserved, but not alive yet.
-    /// assert!(shared.is_empty() && !shared.is_alive(first));
-    /// # Ok::<(), Box<dyn std::error::Error>>(())
-    /// ```
-    #[must_use]
-    pub fn is_empty(&self) -> bool
-        ensures { IsTrue result ↔ (set.len (S.start self.now.source).live ≡ 0) }
-    {
-        self.source.as_opened().is_empty()
-    }
-
-    /// Returns an iterator over the entities that were alive when the phase was opened, in slot
-    /// order.
-    ///
-    /// ```
-    /// use forgeni::Entities;
-    ///
-    /// let mut entities = Entities::new();
-    /// let old = entities.alloc()?;
-    /// let (shared, mut reservers) = entities.share(1)?;
-    /// let new = reservers[0].reserve()?;
-    /// assert_eq!(shared.iter().collect::<Vec<_>>(), [old]);
-    /// # Ok::<(), Box<dyn std::error::Error + Send + Sync>>(())
-    /// ```
-    #[must_use]
-    pub fn iter(&self) -> Living<'_>
-        ensures living { set.from_list result ≡ (S.start self.now.source).live }
-        ensures rising { AllPairs (λ g h. g.index < h.index) result }
-        ensures count { length result ≡ set.len (S.start self.now.source).live }
-    {
-        self.source.as_opened().iter()
+        self.source.as_opened()
     }
 
     pub(crate) fn number(&self) -> u64

@@ -1,11 +1,8 @@
-ghost use Rattle.std.specs.Prelude.{◌≡◌, ◌↔◌, ◌<◌, length, AllPairs, OnSome, IsTrue, true};
-ghost use Rattle.std.specs.FinSet as set;
-ghost use Rattle.std.specs.FinMap as map;
+ghost use Rattle.std.specs.Prelude.{◌≡◌, ◌↔◌, IsTrue};
 
 use crate::numbering::Numbering;
 use crate::phase::Phase;
-use ent_alloc::{Living, Phased};
-use ent_handle::Handle;
+use ent_alloc::{Entities, Phased};
 use ent_shared::Shared;
 use std::alloc::Global;
 use std::marker::{Model, PhantomData};
@@ -106,7 +103,7 @@ impl<J: Numbering, S: Phased> Reserver<J, S> {
         self.number == phase.number()
     }
 
-    /// Returns `true` if the entity was alive when the phase was opened, like [`Phase::is_alive`].
+    /// Returns the allocator as it was when the phase was opened, like [`Phase::entities`].
     ///
     /// ```
     /// use forgeni::Entities;
@@ -115,55 +112,17 @@ impl<J: Numbering, S: Phased> Reserver<J, S> {
     /// let old = entities.alloc()?;
     /// let (_shared, mut reservers) = entities.share(1)?;
     /// let new = reservers[0].reserve()?;
-    /// assert!(reservers[0].is_alive(old) && !reservers[0].is_alive(new));
+    /// let before = reservers[0].entities();
+    /// assert!(before.is_alive(old) && !before.is_alive(new));
     /// # Ok::<(), Box<dyn std::error::Error>>(())
     /// ```
     #[must_use]
-    pub fn is_alive(&self, handle: Handle) -> bool
-        ensures { result ≡ set.contains (S.start self.now.source).live handle }
+    pub fn entities(&self) -> &Entities
+        ensures { result.now ≡ record {
+          allocator = S.start self.now.source;
+          rows = S.rows self.now.source;
+        } }
     {
-        self.source.as_opened().is_alive(handle)
-    }
-
-    /// Returns the row that the entity had when the phase was opened, like [`Phase::row`].
-    ///
-    /// ```
-    /// use forgeni::Entities;
-    ///
-    /// let mut entities = Entities::new();
-    /// let cart = entities.alloc()?;
-    /// entities.try_set_row(cart, 7)?;
-    /// let (_shared, reservers) = entities.share(1)?;
-    /// assert_eq!(reservers[0].row(cart), Some(7));
-    /// # Ok::<(), Box<dyn std::error::Error>>(())
-    /// ```
-    #[must_use]
-    pub fn row(&self, handle: Handle) -> Option<u32>
-        ensures value { result ≡ map.get (S.rows self.now.source) handle }
-        ensures alive { OnSome result (set.contains (S.start self.now.source).live handle ≡ true) }
-    {
-        self.source.as_opened().row(handle)
-    }
-
-    /// Returns an iterator over the entities that were alive when the phase was opened, like
-    /// [`Phase::iter`].
-    ///
-    /// ```
-    /// use forgeni::Entities;
-    ///
-    /// let mut entities = Entities::new();
-    /// let (cart, horse) = (entities.alloc()?, entities.alloc()?);
-    /// let (_shared, mut reservers) = entities.share(1)?;
-    /// reservers[0].reserve()?;
-    /// assert_eq!(reservers[0].iter().collect::<Vec<_>>(), [cart, horse]);
-    /// # Ok::<(), Box<dyn std::error::Error>>(())
-    /// ```
-    #[must_use]
-    pub fn iter(&self) -> Living<'_>
-        ensures living { set.from_list result ≡ (S.start self.now.source).live }
-        ensures rising { AllPairs (λ g h. g.index < h.index) result }
-        ensures count { length result ≡ set.len (S.start self.now.source).live }
-    {
-        self.source.as_opened().iter()
+        self.source.as_opened()
     }
 }

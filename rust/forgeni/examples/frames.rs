@@ -95,7 +95,7 @@ fn projectiles(commands: &Commands) -> Result<Vec<Handle>, OutOfMemory> {
 }
 
 fn age_one(commands: &mut LentCommands<'_>, one: Handle) -> Result<(), OutOfMemory> {
-    match commands.get(one, AGE) {
+    match commands.view().get(one, AGE) {
         Some(age) if age < LIMIT => commands.insert(one, &[(AGE, age + 1)]),
         _ => commands.despawn(one),
     }

@@ -120,19 +120,22 @@ fn what_was_alive_and_what_is_refused() {
     assert_eq!(error, ShareError::Count);
     let (phase, mut reservers) = entities.share_behind_blocks(&[0; 1_023]).expect("memory");
     assert_eq!(
-        (phase.count(), phase.len(), reservers.len()),
+        (phase.count(), phase.entities().len(), reservers.len()),
         (1_023, 1, 1_023)
     );
     let new = reservers[1_022].reserve().expect("past the block");
     for is_alive in [
-        phase.is_alive(old),
-        reservers[0].is_alive(old),
-        !phase.is_alive(new),
+        phase.entities().is_alive(old),
+        reservers[0].entities().is_alive(old),
+        !phase.entities().is_alive(new),
     ] {
         assert!(is_alive);
     }
-    assert_eq!((phase.row(old), reservers[0].row(new)), (Some(3), None));
-    assert!(phase.iter().eq([old]) && reservers[0].iter().eq([old]));
+    assert_eq!(
+        (phase.entities().row(old), reservers[0].entities().row(new)),
+        (Some(3), None)
+    );
+    assert!(phase.entities().iter().eq([old]) && reservers[0].entities().iter().eq([old]));
     let ended = phase.close(reservers).expect("all are here");
     // What was reserved is given again.
     let mut entities = ended.cancel();
@@ -219,9 +222,13 @@ fn world() -> (World, [Handle; 2]) {
 fn a_world_whose_spawns_go_past_the_blocks() {
     let (world, [old, other]) = world();
     let (phase, mut reservers) = world.open_behind_blocks(&[2, 3]).expect("memory");
-    assert_eq!((phase.count(), phase.len()), (2, 2));
+    assert_eq!((phase.count(), phase.entities().len()), (2, 2));
     assert_eq!(phase.view().get(old, AGE), Some(80));
-    assert!(phase.is_alive(old) && reservers[0].is_alive(old) && phase.iter().eq([old, other]));
+    assert!(
+        phase.entities().is_alive(old)
+            && reservers[0].entities().is_alive(old)
+            && phase.entities().iter().eq([old, other])
+    );
     let [one, two] = reservers.as_mut_slice() else {
         panic!("two reservers");
     };

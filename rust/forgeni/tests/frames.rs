@@ -181,8 +181,8 @@ fn in_turn(world: World, scripts: &[Script]) -> (World, Report) {
         return (world, report);
     }
     let (open, systems) = world.open(scripts.len()).expect("opened");
-    let all = open.by_birth().expect("memory");
-    let age = |one: &Handle| open.get(*one, AGE).map(|age| (*one, age));
+    let all = open.view().by_birth().expect("memory");
+    let age = |one: &Handle| open.view().get(*one, AGE).map(|age| (*one, age));
     let aged = all.iter().filter_map(age).collect();
     let living = Living { all, aged };
     let run = |(mut commands, script): (Commands, &Script)| {

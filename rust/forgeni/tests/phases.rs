@@ -63,16 +63,19 @@ fn what_lives_in_a_phase() {
                 for one in reservers {
                     scope.spawn(|| {
                         let new = one.reserve_many(40).expect("room");
-                        assert!(new.iter().all(|new| !shared.is_alive(*new)));
+                        assert!(new.iter().all(|new| !shared.entities().is_alive(*new)));
                         for (row, old) in (0..).zip(&all) {
                             let lives = living.contains(old);
-                            assert_eq!(shared.is_alive(*old), lives);
-                            assert_eq!(one.is_alive(*old), lives);
-                            assert_eq!(shared.row(*old), lives.then_some(row));
-                            assert_eq!(one.row(*old), lives.then_some(row));
+                            assert_eq!(shared.entities().is_alive(*old), lives);
+                            assert_eq!(one.entities().is_alive(*old), lives);
+                            assert_eq!(shared.entities().row(*old), lives.then_some(row));
+                            assert_eq!(one.entities().row(*old), lives.then_some(row));
                         }
-                        assert!(shared.is_alive(bare) && shared.row(bare).is_none());
-                        assert!(!shared.is_alive(Handle::PLACEHOLDER));
+                        assert!(
+                            shared.entities().is_alive(bare)
+                                && shared.entities().row(bare).is_none()
+                        );
+                        assert!(!shared.entities().is_alive(Handle::PLACEHOLDER));
                     });
                 }
             });
@@ -538,8 +541,11 @@ fn a_phase_of_a_world() {
     let old = world.spawn(&[(HP, 1)]).expect("a handle");
     let (new, queues) = world
         .phase(2, |open, systems| {
-            assert_eq!((open.count(), open.get(old, HP)), (2, Some(1)));
-            assert_eq!((systems[1].number(), systems[1].get(old, HP)), (1, Some(1)));
+            assert_eq!((open.count(), open.view().get(old, HP)), (2, Some(1)));
+            assert_eq!(
+                (systems[1].number(), systems[1].view().get(old, HP)),
+                (1, Some(1))
+            );
             systems[1].insert(old, &[(HP, 2)]).expect("memory");
             systems[0].insert(old, &[(HP, 3)]).expect("memory");
             systems[0].spawn_many(2, &[(HP, 4)]).expect("handles");

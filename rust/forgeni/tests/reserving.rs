@@ -62,14 +62,17 @@ fn what_lived_at_the_opening() {
     let mut living: Vec<Handle> = (0..6).map(|_| entities.alloc().expect("room")).collect();
     entities.free(living.remove(2)).expect("alive");
     let (shared, mut reservers) = shared(entities, 3);
-    assert_eq!((shared.len(), shared.is_empty()), (5, false));
+    assert_eq!(
+        (shared.entities().len(), shared.entities().is_empty()),
+        (5, false)
+    );
     std::thread::scope(|scope| {
         for one in &mut reservers {
             scope.spawn(|| {
                 one.reserve().expect("a handle");
-                assert!(one.iter().eq(living.iter().copied()));
-                assert!(shared.iter().eq(living.iter().copied()));
-                assert_eq!(shared.iter().len(), 5);
+                assert!(one.entities().iter().eq(living.iter().copied()));
+                assert!(shared.entities().iter().eq(living.iter().copied()));
+                assert_eq!(shared.entities().iter().len(), 5);
             });
         }
     });
@@ -81,9 +84,15 @@ fn what_lived_at_the_opening() {
 #[test]
 fn nothing_lived_at_the_opening() {
     let (shared, reservers) = shared(Entities::new(), 1);
-    assert_eq!((shared.len(), shared.is_empty()), (0, true));
     assert_eq!(
-        (shared.iter().next(), reservers[0].iter().next()),
+        (shared.entities().len(), shared.entities().is_empty()),
+        (0, true)
+    );
+    assert_eq!(
+        (
+            shared.entities().iter().next(),
+            reservers[0].entities().iter().next()
+        ),
         (None, None)
     );
 }

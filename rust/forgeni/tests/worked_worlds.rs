@@ -94,8 +94,8 @@ fn queues_take_effect_in_their_order() {
     second.remove(early, SPEED).expect("memory");
     first.insert(old, &[(HP, 3)]).expect("memory");
     first.despawn(late).expect("memory");
-    assert_eq!(second.get(old, HP), Some(1));
-    assert_eq!(first.get(early, SPEED), None);
+    assert_eq!(second.view().get(old, HP), Some(1));
+    assert_eq!(first.view().get(early, SPEED), None);
 
     let queues = vec![first.finish(), second.finish()];
     let (mut world, queues) = open.close(queues).expect("all queues");
@@ -271,15 +271,15 @@ fn an_open_world_is_read() {
     let (open, mut systems) = world.open(1).expect("a phase");
     let only = &mut systems[0];
     let new = only.spawn(&[]).expect("a handle");
-    assert_eq!(open.by_birth(), Ok(vec![first, other]));
-    assert_eq!(only.by_birth(), Ok(vec![first, other]));
+    assert_eq!(open.view().by_birth(), Ok(vec![first, other]));
+    assert_eq!(only.view().by_birth(), Ok(vec![first, other]));
     assert_eq!(
-        (open.birth(other), only.birth(other)),
+        (open.view().birth(other), only.view().birth(other)),
         (Some(birth), Some(birth))
     );
     assert_eq!(birth.to_string(), "7.3.1");
-    assert!(open.contains(other) && only.contains(other));
-    assert!(!open.contains(new) && !only.contains(new));
+    assert!(open.view().contains(other) && only.view().contains(other));
+    assert!(!open.view().contains(new) && !only.view().contains(new));
 }
 
 /// A system that panicked is lost with its commands. What it had reserved comes to life.
@@ -360,7 +360,7 @@ fn dropped_after_their_phase() {
     let mut kept = systems.pop().expect("a system");
     drop(systems);
     drop(open);
-    assert_eq!(kept.get(handle(7, 1), HP), Some(7));
+    assert_eq!(kept.view().get(handle(7, 1), HP), Some(7));
     kept.spawn(&[(HP, 1)]).expect("a handle");
     let queue = kept.finish();
     drop(queue);

@@ -156,9 +156,17 @@ fn phase(world: World, model: &mut WorldModel, seed: u64, way: Way, place: &str)
         .map(|commands| System::new(commands, model))
         .collect();
     for (entity, (birth, held)) in &model.live {
-        assert_eq!(open.birth(*entity), Some(*birth), "{place}: {entity}");
+        assert_eq!(
+            open.view().birth(*entity),
+            Some(*birth),
+            "{place}: {entity}"
+        );
         for (id, value) in held {
-            assert_eq!(open.get(*entity, *id), Some(*value), "{place}: {entity}");
+            assert_eq!(
+                open.view().get(*entity, *id),
+                Some(*value),
+                "{place}: {entity}"
+            );
         }
     }
     let each = way.systems.div_ceil(way.threads);
@@ -197,11 +205,11 @@ fn phase(world: World, model: &mut WorldModel, seed: u64, way: Way, place: &str)
 fn view(commands: &Commands, model: &WorldModel, numbers: &mut Numbers) {
     let any = any_handle(numbers, model);
     let there = model.live.get(&any);
-    assert_eq!(commands.birth(any), there.map(|entity| entity.0));
+    assert_eq!(commands.view().birth(any), there.map(|entity| entity.0));
     let value = there.and_then(|(_, held)| held.get(&ComponentId(1)).copied());
-    assert_eq!(commands.get(any, ComponentId(1)), value);
+    assert_eq!(commands.view().get(any, ComponentId(1)), value);
     if numbers.below(8) == 0 {
-        assert_eq!(commands.by_birth(), Ok(model.by_birth()));
+        assert_eq!(commands.view().by_birth(), Ok(model.by_birth()));
     }
 }
 

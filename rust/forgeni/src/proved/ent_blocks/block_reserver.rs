@@ -26,66 +26,42 @@ pub struct BlockReserver {
 impl BlockReserver {
     /// Returns the number of handles in the block. It is less than the requested size if the pool
     /// had no more.
-    ///
-    /// <details><summary>Contract</summary>
-    ///
-    /// <code style="display: block; tab-size: 4; white-space: pre-wrap">// In the words of [contracts](crate::contracts):
-    /// ensures { result ≡ self.now.block.size }
-    /// </code>
-    ///
-    /// </details>
     #[must_use]
     #[inline]
-    pub fn size(&self) -> u32 {
+    pub(crate) fn size(&self) -> u32
+        // ensures { result ≡ self.now.block.size }
+    {
         self.part.size()
     }
 
     /// Returns the number of handles of the block that are used.
-    ///
-    /// <details><summary>Contract</summary>
-    ///
-    /// <code style="display: block; tab-size: 4; white-space: pre-wrap">// In the words of [contracts](crate::contracts):
-    /// ensures value { result ≡ self.now.block.used }
-    /// ensures within { result ≤ self.now.block.size }
-    /// </code>
-    ///
-    /// </details>
     #[must_use]
     #[inline]
-    pub fn used(&self) -> u32 {
+    pub(crate) fn used(&self) -> u32
+        // ensures value { result ≡ self.now.block.used }
+        // ensures within { result ≤ self.now.block.size }
+    {
         self.part.used()
     }
 
     /// Returns the number of handles that are left of the block.
-    ///
-    /// <details><summary>Contract</summary>
-    ///
-    /// <code style="display: block; tab-size: 4; white-space: pre-wrap">// In the words of [contracts](crate::contracts):
-    /// ensures value { result ≡ self.now.block.size - self.now.block.used }
-    /// ensures within { self.now.block.used ≤ self.now.block.size }
-    /// </code>
-    ///
-    /// </details>
     #[must_use]
     #[inline]
-    pub fn left(&self) -> u32 {
+    pub(crate) fn left(&self) -> u32
+        // ensures value { result ≡ self.now.block.size - self.now.block.used }
+        // ensures within { self.now.block.used ≤ self.now.block.size }
+    {
         self.part.left()
     }
 
     /// Returns how many handles would have been enough: those that are used, plus the largest of
     /// the requests that were refused because too few were left. It is at most 4,294,967,295.
     /// [`BlockSize::adapt`](crate::in_blocks::BlockSize::adapt) takes it.
-    ///
-    /// <details><summary>Contract</summary>
-    ///
-    /// <code style="display: block; tab-size: 4; white-space: pre-wrap">// In the words of [contracts](crate::contracts):
-    /// ensures { result ≡ [wanted_by](crate::contracts::ent_blocks::blocks#wanted_by) self.now }
-    /// </code>
-    ///
-    /// </details>
     #[must_use]
     #[inline]
-    pub fn wanted(&self) -> u32 {
+    pub(crate) fn wanted(&self) -> u32
+        // ensures { result ≡ wanted_by self.now }
+    {
         self.part.used().saturating_add(self.refused)
     }
 }

@@ -48,121 +48,73 @@ impl SharedSource {
 
 impl SharedSource {
     /// Returns the number of reservers that `share` made for it.
-    ///
-    /// <details><summary>Contract</summary>
-    ///
-    /// <code style="display: block; tab-size: 4; white-space: pre-wrap">// In the words of [contracts](crate::contracts):
-    /// ensures { result ≡ self.now.count }
-    /// </code>
-    ///
-    /// </details>
     #[inline]
-    pub fn count(&self) -> usize {
+    pub(crate) fn count(&self) -> usize
+        // ensures { result ≡ self.now.count }
+    {
         self.count
     }
 
     /// Returns the allocator as it was when the phase was opened. It doesn't change until the
     /// close.
-    ///
-    /// <details><summary>Contract</summary>
-    ///
-    /// <code style="display: block; tab-size: 4; white-space: pre-wrap">// In the words of [contracts](crate::contracts):
-    /// ensures start { result.now.allocator ≡ self.now.start }
-    /// ensures rows { result.now.rows ≡ self.now.rows }
-    /// </code>
-    ///
-    /// </details>
     #[inline]
-    pub fn opened(&self) -> &Entities {
+    pub(crate) fn opened(&self) -> &Entities
+        // ensures start { result.now.allocator ≡ self.now.start }
+        // ensures rows { result.now.rows ≡ self.now.rows }
+    {
         &self.entities
     }
 
     /// Returns `true` if the handle was alive when the phase was opened. It takes constant time.
-    ///
-    /// <details><summary>Contract</summary>
-    ///
-    /// <code style="display: block; tab-size: 4; white-space: pre-wrap">// In the words of [contracts](crate::contracts):
-    /// ensures { result ≡ [set.contains](crate::contracts::logic#FinSet.contains) self.now.start.live handle }
-    /// </code>
-    ///
-    /// </details>
     #[inline]
-    pub fn is_alive(&self, handle: Handle) -> bool {
+    pub(crate) fn is_alive(&self, handle: Handle) -> bool
+        // ensures { result ≡ set.contains self.now.start.live handle }
+    {
         self.entities.is_alive(handle)
     }
 
     /// Returns the number of handles that were alive when the phase was opened.
-    ///
-    /// <details><summary>Contract</summary>
-    ///
-    /// <code style="display: block; tab-size: 4; white-space: pre-wrap">// In the words of [contracts](crate::contracts):
-    /// ensures { result ≡ [set.len](crate::contracts::logic#FinSet.len) self.now.start.live }
-    /// </code>
-    ///
-    /// </details>
     #[inline]
-    pub fn len(&self) -> u32 {
+    pub(crate) fn len(&self) -> u32
+        // ensures { result ≡ set.len self.now.start.live }
+    {
         self.entities.len()
     }
 
     /// Returns `true` if no handle was alive when the phase was opened.
-    ///
-    /// <details><summary>Contract</summary>
-    ///
-    /// <code style="display: block; tab-size: 4; white-space: pre-wrap">// In the words of [contracts](crate::contracts):
-    /// ensures { [IsTrue](crate::contracts::logic#IsTrue) result ↔ ([set.len](crate::contracts::logic#FinSet.len) self.now.start.live ≡ 0) }
-    /// </code>
-    ///
-    /// </details>
     #[inline]
-    pub fn is_empty(&self) -> bool {
+    pub(crate) fn is_empty(&self) -> bool
+        // ensures { IsTrue result ↔ (set.len self.now.start.live ≡ 0) }
+    {
         self.entities.is_empty()
     }
 
     /// Returns an iterator over the handles that were alive when the phase was opened, in slot
     /// order.
-    ///
-    /// <details><summary>Contract</summary>
-    ///
-    /// <code style="display: block; tab-size: 4; white-space: pre-wrap">// In the words of [contracts](crate::contracts):
-    /// ensures living { [set.from_list](crate::contracts::logic#FinSet.from_list) result ≡ self.now.start.live }
-    /// ensures rising { [AllPairs](crate::contracts::logic#AllPairs) (λ g h. g.index \< h.index) result }
-    /// ensures count { [length](crate::contracts::logic#length) result ≡ [set.len](crate::contracts::logic#FinSet.len) self.now.start.live }
-    /// </code>
-    ///
-    /// </details>
     #[inline]
-    pub fn iter(&self) -> Living<'_> {
+    pub(crate) fn iter(&self) -> Living<'_>
+        // ensures living { set.from_list result ≡ self.now.start.live }
+        // ensures rising { AllPairs (λ g h. g.index < h.index) result }
+        // ensures count { length result ≡ set.len self.now.start.live }
+    {
         self.entities.iter()
     }
 
     /// Returns the number of handles in the pool when the phase was opened. It never has more.
-    ///
-    /// <details><summary>Contract</summary>
-    ///
-    /// <code style="display: block; tab-size: 4; white-space: pre-wrap">// In the words of [contracts](crate::contracts):
-    /// ensures { result ≡ [length](crate::contracts::logic#length) self.now.start.pool }
-    /// </code>
-    ///
-    /// </details>
     #[inline]
-    pub fn pool(&self) -> u64 {
+    pub(crate) fn pool(&self) -> u64
+        // ensures { result ≡ length self.now.start.pool }
+    {
         u64::from(self.entities.top()) + u64::from(self.entities.room())
     }
 
     /// Returns the row that the entity had when the phase was opened, or `None` if the handle
     /// wasn't alive then, or if no row was set since it came to life. It takes constant time.
-    ///
-    /// <details><summary>Contract</summary>
-    ///
-    /// <code style="display: block; tab-size: 4; white-space: pre-wrap">// In the words of [contracts](crate::contracts):
-    /// ensures value { result ≡ [map.get](crate::contracts::logic#FinMap.get) self.now.rows handle }
-    /// ensures alive { [OnSome](crate::contracts::logic#OnSome) result ([set.contains](crate::contracts::logic#FinSet.contains) self.now.start.live handle ≡ [true](crate::contracts::logic#true)) }
-    /// </code>
-    ///
-    /// </details>
     #[inline]
-    pub fn row(&self, handle: Handle) -> Option<u32> {
+    pub(crate) fn row(&self, handle: Handle) -> Option<u32>
+        // ensures value { result ≡ map.get self.now.rows handle }
+        // ensures alive { OnSome result (set.contains self.now.start.live handle ≡ true) }
+    {
         self.entities.row(handle)
     }
 

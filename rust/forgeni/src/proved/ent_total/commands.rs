@@ -4,7 +4,7 @@ use alloc::vec::Vec;
 use crate::phases::command_queue::CommandQueue;
 use crate::phases::open_world::OpenWorld;
 use crate::allocator::ReserveError;
-use crate::handles::{Birth, ComponentId, Handle, OutOfMemory};
+use crate::handles::{ComponentId, Handle, OutOfMemory};
 use crate::reserving::SharedReserver;
 use crate::worlds::View;
 use core::mem;
@@ -59,7 +59,7 @@ impl Commands {
     ///
     /// let (open, mut systems) = World::new().open(1)?;
     /// let cart = systems[0].spawn(&[(ComponentId(0), 5)])?;
-    /// assert!(!open.contains(cart));
+    /// assert!(!open.view().contains(cart));
     /// let queues = systems.into_iter().map(|one| one.finish()).collect();
     /// let (mut world, queues) = open.close(queues)?;
     /// world.apply(queues)?;
@@ -177,7 +177,7 @@ impl Commands {
     /// systems[0].insert(oak, &[(AGE, 81)])?;
     ///
     /// // It takes effect when the queue is applied.
-    /// assert_eq!(systems[0].get(oak, AGE), Some(80));
+    /// assert_eq!(systems[0].view().get(oak, AGE), Some(80));
     /// let queues = systems.into_iter().map(|one| one.finish()).collect();
     /// let (mut world, queues) = open.close(queues)?;
     /// world.apply(queues)?;
@@ -300,125 +300,6 @@ impl Commands {
 
 /// # Looking at the world
 impl Commands {
-    /// Returns the value of the entity's component, if the entity is alive and has it.
-    ///
-    /// ```
-    /// use forgeni::{ComponentId, World};
-    ///
-    /// const AGE: ComponentId = ComponentId(0);
-    ///
-    /// let mut world = World::new();
-    /// let oak = world.spawn(&[(AGE, 80)])?;
-    /// let (_open, mut systems) = world.open(1)?;
-    /// // A year passes for what is there.
-    /// if let Some(age) = systems[0].get(oak, AGE) {
-    ///     systems[0].insert(oak, &[(AGE, age + 1)])?;
-    /// }
-    /// # Ok::<(), Box<dyn std::error::Error>>(())
-    /// ```
-    ///
-    /// <details><summary>Contract</summary>
-    ///
-    /// <code style="display: block; tab-size: 4; white-space: pre-wrap">// In the words of [contracts](crate::contracts):
-    /// ensures { result ≡ [value_of](crate::contracts::ent_storage::entity_map#value_of) self.now.world.entities handle id }
-    /// </code>
-    ///
-    /// </details>
-    #[must_use]
-    #[inline]
-    pub fn get(&self, handle: Handle, id: ComponentId) -> Option<i64> {
-        self.world.view().get(handle, id)
-    }
-
-    /// Returns `true` if the entity is alive. What the systems of the phase spawn isn't alive yet.
-    ///
-    /// ```
-    /// use forgeni::World;
-    ///
-    /// let mut world = World::new();
-    /// let oak = world.spawn(&[])?;
-    /// let (_open, mut systems) = world.open(2)?;
-    /// systems[0].despawn(oak)?;
-    /// // Until the sync point every system sees the same world.
-    /// assert!(systems[1].contains(oak));
-    /// # Ok::<(), Box<dyn std::error::Error>>(())
-    /// ```
-    ///
-    /// <details><summary>Contract</summary>
-    ///
-    /// <code style="display: block; tab-size: 4; white-space: pre-wrap">// In the words of [contracts](crate::contracts):
-    /// ensures { result ≡ [map.contains_key](crate::contracts::logic#FinMap.contains_key) self.now.world.entities handle }
-    /// </code>
-    ///
-    /// </details>
-    #[must_use]
-    #[inline]
-    pub fn contains(&self, handle: Handle) -> bool {
-        self.world.view().contains(handle)
-    }
-
-    /// Returns the birth of the entity, if it is alive: when it came to life, and by which system.
-    ///
-    /// ```
-    /// use forgeni::World;
-    ///
-    /// let mut world = World::new();
-    /// let oak = world.spawn(&[])?;
-    /// world.flush()?;
-    /// let (_open, mut systems) = world.open(1)?;
-    /// let new = systems[0].spawn(&[])?;
-    /// assert_eq!(systems[0].birth(oak).map(|it| it.frame), Some(0));
-    /// assert_eq!(systems[0].birth(new), None);
-    /// # Ok::<(), Box<dyn std::error::Error>>(())
-    /// ```
-    ///
-    /// <details><summary>Contract</summary>
-    ///
-    /// <code style="display: block; tab-size: 4; white-space: pre-wrap">// In the words of [contracts](crate::contracts):
-    /// ensures { result ≡ [birth_of](crate::contracts::ent_storage::entity_map#birth_of) self.now.world.entities handle }
-    /// </code>
-    ///
-    /// </details>
-    #[must_use]
-    #[inline]
-    pub fn birth(&self, handle: Handle) -> Option<Birth> {
-        self.world.view().birth(handle)
-    }
-
-    /// Returns the handles of all entities, ordered by birth and then by handle. It takes the time
-    /// of a sort.
-    ///
-    /// ```
-    /// use forgeni::World;
-    ///
-    /// let mut world = World::new();
-    /// world.spawn(&[])?;
-    /// world.spawn(&[])?;
-    /// let (_open, mut systems) = world.open(1)?;
-    /// for one in systems[0].by_birth()? {
-    ///     systems[0].despawn(one)?;
-    /// }
-    /// # Ok::<(), Box<dyn std::error::Error>>(())
-    /// ```
-    ///
-    /// # Errors
-    ///
-    /// `OutOfMemory`: there isn't enough memory for the list. It is never returned if there are no
-    /// entities.
-    ///
-    /// <details><summary>Contract</summary>
-    ///
-    /// <code style="display: block; tab-size: 4; white-space: pre-wrap">// In the words of [contracts](crate::contracts):
-    /// ensures ok { [IfOk](crate::contracts::logic#IfOk) result (λ handles. [ListsAll](crate::contracts::ent_storage::birth_order#ListsAll) self.now.world.entities handles.items) }
-    /// ensures memory { [OnErr](crate::contracts::logic#OnErr) result (self.now.world.entities ≢ [map.empty](crate::contracts::logic#FinMap.empty)) }
-    /// </code>
-    ///
-    /// </details>
-    #[inline]
-    pub fn by_birth(&self) -> Result<Vec<Handle>, OutOfMemory> {
-        self.world.view().by_birth()
-    }
-
     /// Returns a view of the world, like the one that a system of a frame gets.
     ///
     /// ```

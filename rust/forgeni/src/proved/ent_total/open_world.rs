@@ -5,7 +5,7 @@ use crate::kit::vec::FallibleVec;
 use crate::phases::command_queue::CommandQueue;
 use crate::phases::commands::Commands;
 use crate::phases::world_returning::bring_back;
-use crate::handles::{Birth, ComponentId, Handle, OutOfMemory};
+use crate::handles::OutOfMemory;
 use crate::reserving::SharedReserver;
 use crate::worlds::View;
 use crate::kit::sync::Arc;
@@ -23,7 +23,7 @@ use crate::kit::sync::Arc;
 /// let (open, systems) = world.open(2)?;
 /// let queues = std::thread::scope(|scope| {
 ///     let run = |mut commands: forgeni::Commands| {
-///         let _out_of_memory = if open.contains(oak) { commands.despawn(oak) } else { Ok(()) };
+///         let _out_of_memory = if open.view().contains(oak) { commands.despawn(oak) } else { Ok(()) };
 ///         commands.finish()
 ///     };
 ///     let threads: Vec<_> = systems.into_iter().map(|it| scope.spawn(move || run(it))).collect();
@@ -54,119 +54,6 @@ pub(super) struct Parts {
 
 /// # Looking at the world
 impl OpenWorld {
-    /// Returns the value of the entity's component, if the entity is alive and has it.
-    ///
-    /// ```
-    /// use forgeni::{ComponentId, World};
-    ///
-    /// const AGE: ComponentId = ComponentId(0);
-    ///
-    /// let mut world = World::new();
-    /// let oak = world.spawn(&[(AGE, 80)])?;
-    /// let (open, mut systems) = world.open(1)?;
-    /// systems[0].insert(oak, &[(AGE, 81)])?;
-    /// // It is 81 after the sync point.
-    /// assert_eq!(open.get(oak, AGE), Some(80));
-    /// # Ok::<(), Box<dyn std::error::Error>>(())
-    /// ```
-    ///
-    /// <details><summary>Contract</summary>
-    ///
-    /// <code style="display: block; tab-size: 4; white-space: pre-wrap">// In the words of [contracts](crate::contracts):
-    /// ensures { result ≡ [value_of](crate::contracts::ent_storage::entity_map#value_of) self.now.world.entities handle id }
-    /// </code>
-    ///
-    /// </details>
-    #[must_use]
-    #[inline]
-    pub fn get(&self, handle: Handle, id: ComponentId) -> Option<i64> {
-        self.world.view().get(handle, id)
-    }
-
-    /// Returns `true` if the entity is alive. What the systems spawn isn't alive yet.
-    ///
-    /// ```
-    /// use forgeni::World;
-    ///
-    /// let mut world = World::new();
-    /// let oak = world.spawn(&[])?;
-    /// let (open, mut systems) = world.open(1)?;
-    /// let new = systems[0].spawn(&[])?;
-    /// assert!(open.contains(oak) && !open.contains(new));
-    /// # Ok::<(), Box<dyn std::error::Error>>(())
-    /// ```
-    ///
-    /// <details><summary>Contract</summary>
-    ///
-    /// <code style="display: block; tab-size: 4; white-space: pre-wrap">// In the words of [contracts](crate::contracts):
-    /// ensures { result ≡ [map.contains_key](crate::contracts::logic#FinMap.contains_key) self.now.world.entities handle }
-    /// </code>
-    ///
-    /// </details>
-    #[must_use]
-    #[inline]
-    pub fn contains(&self, handle: Handle) -> bool {
-        self.world.view().contains(handle)
-    }
-
-    /// Returns the birth of the entity, if it is alive: when it came to life, and by which system.
-    ///
-    /// ```
-    /// use forgeni::World;
-    ///
-    /// let mut world = World::new();
-    /// let (oak, lime) = (world.spawn(&[])?, world.spawn(&[])?);
-    /// let (open, _systems) = world.open(1)?;
-    /// assert!(open.birth(oak) < open.birth(lime));
-    /// # Ok::<(), Box<dyn std::error::Error>>(())
-    /// ```
-    ///
-    /// <details><summary>Contract</summary>
-    ///
-    /// <code style="display: block; tab-size: 4; white-space: pre-wrap">// In the words of [contracts](crate::contracts):
-    /// ensures { result ≡ [birth_of](crate::contracts::ent_storage::entity_map#birth_of) self.now.world.entities handle }
-    /// </code>
-    ///
-    /// </details>
-    #[must_use]
-    #[inline]
-    pub fn birth(&self, handle: Handle) -> Option<Birth> {
-        self.world.view().birth(handle)
-    }
-
-    /// Returns the handles of all entities, ordered by birth and then by handle. It takes the time
-    /// of a sort.
-    ///
-    /// ```
-    /// use forgeni::World;
-    ///
-    /// let mut world = World::new();
-    /// let (oak, lime) = (world.spawn(&[])?, world.spawn(&[])?);
-    /// let (open, _systems) = world.open(4)?;
-    /// // Any thread may draw the world while systems run.
-    /// let drawn = std::thread::scope(|scope| scope.spawn(|| open.by_birth()).join());
-    /// assert_eq!(drawn.expect("no panic")?, [oak, lime]);
-    /// # Ok::<(), Box<dyn std::error::Error>>(())
-    /// ```
-    ///
-    /// # Errors
-    ///
-    /// `OutOfMemory`: there isn't enough memory for the list. It is never returned if there are no
-    /// entities.
-    ///
-    /// <details><summary>Contract</summary>
-    ///
-    /// <code style="display: block; tab-size: 4; white-space: pre-wrap">// In the words of [contracts](crate::contracts):
-    /// ensures ok { [IfOk](crate::contracts::logic#IfOk) result (λ handles. [ListsAll](crate::contracts::ent_storage::birth_order#ListsAll) self.now.world.entities handles.items) }
-    /// ensures memory { [OnErr](crate::contracts::logic#OnErr) result (self.now.world.entities ≢ [map.empty](crate::contracts::logic#FinMap.empty)) }
-    /// </code>
-    ///
-    /// </details>
-    #[inline]
-    pub fn by_birth(&self) -> Result<Vec<Handle>, OutOfMemory> {
-        self.world.view().by_birth()
-    }
-
     /// Returns a view of the world, like the one that a system of a frame gets.
     ///
     /// ```

@@ -4,8 +4,8 @@ use alloc::vec::Vec;
 use crate::kit::vec::FallibleVec;
 use crate::phases::reserver::Reserver;
 use crate::phases::returning::bring_back;
-use crate::allocator::{Living, Phased};
-use crate::handles::{Handle, OutOfMemory};
+use crate::allocator::{Entities, Phased};
+use crate::handles::OutOfMemory;
 use crate::reserving::SharedSource;
 use crate::kit::sync::Arc;
 
@@ -27,7 +27,7 @@ use crate::kit::sync::Arc;
 /// let (shared, mut reservers) = entities.share(4)?;
 /// std::thread::scope(|scope| {
 ///     for reserver in &mut reservers {
-///         scope.spawn(|| shared.is_alive(old) && reserver.reserve().is_ok());
+///         scope.spawn(|| shared.entities().is_alive(old) && reserver.reserve().is_ok());
 ///     }
 /// });
 /// let mut entities = shared.close(reservers)?;
@@ -44,9 +44,8 @@ pub struct Phase<S: Phased = SharedSource> {
 
 /// # Looking at entities
 impl<S: Phased> Phase<S> {
-    /// Returns `true` if the entity was alive when the phase was opened. That doesn't change until
-    /// the close: what is reserved comes to life after it, and nothing is freed before. Any thread
-    /// may call it, and it takes constant time.
+    /// Returns the allocator as it was when the phase was opened. It doesn't change until the close:
+    /// what is reserved comes to life after it, and nothing is freed before. Any thread may read it.
     ///
     /// ```
     /// use forgeni::Entities;
@@ -56,8 +55,9 @@ impl<S: Phased> Phase<S> {
     /// entities.try_set_row(old, 3)?;
     /// entities.phase(1, |shared, reservers| {
     ///     let new = reservers[0].reserve().expect("a handle");
-    ///     assert!(shared.is_alive(old) && !shared.is_alive(new));
-    ///     assert_eq!((shared.row(old), shared.row(new)), (Some(3), None));
+    ///     let before = shared.entities();
+    ///     assert!(before.is_alive(old) && !before.is_alive(new));
+    ///     assert_eq!((before.row(old), before.iter().count()), (Some(3), 1));
     /// })?;
     /// # Ok::<(), Box<dyn std::error::Error + Send + Sync>>(())
     /// ```
@@ -65,123 +65,17 @@ impl<S: Phased> Phase<S> {
     /// <details><summary>Contract</summary>
     ///
     /// <code style="display: block; tab-size: 4; white-space: pre-wrap">// In the words of [contracts](crate::contracts):
-    /// ensures { result ≡ [set.contains](crate::contracts::logic#FinSet.contains) (S.start self.now.source).live handle }
+    /// ensures { result.now ≡ record {
+    /// &#32;&#32;allocator = S.start self.now.source;
+    /// &#32;&#32;rows = S.rows self.now.source;
+    /// } }
     /// </code>
     ///
     /// </details>
     #[must_use]
     #[inline]
-    pub fn is_alive(&self, handle: Handle) -> bool {
-        self.source.as_opened().is_alive(handle)
-    }
-
-    /// Returns an iterator over the entities that were alive when the phase was opened, in slot
-    /// order.
-    ///
-    /// ```
-    /// use forgeni::Entities;
-    ///
-    /// let mut entities = Entities::new();
-    /// let old = entities.alloc()?;
-    /// let (shared, mut reservers) = entities.share(1)?;
-    /// let new = reservers[0].reserve()?;
-    /// assert_eq!(shared.iter().collect::<Vec<_>>(), [old]);
-    /// # Ok::<(), Box<dyn std::error::Error + Send + Sync>>(())
-    /// ```
-    ///
-    /// <details><summary>Contract</summary>
-    ///
-    /// <code style="display: block; tab-size: 4; white-space: pre-wrap">// In the words of [contracts](crate::contracts):
-    /// ensures living { [set.from_list](crate::contracts::logic#FinSet.from_list) result ≡ (S.start self.now.source).live }
-    /// ensures rising { [AllPairs](crate::contracts::logic#AllPairs) (λ g h. g.index \< h.index) result }
-    /// ensures count { [length](crate::contracts::logic#length) result ≡ [set.len](crate::contracts::logic#FinSet.len) (S.start self.now.source).live }
-    /// </code>
-    ///
-    /// </details>
-    #[must_use]
-    #[inline]
-    pub fn iter(&self) -> Living<'_> {
-        self.source.as_opened().iter()
-    }
-
-    /// Returns the number of entities that were alive when the phase was opened.
-    ///
-    /// ```
-    /// use forgeni::Entities;
-    ///
-    /// let mut entities = Entities::new();
-    /// entities.alloc()?;
-    /// let (shared, mut reservers) = entities.share(1)?;
-    /// reservers[0].reserve_many(10)?;
-    /// assert_eq!(shared.len(), 1);
-    /// # Ok::<(), Box<dyn std::error::Error>>(())
-    /// ```
-    ///
-    /// <details><summary>Contract</summary>
-    ///
-    /// <code style="display: block; tab-size: 4; white-space: pre-wrap">// In the words of [contracts](crate::contracts):
-    /// ensures { result ≡ [set.len](crate::contracts::logic#FinSet.len) (S.start self.now.source).live }
-    /// </code>
-    ///
-    /// </details>
-    #[must_use]
-    #[inline]
-    pub fn len(&self) -> u32 {
-        self.source.as_opened().len()
-    }
-
-    /// Returns `true` if no entity was alive when the phase was opened.
-    ///
-    /// ```
-    /// use forgeni::Entities;
-    ///
-    /// let (shared, mut reservers) = Entities::new().share(1)?;
-    /// let first = reservers[0].reserve()?;
-    /// // It is reserved, but not alive yet.
-    /// assert!(shared.is_empty() && !shared.is_alive(first));
-    /// # Ok::<(), Box<dyn std::error::Error>>(())
-    /// ```
-    ///
-    /// <details><summary>Contract</summary>
-    ///
-    /// <code style="display: block; tab-size: 4; white-space: pre-wrap">// In the words of [contracts](crate::contracts):
-    /// ensures { [IsTrue](crate::contracts::logic#IsTrue) result ↔ ([set.len](crate::contracts::logic#FinSet.len) (S.start self.now.source).live ≡ 0) }
-    /// </code>
-    ///
-    /// </details>
-    #[must_use]
-    #[inline]
-    pub fn is_empty(&self) -> bool {
-        self.source.as_opened().is_empty()
-    }
-
-    /// Returns the row that the entity had ([`try_set_row`](crate::Entities::try_set_row)) when
-    /// the phase was opened, or `None` if it wasn't alive then or had no row. Any thread may call
-    /// it, and it takes constant time.
-    ///
-    /// ```
-    /// use forgeni::Entities;
-    ///
-    /// let mut entities = Entities::new();
-    /// let (cart, horse) = (entities.alloc()?, entities.alloc()?);
-    /// entities.try_set_row(cart, 7)?;
-    /// let (shared, _reservers) = entities.share(1)?;
-    /// assert_eq!((shared.row(cart), shared.row(horse)), (Some(7), None));
-    /// # Ok::<(), Box<dyn std::error::Error>>(())
-    /// ```
-    ///
-    /// <details><summary>Contract</summary>
-    ///
-    /// <code style="display: block; tab-size: 4; white-space: pre-wrap">// In the words of [contracts](crate::contracts):
-    /// ensures value { result ≡ [map.get](crate::contracts::logic#FinMap.get) (S.rows self.now.source) handle }
-    /// ensures alive { [OnSome](crate::contracts::logic#OnSome) result ([set.contains](crate::contracts::logic#FinSet.contains) (S.start self.now.source).live handle ≡ [true](crate::contracts::logic#true)) }
-    /// </code>
-    ///
-    /// </details>
-    #[must_use]
-    #[inline]
-    pub fn row(&self, handle: Handle) -> Option<u32> {
-        self.source.as_opened().row(handle)
+    pub fn entities(&self) -> &Entities {
+        self.source.as_opened()
     }
 }
 

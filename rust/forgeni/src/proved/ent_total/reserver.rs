@@ -1,8 +1,7 @@
 // Made of crates/ent_total/src/reserver.rt by rust/erase. It isn't edited by hand.
 
 use crate::phases::phase::Phase;
-use crate::allocator::{Living, Phased};
-use crate::handles::Handle;
+use crate::allocator::{Entities, Phased};
 use crate::reserving::SharedSource;
 use crate::kit::sync::Arc;
 
@@ -44,7 +43,7 @@ pub struct Reserver<S: Phased = SharedSource> {
 
 /// # Looking at entities
 impl<S: Phased> Reserver<S> {
-    /// Returns `true` if the entity was alive when the phase was opened, like [`Phase::is_alive`].
+    /// Returns the allocator as it was when the phase was opened, like [`Phase::entities`].
     ///
     /// ```
     /// use forgeni::Entities;
@@ -53,77 +52,25 @@ impl<S: Phased> Reserver<S> {
     /// let old = entities.alloc()?;
     /// let (_shared, mut reservers) = entities.share(1)?;
     /// let new = reservers[0].reserve()?;
-    /// assert!(reservers[0].is_alive(old) && !reservers[0].is_alive(new));
+    /// let before = reservers[0].entities();
+    /// assert!(before.is_alive(old) && !before.is_alive(new));
     /// # Ok::<(), Box<dyn std::error::Error>>(())
     /// ```
     ///
     /// <details><summary>Contract</summary>
     ///
     /// <code style="display: block; tab-size: 4; white-space: pre-wrap">// In the words of [contracts](crate::contracts):
-    /// ensures { result ≡ [set.contains](crate::contracts::logic#FinSet.contains) (S.start self.now.source).live handle }
+    /// ensures { result.now ≡ record {
+    /// &#32;&#32;allocator = S.start self.now.source;
+    /// &#32;&#32;rows = S.rows self.now.source;
+    /// } }
     /// </code>
     ///
     /// </details>
     #[must_use]
     #[inline]
-    pub fn is_alive(&self, handle: Handle) -> bool {
-        self.source.as_opened().is_alive(handle)
-    }
-
-    /// Returns an iterator over the entities that were alive when the phase was opened, like
-    /// [`Phase::iter`].
-    ///
-    /// ```
-    /// use forgeni::Entities;
-    ///
-    /// let mut entities = Entities::new();
-    /// let (cart, horse) = (entities.alloc()?, entities.alloc()?);
-    /// let (_shared, mut reservers) = entities.share(1)?;
-    /// reservers[0].reserve()?;
-    /// assert_eq!(reservers[0].iter().collect::<Vec<_>>(), [cart, horse]);
-    /// # Ok::<(), Box<dyn std::error::Error>>(())
-    /// ```
-    ///
-    /// <details><summary>Contract</summary>
-    ///
-    /// <code style="display: block; tab-size: 4; white-space: pre-wrap">// In the words of [contracts](crate::contracts):
-    /// ensures living { [set.from_list](crate::contracts::logic#FinSet.from_list) result ≡ (S.start self.now.source).live }
-    /// ensures rising { [AllPairs](crate::contracts::logic#AllPairs) (λ g h. g.index \< h.index) result }
-    /// ensures count { [length](crate::contracts::logic#length) result ≡ [set.len](crate::contracts::logic#FinSet.len) (S.start self.now.source).live }
-    /// </code>
-    ///
-    /// </details>
-    #[must_use]
-    #[inline]
-    pub fn iter(&self) -> Living<'_> {
-        self.source.as_opened().iter()
-    }
-
-    /// Returns the row that the entity had when the phase was opened, like [`Phase::row`].
-    ///
-    /// ```
-    /// use forgeni::Entities;
-    ///
-    /// let mut entities = Entities::new();
-    /// let cart = entities.alloc()?;
-    /// entities.try_set_row(cart, 7)?;
-    /// let (_shared, reservers) = entities.share(1)?;
-    /// assert_eq!(reservers[0].row(cart), Some(7));
-    /// # Ok::<(), Box<dyn std::error::Error>>(())
-    /// ```
-    ///
-    /// <details><summary>Contract</summary>
-    ///
-    /// <code style="display: block; tab-size: 4; white-space: pre-wrap">// In the words of [contracts](crate::contracts):
-    /// ensures value { result ≡ [map.get](crate::contracts::logic#FinMap.get) (S.rows self.now.source) handle }
-    /// ensures alive { [OnSome](crate::contracts::logic#OnSome) result ([set.contains](crate::contracts::logic#FinSet.contains) (S.start self.now.source).live handle ≡ [true](crate::contracts::logic#true)) }
-    /// </code>
-    ///
-    /// </details>
-    #[must_use]
-    #[inline]
-    pub fn row(&self, handle: Handle) -> Option<u32> {
-        self.source.as_opened().row(handle)
+    pub fn entities(&self) -> &Entities {
+        self.source.as_opened()
     }
 }
 

@@ -68,62 +68,38 @@ impl Overflow {
     }
 
     /// Returns the number of blocks.
-    ///
-    /// <details><summary>Contract</summary>
-    ///
-    /// <code style="display: block; tab-size: 4; white-space: pre-wrap">// In the words of [contracts](crate::contracts):
-    /// ensures { result ≡ [length](crate::contracts::logic#length) self.now.blocks }
-    /// </code>
-    ///
-    /// </details>
     #[inline]
-    pub fn count(&self) -> usize {
+    pub(crate) fn count(&self) -> usize
+        // ensures { result ≡ length self.now.blocks }
+    {
         self.parts.len()
     }
 
     /// Returns `true` if the handle was alive when the phase was opened. It takes constant time.
-    ///
-    /// <details><summary>Contract</summary>
-    ///
-    /// <code style="display: block; tab-size: 4; white-space: pre-wrap">// In the words of [contracts](crate::contracts):
-    /// ensures { result ≡ [set.contains](crate::contracts::logic#FinSet.contains) self.now.shared.start.live handle }
-    /// </code>
-    ///
-    /// </details>
     #[inline]
-    pub fn is_alive(&self, handle: Handle) -> bool {
+    pub(crate) fn is_alive(&self, handle: Handle) -> bool
+        // ensures { result ≡ set.contains self.now.shared.start.live handle }
+    {
         self.shared.is_alive(handle)
     }
 
     /// Returns the row that the handle had when the phase was opened, or `None` if it wasn't alive
     /// then or had no row. It takes constant time.
-    ///
-    /// <details><summary>Contract</summary>
-    ///
-    /// <code style="display: block; tab-size: 4; white-space: pre-wrap">// In the words of [contracts](crate::contracts):
-    /// ensures value { result ≡ [maps.get](crate::contracts::logic#FinMap.get) self.now.shared.rows handle }
-    /// ensures alive { [OnSome](crate::contracts::logic#OnSome) result ([set.contains](crate::contracts::logic#FinSet.contains) self.now.shared.start.live handle ≡ [true](crate::contracts::logic#true)) }
-    /// </code>
-    ///
-    /// </details>
     #[inline]
-    pub fn row(&self, handle: Handle) -> Option<u32> {
+    pub(crate) fn row(&self, handle: Handle) -> Option<u32>
+        // ensures value { result ≡ maps.get self.now.shared.rows handle }
+        // ensures alive { OnSome result (set.contains self.now.shared.start.live handle ≡ true) }
+    {
         self.shared.row(handle)
     }
 
     /// Returns the allocator as it was when the phase was opened. It doesn't change until the
     /// close.
-    ///
-    /// <details><summary>Contract</summary>
-    ///
-    /// <code style="display: block; tab-size: 4; white-space: pre-wrap">// In the words of [contracts](crate::contracts):
-    /// ensures start { result.now.allocator ≡ self.now.shared.start }
-    /// ensures rows { result.now.rows ≡ self.now.shared.rows }
-    /// </code>
-    ///
-    /// </details>
     #[inline]
-    pub fn opened(&self) -> &Entities {
+    pub(crate) fn opened(&self) -> &Entities
+        // ensures start { result.now.allocator ≡ self.now.shared.start }
+        // ensures rows { result.now.rows ≡ self.now.shared.rows }
+    {
         self.shared.opened()
     }
 

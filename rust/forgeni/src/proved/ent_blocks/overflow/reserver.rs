@@ -29,77 +29,47 @@ impl Held for OverflowReserver {
 
 impl OverflowReserver {
     /// Returns the number of handles in its block.
-    ///
-    /// <details><summary>Contract</summary>
-    ///
-    /// <code style="display: block; tab-size: 4; white-space: pre-wrap">// In the words of [contracts](crate::contracts):
-    /// ensures { result ≡ self.now.block.size }
-    /// </code>
-    ///
-    /// </details>
     #[inline]
-    pub fn size(&self) -> u32 {
+    pub(crate) fn size(&self) -> u32
+        // ensures { result ≡ self.now.block.size }
+    {
         self.part.size()
     }
 
     /// Returns the number of handles of the block that are used.
-    ///
-    /// <details><summary>Contract</summary>
-    ///
-    /// <code style="display: block; tab-size: 4; white-space: pre-wrap">// In the words of [contracts](crate::contracts):
-    /// ensures value { result ≡ self.now.block.used }
-    /// ensures within { result ≤ self.now.block.size }
-    /// </code>
-    ///
-    /// </details>
     #[inline]
-    pub fn used(&self) -> u32 {
+    pub(crate) fn used(&self) -> u32
+        // ensures value { result ≡ self.now.block.used }
+        // ensures within { result ≤ self.now.block.size }
+    {
         self.part.used()
     }
 
     /// Returns the number of handles that are left of the block.
-    ///
-    /// <details><summary>Contract</summary>
-    ///
-    /// <code style="display: block; tab-size: 4; white-space: pre-wrap">// In the words of [contracts](crate::contracts):
-    /// ensures value { result ≡ self.now.block.size - self.now.block.used }
-    /// ensures within { self.now.block.used ≤ self.now.block.size }
-    /// </code>
-    ///
-    /// </details>
     #[inline]
-    pub fn left(&self) -> u32 {
+    pub(crate) fn left(&self) -> u32
+        // ensures value { result ≡ self.now.block.size - self.now.block.used }
+        // ensures within { self.now.block.used ≤ self.now.block.size }
+    {
         self.part.left()
     }
 
     /// How many handles it requested past its block, served or refused.
-    ///
-    /// <details><summary>Contract</summary>
-    ///
-    /// <code style="display: block; tab-size: 4; white-space: pre-wrap">// In the words of [contracts](crate::contracts):
-    /// ensures value { result ≡ [requested_by](crate::contracts::ent_shared::record#requested_by) self.now.past.own }
-    /// ensures within { result ≤ 2 ^ 40 }
-    /// </code>
-    ///
-    /// </details>
     #[inline]
-    pub fn requested_past(&self) -> u64 {
+    pub(crate) fn requested_past(&self) -> u64
+        // ensures value { result ≡ requested_by self.now.past.own }
+        // ensures within { result ≤ 2 ^ 40 }
+    {
         QUOTA - self.past.left()
     }
 
     /// How many handles of its block would have been enough: those that are used, and those that it
     /// requested past it. At most 4,294,967,295.
-    ///
-    /// <details><summary>Contract</summary>
-    ///
-    /// <code style="display: block; tab-size: 4; white-space: pre-wrap">// In the words of [contracts](crate::contracts):
-    /// ensures { result
-    /// &#9;≡ [min](crate::contracts::logic#min) (self.now.block.used + [requested_by](crate::contracts::ent_shared::record#requested_by) self.now.past.own) (2 ^ 32 - 1) }
-    /// </code>
-    ///
-    /// </details>
     #[inline]
-    pub fn wanted(&self) -> u32 {
+    pub(crate) fn wanted(&self) -> u32
+        // ensures { result
+        //     ≡ min (self.now.block.used + requested_by self.now.past.own) (2 ^ 32 - 1) }
+    {
         let wanted = u64::from(self.part.used()) + self.requested_past();
         if wanted <= u64::from(u32::MAX) {
             wanted as u32
