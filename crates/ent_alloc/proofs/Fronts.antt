@@ -145,9 +145,9 @@ among index (h ∷ hs) = elim (cases_eq h.index index) [
 ]
 
 -- the slots that wait last, of a roster that the vectors stand for, in the order of these
-module _ (limits : Limits) (records : List SlotRecord) (pending : List ℕ) (live : ℕ) (is : List ℕ)
-    (r : Roster)
-    (linked : AreLinked limits records pending live) (view : roster_of limits records pending ≡ r)
+module _ (limits : Limits) (records : List SlotRecord) (pending : List ℕ) (retired : ℕ)
+    (is : List ℕ) (r : Roster)
+    (linked : AreLinked limits records pending retired) (view : roster_of limits records pending ≡ r)
     (few : length is ≤ length r.pending)
     (slots : AreSlotsOf (drop (length r.pending - length is) r.pending) is) where
   abbrev hs : List Handle
@@ -316,7 +316,7 @@ module _ (limits : Limits) (records : List SlotRecord) (pending : List ℕ) (liv
       all_vacant
 
   pub links_in : AreLinked limits (moved records (length pending) is)
-      (placed pending (length pending) is) live
+      (placed pending (length pending) is) retired
   links_in =
       let listed =
       λ (index position : ℕ) (lt : index < length after) (is : (record_at after index).occupancy

@@ -1,5 +1,6 @@
 -- Sound slots are those of a sound allocator, and a sound allocator has sound slots.
-use Rattle.ent_alloc.proofs.Common.{IsTrue, ◌≡◌, sym, ◌∙◌, ℕ, rules, ◌<◌, List, length, reverse}
+use Rattle.ent_alloc.proofs.Common.{IsTrue, ◌≡◌, sym, ◌∙◌, ℕ, ◌+◌, ◌-◌, rules, ◌<◌, ◌≤◌, List}
+use Rattle.ent_alloc.proofs.Common.{length, reverse}
 use Rattle.ent_alloc.proofs.Common.{filter, arith, IsPermutation-reverse, length-map}
 use Rattle.ent_alloc.proofs.Common.{reverse-reverse, All-filter, AllPairs-filter, Handle, Limits}
 use Rattle.ent_alloc.proofs.Common.{Roster, Allocator, available, is_old, AreApart, Entities, idle}
@@ -16,21 +17,24 @@ use Rattle.ent_alloc.proofs.Occupants.{len_occupants}
 use Rattle.ent_alloc.proofs.Meaning.{top_is, old_is, available_is}
 use Rattle.ent_alloc.proofs.ImageLinked.{AreTied, are_slots}
 
--- so records and positions that point at each other are linked
-pub linked : (limits : Limits) (records : List SlotRecord) (pending : List ℕ) (live : ℕ)
-    → AreTied limits records pending → live ≡ length (occupants 0 records)
-    → AreLinked limits records pending live
-linked limits records pending live tied counted =
-    let r = roster_of limits records pending in
-    let sound = slots_sound r (are_slots limits records pending tied) in
-    search (
-      rules,
-      arith,
-      len_occupants 0 records,
-      length-map pending (handle_at records),
-      retired-rest (allocator_of r 0 0) sound,
-      top_is r 0 0 (omega arith) sound,
-    )
+-- so records and positions that point at each other are linked, and no slot counts twice
+module _ (limits : Limits) (records : List SlotRecord) (pending : List ℕ) (live : ℕ)
+    (tied : AreTied limits records pending) (counted : live ≡ length (occupants 0 records)) where
+  pub each_once : live + length pending ≤ length records
+  each_once =
+      let r = roster_of limits records pending in
+      let sound = slots_sound r (are_slots limits records pending tied) in
+      search (
+        rules,
+        arith,
+        len_occupants 0 records,
+        length-map pending (handle_at records),
+        retired-rest (allocator_of r 0 0) sound,
+        top_is r 0 0 (omega arith) sound,
+      )
+
+  pub linked : AreLinked limits records pending (length records - length pending - live)
+  linked = let once = each_once in search (rules, arith, tied)
 
 -- ---- from an allocator to its slots
 

@@ -104,8 +104,8 @@ live-reused records from indices wait =
 
 -- ---- reusing
 
-module _ (limits : Limits) (records : List SlotRecord) (pending : List ℕ) (live from : ℕ)
-    (linked : AreLinked limits records pending live) (within : from ≤ length pending) where
+module _ (limits : Limits) (records : List SlotRecord) (pending : List ℕ) (retired from : ℕ)
+    (linked : AreLinked limits records pending retired) (within : from ≤ length pending) where
   pub Wait-drop : Wait records from (drop from pending)
   Wait-drop = search (rules, length-drop, get_or-drop)
 
@@ -122,8 +122,7 @@ module _ (limits : Limits) (records : List SlotRecord) (pending : List ℕ) (liv
       let back = linked.back index position made still.before in
       search (rules, cases_lt, length-drop, get_or-drop, still.apart (position - from), back)
 
-  pub reuse_keeps_links : AreLinked limits alive (take from pending)
-      (live + (length pending - from))
+  pub reuse_keeps_links : AreLinked limits alive (take from pending) retired
   reuse_keeps_links =
       let rest = length-drop from pending in
       search (
@@ -146,8 +145,8 @@ module _ (limits : Limits) (records : List SlotRecord) (pending : List ℕ) (liv
       search (rules, live-reused, Wait-drop, drop-map, became, became.generation, take-map)
 
 -- one slot, which waits last
-module _ (limits : Limits) (records : List SlotRecord) (pending rest : List ℕ) (live index : ℕ)
-    (linked : AreLinked limits records pending live) (last : pending ≡ rest ++ index ∷ []) where
+module _ (limits : Limits) (records : List SlotRecord) (pending rest : List ℕ) (retired index : ℕ)
+    (linked : AreLinked limits records pending retired) (last : pending ≡ rest ++ index ∷ []) where
   long : length pending ≡ length rest + 1
   long = ap length last ∙ length_push rest index
 
@@ -161,7 +160,7 @@ module _ (limits : Limits) (records : List SlotRecord) (pending rest : List ℕ)
   last_made = search (rules, long, get_or_push)
 
   pub reuse_last_keeps_links : AreLinked limits
-      (set records index (reuse (record_at records index))) rest (live + 1)
+      (set records index (reuse (record_at records index))) rest retired
   reuse_last_keeps_links =
       search (
         rules,
@@ -169,7 +168,7 @@ module _ (limits : Limits) (records : List SlotRecord) (pending rest : List ℕ)
         long,
         dropped,
         taken,
-        reuse_keeps_links limits records pending live (length rest) linked,
+        reuse_keeps_links limits records pending retired (length rest) linked,
       )
 
   pub roster_of-reuse_last : roster_of limits (set records index (reuse (record_at records index)))
@@ -186,7 +185,7 @@ module _ (limits : Limits) (records : List SlotRecord) (pending rest : List ℕ)
     drop-map (handle_at records) (length rest) pending,
     dropped,
     taken,
-    roster_of-reuse limits records pending live (length rest) linked,
+    roster_of-reuse limits records pending retired (length rest) linked,
   )
 
   pub last_handle : slice_get (map (handle_at records) pending)
@@ -207,8 +206,8 @@ module _ (limits : Limits) (records : List SlotRecord) (pending rest : List ℕ)
 
 -- ---- making
 
-module _ (limits : Limits) (records : List SlotRecord) (pending : List ℕ) (live count : ℕ)
-    (linked : AreLinked limits records pending live) (room : length records + count ≤ limits.slots)
+module _ (limits : Limits) (records : List SlotRecord) (pending : List ℕ) (retired count : ℕ)
+    (linked : AreLinked limits records pending retired) (room : length records + count ≤ limits.slots)
   where
     abbrev grown : List SlotRecord
     grown = records ++ replicate count new_record
@@ -226,7 +225,7 @@ module _ (limits : Limits) (records : List SlotRecord) (pending : List ℕ) (liv
     grown_long : length grown ≡ length records + count
     grown_long = search (rules, length-append, length-replicate)
 
-    pub make_keeps_links : AreLinked limits grown pending (live + count)
+    pub make_keeps_links : AreLinked limits grown pending retired
     make_keeps_links =
         let long = grown_long in
         search (

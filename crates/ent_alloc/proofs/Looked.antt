@@ -50,8 +50,8 @@ waiting_position : (t : Occupancy) (from : ℕ) → is_pending_from t from ≡ t
 waiting_position (Pending position) from is = (position, refl, leb-true from position is)
 waiting_position _ from is = absurd (false≢true is)
 
-module _ (limits : Limits) (records : List SlotRecord) (pending : List ℕ) (live : ℕ)
-    (linked : AreLinked limits records pending live) where
+module _ (limits : Limits) (records : List SlotRecord) (pending : List ℕ) (retired : ℕ)
+    (linked : AreLinked limits records pending retired) where
   at_position : (from k : ℕ) (d : Handle) → from + k < length pending
       → get_or (drop from (map (handle_at records) pending)) k d
       ≡ handle_at records (get_or pending (from + k) 0)
@@ -102,9 +102,9 @@ fresh_no h made count none =
 
 -- ---- rows
 
-module _ (limits : Limits) (records : List SlotRecord) (pending : List ℕ) (live : ℕ) (h : Handle)
-    (row : ℕ)
-    (linked : AreLinked limits records pending live) (lives : is_occupant records h ≡ true) where
+module _ (limits : Limits) (records : List SlotRecord) (pending : List ℕ) (retired : ℕ)
+    (h : Handle) (row : ℕ)
+    (linked : AreLinked limits records pending retired) (lives : is_occupant records h ≡ true) where
   abbrev labelled : SlotRecord
   labelled =
       record { generation = (record_at records h.index).generation; occupancy = AliveWithRow row }
@@ -124,7 +124,7 @@ module _ (limits : Limits) (records : List SlotRecord) (pending : List ℕ) (liv
   generations : (at : ℕ) → (record_at relabelled at).generation ≡ (record_at records at).generation
   generations at = search (rules, cases_eq, itself, others)
 
-  pub set_row_keeps_links : AreLinked limits relabelled pending live
+  pub set_row_keeps_links : AreLinked limits relabelled pending retired
   set_row_keeps_links = search
       (rules, length-set, length-occupants-set, slot_made, one, occupant_alive, generations, others)
 
@@ -147,8 +147,8 @@ module _ (limits : Limits) (records : List SlotRecord) (pending : List ℕ) (liv
       roster_of limits relabelled pending ≡ record was { rows = maps.insert was.rows h row }
   roster_of-set_row = search (rules, map_alike, generations, same_live, new_rows, length-set)
 
-module _ (limits : Limits) (records : List SlotRecord) (pending : List ℕ) (live : ℕ) (h : Handle)
-    (linked : AreLinked limits records pending live) (lives : is_occupant records h ≡ true) where
+module _ (limits : Limits) (records : List SlotRecord) (pending : List ℕ) (gone : ℕ) (h : Handle)
+    (linked : AreLinked limits records pending gone) (lives : is_occupant records h ≡ true) where
   made_slot : h.index < length records
   made_slot = occupant_made records h lives
 
@@ -196,11 +196,11 @@ module _ (limits : Limits) (records : List SlotRecord) (pending : List ℕ) (liv
   abbrev released : List SlotRecord
   released = set records h.index vacant
 
-  pub one_lives : 1 ≤ live
+  pub one_lives : length pending + gone + 1 ≤ length records
   one_lives = let counted = linked.counted in omega (arith, fewer vacant refl refl)
 
   pub release_keeps_links : h.generation ≢ limits.generations
-      → AreLinked limits released (pending ++ h.index ∷ []) (live - 1)
+      → AreLinked limits released (pending ++ h.index ∷ []) gone
   release_keeps_links before =
       let less = fewer vacant refl refl in
       let made = made_slot in
@@ -224,7 +224,7 @@ module _ (limits : Limits) (records : List SlotRecord) (pending : List ℕ) (liv
   abbrev retired : List SlotRecord
   retired = set records h.index unused
 
-  pub retire_keeps_links : AreLinked limits retired pending (live - 1)
+  pub retire_keeps_links : AreLinked limits retired pending (gone + 1)
   retire_keeps_links = search (rules, fewer unused refl refl, made_slot)
 
   pub roster_of-retire : roster_of limits retired pending

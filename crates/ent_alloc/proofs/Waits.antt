@@ -52,8 +52,8 @@ rows-made from position count [] = rows-waiting from position count
 rows-made from position count (r ∷ records) =
     search (rules, rows-made (from + 1) position count records)
 
-module _ (limits : Limits) (records : List SlotRecord) (pending : List ℕ) (live count : ℕ)
-    (linked : AreLinked limits records pending live) (room : length records + count ≤ limits.slots)
+module _ (limits : Limits) (records : List SlotRecord) (pending : List ℕ) (retired count : ℕ)
+    (linked : AreLinked limits records pending retired) (room : length records + count ≤ limits.slots)
   where
     abbrev grown : List SlotRecord
     grown = records ++ new_waiting (length pending) count
@@ -96,7 +96,7 @@ module _ (limits : Limits) (records : List SlotRecord) (pending : List ℕ) (liv
     living : occupants 0 grown ≡ occupants 0 records
     living = search (rules, occupants-append, occupants-waiting, append-nil)
 
-    pub waiting_keeps_links : AreLinked limits grown order live
+    pub waiting_keeps_links : AreLinked limits grown order retired
     waiting_keeps_links = search (
       rules,
       generation_in (λ g. 1 ≤ g) linked.least,

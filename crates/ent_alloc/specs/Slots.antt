@@ -110,13 +110,12 @@ roster_of limits records pending = record {
 }
 
 -- Each pending position and the record of its slot point at each other, generations are within the
--- limit, and live counts the occupants.
+-- limit, and each slot has an occupant, waits for the next one, or is retired.
 pub record AreLinked
-    (limits : Limits) (records : List SlotRecord) (pending : List ℕ) (live : ℕ) : Type 0 where
+    (limits : Limits) (records : List SlotRecord) (pending : List ℕ) (retired : ℕ) : Type 0 where
   pub limited : AreLimits limits
   pub few : length records ≤ limits.slots
-  pub counted : live ≡ length (occupants 0 records)
-  pub each_once : live + length pending ≤ length records
+  pub counted : length (occupants 0 records) + length pending + retired ≡ length records
   pub least : (index : ℕ) → index < length records → 1 ≤ (record_at records index).generation
   pub greatest : (index : ℕ) → index < length records
       → (record_at records index).generation ≤ limits.generations

@@ -22,7 +22,7 @@ pub struct Prepared {
     limits: Limits,
     records: Vec<PackedSlot>,
     pending: Vec<u32>,
-    live: u32,
+    retired: u32,
     requests: Requests,
 }
 
@@ -43,7 +43,7 @@ impl Model for Prepared {
       waiting = vec_capacity p.pending;
     } };
 
-    ghost invariant = { λ p. AreLinked p.limits p.records.items p.pending.items p.live
+    ghost invariant = { λ p. AreLinked p.limits p.records.items p.pending.items p.retired
         × AreReserved (roster_of p.limits p.records.items p.pending.items)
         p.requests.asked p.requests.served };
 }
@@ -58,13 +58,13 @@ impl Prepared {
             limits,
             records,
             pending,
-            live,
+            retired,
         } = slots;
         Prepared {
             limits,
             records,
             pending,
-            live,
+            retired,
             requests,
         }
     }
@@ -79,7 +79,7 @@ impl Prepared {
                 limits: self.limits,
                 records: self.records,
                 pending: self.pending,
-                live: self.live,
+                retired: self.retired,
             },
             requests: self.requests,
         }
@@ -123,7 +123,7 @@ impl Prepared {
                 limits: source.slots.limits,
                 records,
                 pending,
-                live: source.slots.live,
+                retired: source.slots.retired,
             },
             requests: source.requests,
         }

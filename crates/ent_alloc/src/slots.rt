@@ -31,7 +31,7 @@ pub(crate) struct Slots {
     pub(crate) limits: Limits,
     pub(crate) records: Vec<PackedSlot>,
     pub(crate) pending: Vec<u32>,
-    pub(crate) live: u32,
+    pub(crate) retired: u32,
 }
 
 impl Model for Slots {
@@ -45,7 +45,7 @@ impl Model for Slots {
 
     ghost view = { λ s. roster_of s.limits s.records.items s.pending.items };
 
-    ghost invariant = { λ s. AreLinked s.limits s.records.items s.pending.items s.live };
+    ghost invariant = { λ s. AreLinked s.limits s.records.items s.pending.items s.retired };
 }
 
 impl Slots {
@@ -65,7 +65,7 @@ impl Slots {
             limits,
             records: Vec::new(alloc),
             pending: Vec::new(alloc),
-            live: 0,
+            retired: 0,
         }
     }
 
@@ -108,7 +108,7 @@ impl Slots {
     pub(crate) fn live(&self) -> u32
         ensures { result ≡ set.len self.now.live }
     {
-        self.live
+        self.made() - self.waiting() - self.retired
     }
 
     /// The living occupants, in slot order.
@@ -117,7 +117,7 @@ impl Slots {
         ensures rising { AllPairs (λ g h. g.index < h.index) result }
         ensures count { length result ≡ set.len self.now.live }
     {
-        Living::new(&self.records, self.live)
+        Living::new(&self.records, self.live())
     }
 
     /// What has the handle's slot; `None` if the slot wasn't made or is at another generation.
@@ -212,7 +212,6 @@ impl Slots {
     {
         let index = self.pending.pop()?;
         let generation = self.records[index as usize].reuse();
-        self.live += 1;
         Some(Handle::from_parts(index, generation))
     }
 
@@ -228,7 +227,6 @@ impl Slots {
     {
         let handle = first_occupant(self.made());
         self.records.push(PackedSlot::new())?;
-        self.live += 1;
         Ok(handle)
     }
 
@@ -264,7 +262,6 @@ impl Slots {
         make_all(&mut self.records, fresh, out);
         reuse_all(&mut self.records, &self.pending[kept..], out);
         self.pending.truncate(kept);
-        self.live += fresh + reused as u32;
         Ok(())
     }
 
@@ -321,7 +318,7 @@ impl Slots {
         ensures { self.new ≡ retired_roster self.old handle }
     {
         self.records[handle.index() as usize] = PackedSlot::retired(handle.generation());
-        self.live -= 1;
+        self.retired += 1;
     }
 
     /// `free`, with or without room in that list. The slot is looked up once.
@@ -359,7 +356,6 @@ impl Slots {
             return Err(FreeFault::Memory);
         }
         *slot = PackedSlot::pending(generation + 1, position);
-        self.live -= 1;
         Ok(handle.following())
     }
 
@@ -386,7 +382,7 @@ impl Slots {
         overwrite(&mut self.records, &source.records);
         overwrite(&mut self.pending, &source.pending);
         self.limits = source.limits;
-        self.live = source.live;
+        self.retired = source.retired;
         Ok(())
     }
 
@@ -445,7 +441,7 @@ impl Slots {
             limits,
             records,
             pending,
-            live,
+            retired: made - waiting - live,
         })
     }
 }

@@ -33,7 +33,7 @@ all_written c = grind (arith, common_steps)
 linked : (c : After-reuse_all)
     → AreLinked c.self.inside.limits
     (c.self.inside.records.items ++ replicate c.args.fresh new_record) c.self.inside.pending.items
-    (c.self.inside.live + c.args.fresh)
+    c.self.inside.retired
 linked c = search (rules, make_keeps_links, all_written c, c.self.invariant)
 
 grown_roster : (c : After-reuse_all) → roster_of c.self.inside.limits

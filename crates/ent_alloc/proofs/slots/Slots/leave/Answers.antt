@@ -1,4 +1,5 @@
-use Rattle.ent_alloc.proofs.Common.{rules, ◌≡◌, ◌≢◌, ◌≤◌, true, arith, false≢true, set-get_or}
+use Rattle.ent_alloc.proofs.Common.{rules, ◌≡◌, ◌≢◌, ◌+◌, ◌≤◌, true, arith, false≢true, length}
+use Rattle.ent_alloc.proofs.Common.{set-get_or}
 use Rattle.std.specs.FinSet as sets
 use Rattle.ent_alloc.proofs.Occupants.{is_occupant, contains_occupants}
 use Rattle.ent_alloc.proofs.Looked.{one_lives, release_keeps_links, roster_of-release}
@@ -14,7 +15,9 @@ living c = search (rules, contains_occupants, c.self.view_is)
 lives : (c : Else-not-is_occupied_by) → is_occupant c.self.inside.records.items c.args.handle ≡ true
 lives c = search (rules)
 
-some_live : (c : Else-not-is_occupied_by) → 1 ≤ c.self.inside.live
+some_live : (c : Else-not-is_occupied_by)
+    → length c.self.inside.pending.items + c.self.inside.retired + 1
+    ≤ length c.self.inside.records.items
 some_live c = one_lives _ _ _ _ _ c.self.invariant (lives c)
 
 -- it is not of the last generation
@@ -28,9 +31,6 @@ returns-in_default-clause-not_alive c = search (rules, contains_occupants, c.sel
 pub returns-then-not-is_occupied_by-clause-not_alive :
     goal.returns-then-not-is_occupied_by-clause-not_alive
 returns-then-not-is_occupied_by-clause-not_alive c = search (rules, living)
-
-pub overflow_sub-self : goal.overflow_sub-self
-overflow_sub-self c = search (rules, some_live)
 
 -- the record that was lent is as it was
 pub invariant_of-self-then-generation-generations :

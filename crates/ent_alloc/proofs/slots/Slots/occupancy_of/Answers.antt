@@ -12,7 +12,7 @@ returns c =
       lives = search (rules, contains_occupants, is_occupant-occupancy);
       row = search (rules, get_rows, row_at-occupancy);
       waits = λ from. let tells = stands_in-pending c.self.inside.limits c.self.inside.records.items
-          c.self.inside.pending.items c.self.inside.live c.self.invariant c.args.handle from in
+          c.self.inside.pending.items c.self.inside.retired c.self.invariant c.args.handle from in
           search (rules, c.self.view_is, waits_at-occupancy, tells);
       made = grind (arith, common_steps);
     }

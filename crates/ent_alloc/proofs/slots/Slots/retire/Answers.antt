@@ -16,10 +16,10 @@ index_mut-requires c =
           (lives (goal.at.index_mut-requires c).After-self),
     )
 
-pub overflow_sub-self : goal.overflow_sub-self
-overflow_sub-self c =
-    let lives = lives (goal.at.overflow_sub-self c).After-self in
-    search (rules, one_lives _ _ _ _ _ c.self.invariant lives)
+pub overflow_add-self : goal.overflow_add-self
+overflow_add-self c =
+    let lives = lives (goal.at.overflow_add-self c).After-self in
+    search (rules, arith, one_lives _ _ _ _ _ c.self.invariant lives)
 
 pub invariant_of-self : goal.invariant_of-self
 invariant_of-self c =
