@@ -3,7 +3,7 @@
 //! The definitions of crate `ent_blocks`, in the order in which one reads them:
 //! [`blocks`], [`drawing`], [`ending`].
 
-#[doc(alias("Block", "Reserver", "after_blocks", "after_use", "blocks_from", "blocks_of", "dealt", "handles_of", "lesser", "portion_of", "portions_of", "rest_of", "used_of", "used_up", "wanted_by"))]
+#[doc(alias("Block", "Reserver", "after_blocks", "after_use", "blocks_from", "blocks_of", "dealt", "handles_of", "lesser", "portion_of", "portions_of", "rest_of", "used_of", "used_up"))]
 /// Handles in blocks: the front of the pool is dealt to callers, and each gets the handles of its own block, in the pool\'s order, whatever the others do.
 ///
 /// <pre>
@@ -95,13 +95,6 @@
 /// -- nothing is left of its block
 /// abbrev pub <b id="used_up">used_up</b> : <a href="#Reserver">Reserver</a> → <a href="#Reserver">Reserver</a>
 /// <a href="#used_up">used_up</a> r = record r { block = record r.block { used = r.block.size } }
-/// </pre>
-///
-/// <pre>
-/// -- How many handles would have been enough: those that were used, and the largest request that was
-/// -- refused. A number of 32 bits holds it.
-/// abbrev pub <b id="wanted_by">wanted_by</b> : <a href="#Reserver">Reserver</a> → <a href="../../logic/index.html#ℕ">ℕ</a>
-/// <a href="#wanted_by">wanted_by</a> r = <a href="../../logic/index.html#min">min</a> (r.block.used + r.refused) (2 ^ 32 - 1)
 /// </pre>
 ///
 /// <pre>

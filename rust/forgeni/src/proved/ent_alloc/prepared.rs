@@ -20,7 +20,7 @@ pub struct Prepared {
     limits: Limits,
     records: Vec<PackedSlot>,
     pending: Vec<u32>,
-    live: u32,
+    retired: u32,
     requests: Requests,
 }
 
@@ -41,13 +41,13 @@ impl Prepared {
             limits,
             records,
             pending,
-            live,
+            retired,
         } = slots;
         Prepared {
             limits,
             records,
             pending,
-            live,
+            retired,
             requests,
         }
     }
@@ -69,7 +69,7 @@ impl Prepared {
                 limits: self.limits,
                 records: self.records,
                 pending: self.pending,
-                live: self.live,
+                retired: self.retired,
             },
             requests: self.requests,
         }
@@ -121,7 +121,7 @@ impl Prepared {
                 limits: source.slots.limits,
                 records,
                 pending,
-                live: source.slots.live,
+                retired: source.slots.retired,
             },
             requests: source.requests,
         }

@@ -18,7 +18,7 @@ pub(super) struct Slots {
     pub(super) limits: Limits,
     pub(super) records: Vec<PackedSlot>,
     pub(super) pending: Vec<u32>,
-    pub(super) live: u32,
+    pub(super) retired: u32,
 }
 
 impl Slots {
@@ -37,7 +37,7 @@ impl Slots {
             limits,
             records: Vec::new(),
             pending: Vec::new(),
-            live: 0,
+            retired: 0,
         }
     }
 
@@ -85,7 +85,7 @@ impl Slots {
     pub(super) fn live(&self) -> u32
         // ensures { result ≡ set.len self.now.live }
     {
-        self.live
+        self.made() - self.waiting() - self.retired
     }
 
     /// The living occupants, in slot order.
@@ -95,7 +95,7 @@ impl Slots {
         // ensures rising { AllPairs (λ g h. g.index < h.index) result }
         // ensures count { length result ≡ set.len self.now.live }
     {
-        Living::new(&self.records, self.live)
+        Living::new(&self.records, self.live())
     }
 
     /// What has the handle's slot; `None` if the slot wasn't made or is at another generation.
@@ -199,7 +199,6 @@ impl Slots {
     {
         let index = self.pending.pop()?;
         let generation = self.records[index as usize].reuse();
-        self.live += 1;
         Some(Handle::from_parts(index, generation))
     }
 
@@ -216,7 +215,6 @@ impl Slots {
     {
         let handle = first_occupant(self.made());
         self.records.push_fallibly(PackedSlot::new())?;
-        self.live += 1;
         Ok(handle)
     }
 
@@ -253,7 +251,6 @@ impl Slots {
         make_all(&mut self.records, fresh, out);
         reuse_all(&mut self.records, &self.pending[kept..], out);
         self.pending.truncate(kept);
-        self.live += fresh + reused as u32;
         Ok(())
     }
 
@@ -311,7 +308,7 @@ impl Slots {
         // ensures { self.new ≡ retired_roster self.old handle }
     {
         self.records[handle.index() as usize] = PackedSlot::retired(handle.generation());
-        self.live -= 1;
+        self.retired += 1;
     }
 
     /// `free`, with or without room in that list. The slot is looked up once.
@@ -349,7 +346,6 @@ impl Slots {
             return Err(FreeError::Memory);
         }
         *slot = PackedSlot::pending(generation + 1, position);
-        self.live -= 1;
         Ok(handle.following())
     }
 
@@ -378,7 +374,7 @@ impl Slots {
         overwrite(&mut self.records, &source.records);
         overwrite(&mut self.pending, &source.pending);
         self.limits = source.limits;
-        self.live = source.live;
+        self.retired = source.retired;
         Ok(())
     }
 
@@ -439,7 +435,7 @@ impl Slots {
             limits,
             records,
             pending,
-            live,
+            retired: made - waiting - live,
         })
     }
 }
