@@ -1,8 +1,8 @@
-ghost use Rattle.std.specs.Prelude.{◌≡◌, ◌↔◌, ◌+◌, ◌-◌, ◌^◌, ◌<◌, ◌≤◌, IsTrue, Some, OnOk, OnErr};
+ghost use Rattle.std.specs.Prelude.{◌≡◌, ◌+◌, ◌-◌, ◌^◌, ◌<◌, ◌≤◌, Some, OnOk, OnErr};
 ghost use Rattle.std.specs.Prelude.{IsSome, length, option_copied, vec_capacity};
 ghost use Rattle.std.specs.Borrow.{Lends, sem};
 ghost use Rattle.ent_storage.specs.Slots.{generation_of, handle_in, any_value, value_under};
-ghost use Rattle.ent_storage.specs.Slots.{count_at, padded};
+ghost use Rattle.ent_storage.specs.Slots.{padded};
 ghost use Rattle.ent_storage.specs.Slots.{IsSlotClone};
 ghost use Rattle.std.specs.List.{AppendsClones};
 
@@ -48,16 +48,6 @@ impl<T> Slot<T> {
         match self {
             Slot::Vacant => None,
             Slot::Occupied { generation, .. } => Some(generation.handle(index)),
-        }
-    }
-
-    /// Whether it has no value.
-    pub(super) fn is_vacant(&self) -> bool
-        ensures { IsTrue result ↔ (count_at self.now ≡ 0) }
-    {
-        match self {
-            Slot::Vacant => true,
-            Slot::Occupied { .. } => false,
         }
     }
 
