@@ -1,5 +1,5 @@
 use Rattle.ent_storage.proofs.Common.{◌≡◌, length, iter_rest, entries_from, AreCounted}
-use Rattle.ent_storage.proofs.handle_map.iter.IterIterator.next.Given as goal
+use Rattle.ent_storage.proofs.handle_map.iter.Iter.next_after_vacant.Given as goal
 
 -- only vacant slots were passed
 abbrev pub invariant-loop-slot : goal.invariant-loop-slot
