@@ -1,4 +1,4 @@
-use Rattle.ent_storage.proofs.Common.{rules, ◌≡◌, ◌≢◌, ◌<◌, sym, ap, ◌∙◌, length, arith}
+use Rattle.ent_storage.proofs.Common.{rules, ◌≡◌, ◌≢◌, ◌<◌, ap, length, arith}
 use Rattle.ent_storage.proofs.Common.{common_steps, count_at, generation_of, slot_at, HandleMap}
 use Rattle.ent_storage.proofs.Common.{Occupied}
 use Rattle.ent_storage.proofs.Found.{few_values, put-added, put-kept, later, read}
