@@ -13,7 +13,6 @@ ghost use Rattle.ent_alloc.specs.declared.reserve_error.ReserveError.TheVariants
 use crate::entities::Entities;
 use crate::refused::Refused;
 use crate::reserve_error::ReserveError;
-use crate::reserved::Reserved;
 use ent_handle::Handle;
 use std::alloc::Global;
 
@@ -173,7 +172,7 @@ impl Entities {
         }
         handles.reserve(n as usize)?;
         let span = self.lower(n);
-        append(handles, self.reply(span)?);
+        self.reply(span)?.append_to(handles);
         Ok(())
     }
 
@@ -230,15 +229,5 @@ impl Entities {
         let mut handles = Vec::new(alloc);
         self.request_into(&mut handles, n)?;
         Ok(handles)
-    }
-}
-
-/// Appends what a request was given to a list that has room for it.
-fn append(handles: &mut Vec<Handle>, given: Reserved<'_>)
-    requires { vec_len handles.old + length given ≤ vec_capacity handles.old }
-    ensures { handles.new.items ≡ handles.old.items ++ given.entry }
-{
-    for handle in given {
-        handles.push_reserved(handle);
     }
 }

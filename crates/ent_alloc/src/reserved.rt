@@ -1,4 +1,4 @@
-ghost use Rattle.std.specs.Prelude.{◌≡◌, IfSome, length};
+ghost use Rattle.std.specs.Prelude.{◌≡◌, ◌+◌, ◌≤◌, ◌++◌, IfSome, length, vec_len, vec_capacity};
 ghost use Rattle.std.specs.Iterator.{YieldsFirst, UpTo, item_count};
 ghost use Rattle.std.specs.Iterator.SizeHint.{IsWithinCount};
 
@@ -71,6 +71,24 @@ impl<'a> Reserved<'a> {
             index,
             index_end,
             left,
+        }
+    }
+
+    /// Appends the handles to a list that has room for all of them, in their order. Each takes fewer
+    /// instructions than by `next`, which asks at every handle where it comes from.
+    #[inline]
+    pub fn append_to(self, handles: &mut Vec<Handle>)
+        requires { vec_len handles.old + length self ≤ vec_capacity handles.old }
+        ensures items { handles.new.items ≡ handles.old.items ++ self.entry }
+        ensures room { vec_capacity handles.new ≡ vec_capacity handles.old }
+    {
+        let records = self.records;
+        for index in self.waiting {
+            let generation = records[*index as usize].generation();
+            handles.push_reserved(Handle::from_parts(*index, generation));
+        }
+        for index in self.index..self.index_end {
+            handles.push_reserved(first_occupant(index));
         }
     }
 }

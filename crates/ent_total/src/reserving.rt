@@ -8,7 +8,7 @@ ghost use Rattle.ent_total.specs.Reserving.{IfRefusal, Replies, Lists};
 
 use crate::numbering::Numbering;
 use crate::reserver::Reserver;
-use ent_alloc::{Phased, Refused, ReserveError, Reserved};
+use ent_alloc::{Phased, Refused, ReserveError};
 use ent_handle::Handle;
 
 impl<J: Numbering, S: Phased> Reserver<J, S> {
@@ -111,7 +111,7 @@ impl<J: Numbering, S: Phased> Reserver<J, S> {
             handles.reserve(n as usize)?;
         }
         let given = self.source.serve_many(&mut self.reserver, n)?;
-        append(handles, given);
+        given.append_to(handles);
         Ok(())
     }
 
@@ -120,16 +120,5 @@ impl<J: Numbering, S: Phased> Reserver<J, S> {
         ensures { IsTrue result ↔ S.may_give self.now.source self.now.reserver n }
     {
         self.source.may_serve(&self.reserver, n)
-    }
-}
-
-/// Appends what was given to a list that has room for it.
-fn append(handles: &mut Vec<Handle>, given: Reserved<'_>)
-    requires { vec_len handles.old + length given ≤ vec_capacity handles.old }
-    ensures items { handles.new.items ≡ handles.old.items ++ given.entry }
-    ensures room { vec_capacity handles.new ≡ vec_capacity handles.old }
-{
-    for handle in given {
-        handles.push_reserved(handle);
     }
 }

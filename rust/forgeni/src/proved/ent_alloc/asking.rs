@@ -8,7 +8,6 @@ use crate::kit::vec::FallibleVec;
 use crate::allocator::entities::Entities;
 use crate::allocator::refused::Refused;
 use crate::allocator::reserve_error::ReserveError;
-use crate::allocator::reserved::Reserved;
 use crate::handles::Handle;
 
 /// How many handles may be requested between two flushes.
@@ -196,7 +195,7 @@ impl Entities {
         }
         handles.reserve_fallibly(n as usize)?;
         let span = self.lower(n);
-        append(handles, self.reply(span)?);
+        self.reply(span)?.append_to(handles);
         Ok(())
     }
 }
@@ -243,16 +242,5 @@ impl Entities {
         }
         let _span = self.lower(1);
         Ok(self.reply_one(high)?)
-    }
-}
-
-/// Appends what a request was given to a list that has room for it.
-#[inline]
-fn append(handles: &mut Vec<Handle>, given: Reserved<'_>)
-    // requires { vec_len handles.old + length given ≤ vec_capacity handles.old }
-    // ensures { handles.new.items ≡ handles.old.items ++ given.entry }
-{
-    for handle in given {
-        handles.push_reserved(handle);
     }
 }

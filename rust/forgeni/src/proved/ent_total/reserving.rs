@@ -4,7 +4,7 @@
 use alloc::vec::Vec;
 use crate::kit::vec::FallibleVec;
 use crate::phases::reserver::Reserver;
-use crate::allocator::{Phased, Refused, ReserveError, Reserved};
+use crate::allocator::{Phased, Refused, ReserveError};
 use crate::handles::Handle;
 
 /// # Reserving
@@ -129,7 +129,7 @@ impl<S: Phased> Reserver<S> {
             handles.reserve_fallibly(n as usize)?;
         }
         let given = self.source.serve_many(&mut self.reserver, n)?;
-        append(handles, given);
+        given.append_to(handles);
         Ok(())
     }
 }
@@ -141,17 +141,5 @@ impl<S: Phased> Reserver<S> {
         // ensures { IsTrue result ↔ S.may_give self.now.source self.now.reserver n }
     {
         self.source.may_serve(&self.reserver, n)
-    }
-}
-
-/// Appends what was given to a list that has room for it.
-#[inline]
-fn append(handles: &mut Vec<Handle>, given: Reserved<'_>)
-    // requires { vec_len handles.old + length given ≤ vec_capacity handles.old }
-    // ensures items { handles.new.items ≡ handles.old.items ++ given.entry }
-    // ensures room { vec_capacity handles.new ≡ vec_capacity handles.old }
-{
-    for handle in given {
-        handles.push_reserved(handle);
     }
 }

@@ -21,8 +21,8 @@ returns-in_err-reply-clause-refused c =
       space_of_three,
     )
 
-pub append-requires : goal.append-requires
-append-requires c =
+pub append_to-requires : goal.append_to-requires
+append_to-requires c =
     search (
       rules,
       of_served c.args.self.now.allocator c.args.n c.in_ok-reply.field-0,
