@@ -332,10 +332,10 @@ impl Slots {
         // The generation, by the call whose contract says that it is in range.
         let generation = (handle.to_bits() >> 32) as u32;
         let Some(slot) = self.records.get_mut(index as usize) else {
-            return Err(FreeError::NotAlive);
+            return Err(not_alive());
         };
         if !slot.is_occupied_by(generation) {
-            return Err(FreeError::NotAlive);
+            return Err(not_alive());
         }
         if generation == self.limits.generations() {
             self.retire(handle);
@@ -438,4 +438,14 @@ impl Slots {
             retired: made - waiting - live,
         })
     }
+}
+
+/// What `free` returns for a handle that isn't alive. It is apart, so that the compiler keeps no
+/// error ready.
+#[cold]
+#[inline(never)]
+fn not_alive() -> FreeError
+    // ensures { result ≡ FreeError.NotAlive }
+{
+    FreeError::NotAlive
 }

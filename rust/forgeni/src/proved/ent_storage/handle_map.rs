@@ -892,15 +892,27 @@ impl<T> HandleMap<T> {
         // ensures back { IfErr result (λ refused. refused.value ≡ value) }
         // ensures err { OnErr result (self.new ≡ self.old) }
     {
-        if handle.generation() < self.slots[index].generation() {
-            return Err(HandedBack::new(value, InsertError::Later));
+        let slot = &mut self.slots[index];
+        match slot {
+            Slot::Vacant => {
+                *slot = Slot::of(handle, value);
+                self.len += 1;
+                Ok(None)
+            }
+            Slot::Occupied {
+                generation,
+                value: there,
+            } => {
+                if handle.generation() == generation.number() {
+                    return Ok(Some(mem::replace(there, value)));
+                }
+                if handle.generation() < generation.number() {
+                    return Err(HandedBack::new(value, InsertError::Later));
+                }
+                *slot = Slot::of(handle, value);
+                Ok(None)
+            }
         }
-        let before = mem::replace(&mut self.slots[index], Slot::of(handle, value));
-        if before.is_vacant() {
-            self.len += 1;
-            return Ok(None);
-        }
-        Ok(before.into_value(handle.generation()))
     }
 
     /// `insert` into a slot that isn't the next one, or for which there may be no room. It is

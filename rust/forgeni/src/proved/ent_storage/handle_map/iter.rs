@@ -41,6 +41,23 @@ impl<'a, T> Iter<'a, T> {
         }
     }
 
+    /// The next entry. It is apart, so that a walk has a loop for vacant slots alone.
+    #[inline]
+    fn next_after_vacant(&mut self) -> Option<(Handle, &'a T)>
+        // ensures { YieldsFirstBy (λ item. (item.0, item.1.now)) (λ rest. rest)
+        //     self.old result self.new }
+    {
+        while let Some(slot) = self.slots.next() {
+            let index = self.index as u32;
+            self.index += 1;
+            if let Slot::Occupied { generation, value } = slot {
+                self.left -= 1;
+                return Some((generation.handle(index), value));
+            }
+        }
+        None
+    }
+
     /// The same entries once more. It doesn't allocate.
     #[inline]
     pub(super) fn again(&self) -> Self
@@ -66,15 +83,15 @@ impl<'a, T> Iterator for Iter<'a, T> {
 
     #[inline]
     fn next(&mut self) -> Option<(Handle, &'a T)> {
-        while let Some(slot) = self.slots.next() {
-            let index = self.index as u32;
-            self.index += 1;
-            if let Slot::Occupied { generation, value } = slot {
-                self.left -= 1;
-                return Some((generation.handle(index), value));
-            }
+        // Most slots have a value, so the first one is looked at outside the loop.
+        let slot = self.slots.next()?;
+        let index = self.index as u32;
+        self.index += 1;
+        if let Slot::Occupied { generation, value } = slot {
+            self.left -= 1;
+            return Some((generation.handle(index), value));
         }
-        None
+        self.next_after_vacant()
     }
 
     #[inline]

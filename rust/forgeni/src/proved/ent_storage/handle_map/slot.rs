@@ -50,17 +50,6 @@ impl<T> Slot<T> {
         }
     }
 
-    /// Whether it has no value.
-    #[inline]
-    pub(super) fn is_vacant(&self) -> bool
-        // ensures { IsTrue result ↔ (count_at self.now ≡ 0) }
-    {
-        match self {
-            Slot::Vacant => true,
-            Slot::Occupied { .. } => false,
-        }
-    }
-
     /// The value, if it is that of the generation.
     #[inline]
     pub(super) fn value(&self, wanted: u32) -> Option<&T>
