@@ -7,5 +7,5 @@ pub returns : goal.returns
 returns c =
     let e = c.self.inside in
     let slots = subst (λ (r : Roster). AreSlots (record r { rows = maps.empty })) c.self.view_is
-    (rowless_slots e.limits e.records.items e.pending.items e.live c.self.invariant) in
+    (rowless_slots e.limits e.records.items e.pending.items e.retired c.self.invariant) in
     search (rules, rowless_bytes_are, slots)
