@@ -38,10 +38,10 @@ pub record AreTied (limits : Limits) (records : List SlotRecord) (pending : List
   pub rows : (index row : ℕ) → index < length records
       → (record_at records index).occupancy ≡ AliveWithRow row → row < 2 ^ 32
 
-pub tied : (limits : Limits) (records : List SlotRecord) (pending : List ℕ) (live : ℕ)
-    → AreLinked limits records pending live → ((index : ℕ) → index < length records
+pub tied : (limits : Limits) (records : List SlotRecord) (pending : List ℕ) (retired : ℕ)
+    → AreLinked limits records pending retired → ((index : ℕ) → index < length records
     → number_of (record_at records index).occupancy < 2 ^ 32) → AreTied limits records pending
-tied limits records pending live linked fits = grind (arith, common_steps)
+tied limits records pending retired linked fits = grind (arith, common_steps)
 
 -- ---- the records
 
@@ -189,30 +189,30 @@ pub rowless_is : (limits : Limits) (records : List SlotRecord) (pending : List �
     { rows = maps.empty }
 rowless_is limits records pending = search (rules, occupants_as, no_rows, rowless_at, length-map)
 
-rowless_tied : (limits : Limits) (records : List SlotRecord) (pending : List ℕ) (live : ℕ)
-    → AreLinked limits records pending live → AreTied limits (map without_row records) pending
-rowless_tied limits records pending live linked = search
+rowless_tied : (limits : Limits) (records : List SlotRecord) (pending : List ℕ) (retired : ℕ)
+    → AreLinked limits records pending retired → AreTied limits (map without_row records) pending
+rowless_tied limits records pending retired linked = search
     (rules, length-map, rowless_at, pending_as, never_with_row)
 
-pub rowless_slots : (limits : Limits) (records : List SlotRecord) (pending : List ℕ) (live : ℕ)
-    → AreLinked limits records pending live
+pub rowless_slots : (limits : Limits) (records : List SlotRecord) (pending : List ℕ) (retired : ℕ)
+    → AreLinked limits records pending retired
     → AreSlots (record (roster_of limits records pending) { rows = maps.empty })
-rowless_slots limits records pending live linked =
+rowless_slots limits records pending retired linked =
     rw (← rowless_is limits records pending)
     (are_slots limits (map without_row records) pending
-    (rowless_tied limits records pending live linked))
+    (rowless_tied limits records pending retired linked))
 
 -- what is written of them
-pub rowless_bytes_are : (limits : Limits) (records : List SlotRecord) (pending : List ℕ) (live : ℕ)
-    → AreLinked limits records pending live → flat_map rowless_bytes records
+pub rowless_bytes_are : (limits : Limits) (records : List SlotRecord) (pending : List ℕ) (retired : ℕ)
+    → AreLinked limits records pending retired → flat_map rowless_bytes records
     ≡ slots_bytes (record (roster_of limits records pending) { rows = maps.empty })
-rowless_bytes_are limits records pending live linked =
+rowless_bytes_are limits records pending retired linked =
     search (
       rules,
       flat_map-map record_bytes without_row records,
       rowless_is limits records pending,
       slots_bytes_are limits (map without_row records) pending
-          (rowless_tied limits records pending live linked),
+          (rowless_tied limits records pending retired linked),
     )
 
 -- ---- one slot more
