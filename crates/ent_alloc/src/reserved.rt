@@ -74,8 +74,8 @@ impl<'a> Reserved<'a> {
         }
     }
 
-    /// Appends the handles to a list that has room for all of them, in their order. Each takes fewer
-    /// instructions than by `next`, which asks at every handle where it comes from.
+    /// Appends the handles in their order to a list, which has to have room for all of them. It
+    /// takes fewer instructions for each than `next`, which asks at every handle where it is from.
     #[inline]
     pub fn append_to(self, handles: &mut Vec<Handle>)
         requires { vec_len handles.old + length self ≤ vec_capacity handles.old }
