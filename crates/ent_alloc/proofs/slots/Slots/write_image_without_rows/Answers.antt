@@ -8,4 +8,5 @@ returns c =
     let e = c.self.inside in
     let slots = subst (λ (r : Roster). AreSlots (record r { rows = maps.empty })) c.self.view_is
     (rowless_slots e.limits e.records.items e.pending.items e.retired c.self.invariant) in
-    search (rules, rowless_bytes_are, slots)
+    let bytes = rowless_bytes_are e.limits e.records.items e.pending.items e.retired c.self.invariant in
+    search (rules, bytes, slots, c.self.view_is)
