@@ -350,8 +350,9 @@ fn without_paths(text: &str) -> String {
     let mut parts = text.split("](");
     let mut out = parts.next().unwrap_or("").to_owned();
     for part in parts {
-        let begin = out.rfind("[`").unwrap_or(out.len());
-        let shown = out.get(begin + 2..out.len().saturating_sub(1));
+        let begin = out.rfind('[').unwrap_or(out.len());
+        let text = out[begin..].strip_prefix("[`");
+        let shown = text.and_then(|it| it.strip_suffix('`'));
         match part.split_once(')') {
             Some((path, rest)) if shown == Some(path) => out += &format!("]{rest}"),
             Some((path, rest)) if begin < out.len() && is_plain(path) => {

@@ -112,7 +112,7 @@ impl BlockSize {
     }
 
     /// Sets the size for the next phase from how many handles were
-    /// [wanted](crate::in_blocks::BlockReserver::wanted) in this phase.
+    /// wanted in this phase.
     ///
     /// ```
     /// use forgeni::BlockSize;
