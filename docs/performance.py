@@ -302,7 +302,9 @@ def charts_of(lines):
 
 LIMITS_HEAD = "| Work | Limit | Ratio to plain Rust | Limit | Ratio to slotmap |"
 LIMITS = [
-    ("`alloc`, then `free`", ("Work", "Here"), ["`alloc`, then"], 0.95, None),
+    ("`alloc` of new slots", ("Work", "Here"), ["`alloc` of"], 1.1, None),
+    ("`alloc`, then `free`, of one slot", ("Work", "Here"), ["`alloc`, then `free` |"], 1.0, None),
+    ("The same, of all slots", ("Work", "Here"), ["`alloc`, then `free`, of all"], 1.05, None),
     (
         "`state`, `contains`, `is_alive`",
         ("Work", "Here"),
@@ -311,24 +313,26 @@ LIMITS = [
         1.1,
     ),
     ("A phase to `flush` to `free`, singly", ("Work", "Here"), ["A phase"], 1.05, None),
-    ("The same, 64 at once", ("Work", "Here"), ["The same"], 1.2, None),
-    ("`request` to `flush` to `free`", ("Work", "Here"), ["`request`"], 0.5, None),
+    ("The same, 64 at once", ("Work", "Here"), ["The same"], 1.05, None),
+    ("`request` to `flush` to `free`", ("Work", "Here"), ["`request`"], 1.0, None),
+    ("A `World`: spawn, 4 times `get`, despawn", ("Work", "Here"), ["`spawn`, 4"], 0.9, None),
     (
-        "Spawn, 4 times `get`, despawn, rising",
+        "`HandleMap`: spawn, 4 times `get`, despawn, rising",
         ("Work", "Entities"),
         ["Spawn, 4 times `get`, despawn, rising"],
         1.1,
-        1.05,
+        1.0,
     ),
     (
         "The same, scattered",
         ("Work", "Entities"),
         ["Spawn, 4 times `get`, despawn, scattered"],
         1.1,
-        1.15,
+        1.0,
     ),
-    ("`iter` over a map", ("Work", "Entities"), ["`iter`"], 1.05, 0.9),
+    ("`iter` over a map", ("Work", "Entities"), ["`iter`"], 1.0, 0.9),
     ("A command of `apply`, of each kind", ("Command of `apply`", "Order"), [""], 1.0, None),
+    ("A spawn in a new slot", ("Command of `apply`", "Order"), ["spawn in a new"], 1.0, None),
     ("A `Storage`, and `born`", ("Work of a `Storage`", "Entities"), [""], 1.2, None),
     (
         "A frame of 64 systems that compute, 4 workers",
