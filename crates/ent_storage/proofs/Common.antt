@@ -95,7 +95,7 @@ pub use Rattle.ent_handle.specs.declared.component.ComponentId.{ComponentId}
 pub use mathlib.Core.Bool.{Bool-set}
 pub use mathlib.Core.List.{reverse_aux}
 pub use Rattle.ent_storage.specs.BirthOrder.{IsInOrder, IsLeastOf, ListsAll, ListsByBirth}
-pub use Rattle.ent_storage.specs.BirthOrder.{ListsWith, birth_order, pair_cmp}
+pub use Rattle.ent_storage.specs.BirthOrder.{ListsWith, birth_order, packed_birth, pair_cmp}
 pub use Rattle.ent_storage.specs.Bundle.{Bundle, IsBundle, IsItem, bundle_of, with_put}
 pub use Rattle.ent_storage.specs.Components.{Components, missing, with_items}
 pub use Rattle.ent_storage.specs.Copies.{IsCopy}

@@ -5,10 +5,16 @@ use Rattle.ent_storage.proofs.Common.{rules, ◌≡◌, ◌∙◌, ℕ, ◌<◌,
 use Rattle.ent_storage.proofs.Common.{List, [], ◌∷◌, length, get_or, map, get_or_default, get_or-map}
 use Rattle.ent_storage.proofs.Common.{length-map, cases_lt, Ordering, is_lt, ordering_then, Birth}
 use Rattle.ent_storage.proofs.Common.{birth_cmp, Handle, handle_cmp, Resident, pair_cmp, IsInOrder}
+use Rattle.ent_storage.proofs.Common.{packed_birth, ◌^◌}
 
 -- one that isn't at most the other is not less, whatever comes second
 not_less : (r s : Ordering) → is_le r ≡ false → is_lt (ordering_then r s) ≡ false
 not_less r s above = search rules
+
+-- A birth whose number is greater isn't at most the other one.
+pub above_packed : (a b : Birth) → a.system < 2 ^ 32 → a.ordinal < 2 ^ 32
+    → packed_birth b < packed_birth a → is_le (birth_cmp a b) ≡ false
+above_packed a b system ordinal more = search (rules, arith)
 
 -- the first ones of that many are in order
 abbrev pub AreInOrder : List (Birth × Handle) → ℕ → Type 0

@@ -1,5 +1,5 @@
 -- Lists of handles in the order of births.
-use Rattle.std.specs.Prelude.{◌≡◌, ◌≢◌, Bool, true, ◌↔◌, List, map, Contains, IsTrue, IsSomeAnd}
+use Rattle.std.specs.Prelude.{ℕ, ◌+◌, ◌*◌, ◌^◌, ◌≡◌, ◌≢◌, Bool, true, ◌↔◌, List, map, Contains, IsTrue, IsSomeAnd}
 use Rattle.std.specs.Prelude.{Option, IfSome}
 use Rattle.std.specs.Option.{option_cmp}
 use Rattle.std.specs.declared.cmp.Ordering.{Ordering}
@@ -33,6 +33,10 @@ ListsAll = ListsByBirth (λ _. true)
 -- the entities that have the component
 abbrev pub ListsWith : ComponentId → EntityMap → List Handle → Type 0
 ListsWith id = ListsByBirth (λ e. finite.contains_key e.components id)
+
+-- the three numbers of a birth in one
+abbrev pub packed_birth : Birth → ℕ
+packed_birth b = b.frame * 2 ^ 64 + b.system * 2 ^ 32 + b.ordinal
 
 -- pairs of a birth and a handle, in the same order
 abbrev pub pair_cmp : Birth × Handle → Birth × Handle → Ordering
