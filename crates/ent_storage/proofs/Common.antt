@@ -111,7 +111,8 @@ pub use Rattle.ent_storage.specs.Image.{entities_bytes, is_held, value_bytes, va
 pub use Rattle.ent_storage.specs.Image.{width_below}
 unfoldable pub use Rattle.ent_handle.specs.Bytes.{long, word}
 unfoldable pub use Rattle.ent_storage.specs.Image.{entity_bytes, width}
-pub use Rattle.ent_storage.specs.Indexed.{HasAll, IsFree, IsIndexed, IsKeptIndex, Keeps, counted}
+pub use Rattle.ent_storage.specs.Indexed.{AreApart, HasAll, IsFree, IsIndexed, IsKeptIndex, Keeps}
+pub use Rattle.ent_storage.specs.Indexed.{counted}
 pub use Rattle.ent_storage.specs.Indexed.{entity_of, handles_by_place, has_handle_at, map_of}
 pub use Rattle.ent_storage.specs.Living.{AreColumnsOf, AreInUse, IsMovedInto, IsValueAt, Living}
 pub use Rattle.ent_storage.specs.Living.{LivingEntity, born_at, change_at, column_at, components_at}

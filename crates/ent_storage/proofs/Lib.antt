@@ -3,6 +3,7 @@ pub mod Few
 pub mod Puts
 pub mod RisingBirths
 pub mod ByBirth
+pub mod Apart
 pub mod Changed
 pub mod ColumnsAtPlaces
 pub mod Counted

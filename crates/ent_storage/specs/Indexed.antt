@@ -61,3 +61,10 @@ pub record IsKeptIndex (living : List LivingEntity) (index : finite.FinMap handl
     : Type 0 where
   pub indexed : IsIndexed living (counted living index)
   pub fits : length living ≤ room
+
+-- The residents without an index: no two have the same handle, as an index could have the place of
+-- each, and there is room for them.
+pub record AreApart (living : List LivingEntity) (room : ℕ) : Type 0 where
+  pub index : finite.FinMap handle_cmp ℕ
+  pub indexed : IsIndexed living index
+  pub fits : length living ≤ room

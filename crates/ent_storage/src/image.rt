@@ -17,7 +17,7 @@ ghost use Rattle.ent_storage.specs.Image.{IsStored, AreStored};
 ghost use Rattle.ent_storage.specs.FirstFault.{HasWidth, HasFault};
 
 use crate::image_fault::StorageImageFault;
-use crate::storage::Storage;
+use crate::rows::Rows;
 use ent_handle::{
     Birth, ComponentId, Handle, Memory, read_long, read_word, write_long, write_word,
 };
@@ -92,7 +92,7 @@ fn read_value(bytes: &[u8]) -> Option<(Option<i64>, &[u8])>
     Some((Some(number.cast_signed()), rest))
 }
 
-impl Storage {
+impl Rows {
     /// The entities of these handles, in their order, of which these are the bytes, all of them.
     /// They get the places of the handles. There is room for `room` entities in all.
     ///
@@ -136,7 +136,7 @@ impl Storage {
         if width > 256 {
             return Err(StorageImageFault::Width { width });
         }
-        let mut storage = Storage::new(alloc);
+        let mut storage = Rows::new(alloc);
         storage.reserve(room)?;
         let mut rest = rest;
         for handle in handles {
@@ -163,18 +163,6 @@ impl Storage {
     }
 
     /// Returns the number of components up to the last one that any entity has.
-    ///
-    /// ```
-    /// use forgeni::{Birth, ComponentId, Storage};
-    ///
-    /// let mut storage = Storage::new();
-    /// let cart = "0v1".parse()?;
-    /// storage.born(cart, Birth { frame: 0, system: 0, ordinal: 0 })?;
-    /// storage.insert(cart, &[(ComponentId(9), 1)])?;
-    /// // Components 0 to 9.
-    /// assert_eq!(storage.width(), 10);
-    /// # Ok::<(), Box<dyn std::error::Error>>(())
-    /// ```
     pub fn width(&self) -> u32
         ensures value { result ≡ width self.now.entities self.now.places }
         ensures most { result ≤ 256 }
@@ -286,7 +274,7 @@ fn item_of(id: ComponentId, value: i64) -> (ComponentId, i64)
 /// Gives the entity at this place the values that bytes begin with. Returns the bytes after them;
 /// `None` if no values are so written.
 fn read_values<'a>(
-    storage: &mut Storage,
+    storage: &mut Rows,
     place: usize,
     handle: Handle,
     width: u32,
@@ -325,7 +313,7 @@ fn read_values<'a>(
 /// Adds the entity that bytes begin with. Returns the bytes after it; `None` if no entity is so
 /// written.
 fn read_entity<'a>(
-    storage: &mut Storage,
+    storage: &mut Rows,
     handle: Handle,
     width: u32,
     bytes: &'a [u8],
@@ -351,9 +339,7 @@ fn read_entity<'a>(
     }
     let (birth, rest) = read_birth(bytes);
     let place = storage.len();
-    let Ok(()) = storage.born_within(handle, birth) else {
-        unreachable!()
-    };
+    storage.push(handle, birth);
     let Some(rest) = read_values(storage, place, handle, width, rest)? else {
         return Ok(None);
     };

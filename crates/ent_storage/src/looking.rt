@@ -1,14 +1,16 @@
 //! What a storage has: the look-ups, which change nothing.
-ghost use Rattle.std.specs.Prelude.{◌≡◌, ◌<◌, ◌↔◌, IfOk, IfSome};
+ghost use Rattle.std.specs.Prelude.{◌≡◌, ◌<◌, ◌≤◌, ◌↔◌, IfOk, IfSome};
 ghost use Rattle.std.specs.Prelude.{Contains, ◌≢◌, ℤ, OnErr, IsSome};
 ghost use Rattle.std.specs.Prelude.{Some, ℕ, is_some};
 ghost use Rattle.std.specs.Prelude.{slice_get, IfNone};
 ghost use Rattle.std.specs.declared.cmp.Ordering.TheVariants.{Greater};
+ghost use Rattle.ent_handle.specs.declared.component.ComponentId.{ComponentId as Component};
 ghost use Rattle.ent_handle.specs.Handle.{Handle, handle_cmp};
 ghost use Rattle.std.specs.Option.{option_map};
 ghost use Rattle.std.specs.FinMap as map;
 ghost use Rattle.ent_storage.specs.EntityMap.{birth_of, components_of, value_of};
 ghost use Rattle.ent_storage.specs.EntityMap.{value_at_place};
+ghost use Rattle.ent_storage.specs.Image.{is_held, width};
 ghost use Rattle.std.specs.List.{AllPairs};
 ghost use Rattle.ent_storage.specs.BirthOrder.{ListsAll, ListsWith};
 
@@ -130,7 +132,7 @@ impl Storage {
     /// The value of a component of the entity at this place, which has to be that of the handle
     /// (`place`). It takes constant time.
     #[inline(always)]
-    pub fn get_at(&self, place: usize, handle: Handle, id: ComponentId) -> Option<i64>
+    fn get_at(&self, place: usize, handle: Handle, id: ComponentId) -> Option<i64>
         requires { slice_get self.now.places place ≡ Some handle }
         ensures { result ≡ value_of self.now.entities handle id }
     {
@@ -139,20 +141,11 @@ impl Storage {
 
     /// The components and their values, in ascending order of number, of the entity at this place,
     /// which has to be that of the handle.
-    pub fn items_at(&self, place: usize, handle: Handle) -> Items<'_>
+    fn items_at(&self, place: usize, handle: Handle) -> Items<'_>
         requires { slice_get self.now.places place ≡ Some handle }
         ensures { option_map map.entries (components_of self.now.entities handle) ≡ Some result }
     {
         self.living.items(place)
-    }
-
-    /// When and by whom the entity at this place was brought to life. The place has to be that of
-    /// the handle. It takes constant time.
-    pub fn birth_at(&self, place: usize, handle: Handle) -> Birth
-        requires { slice_get self.now.places place ≡ Some handle }
-        ensures { birth_of self.now.entities handle ≡ Some result }
-    {
-        self.living.birth(place)
     }
 
     /// Returns the handles of all entities, ordered by birth and then by handle. It takes the time
@@ -262,5 +255,42 @@ impl Storage {
     {
         let births = self.living.births_at(self.alloc, self.living.pairs(id))?;
         Ok(handles_in_order(self.alloc, births)?)
+    }
+
+    /// Whether any entity has the component.
+    fn is_held(&self, id: ComponentId) -> bool
+        ensures { result ≡ is_held self.now.entities self.now.places id.0 }
+    {
+        !self.dense(id).is_empty()
+    }
+
+    /// Returns the number of components up to the last one that any entity has.
+    ///
+    /// ```
+    /// use forgeni::{Birth, ComponentId, Storage};
+    ///
+    /// let mut storage = Storage::new();
+    /// let cart = "0v1".parse()?;
+    /// storage.born(cart, Birth { frame: 0, system: 0, ordinal: 0 })?;
+    /// storage.insert(cart, &[(ComponentId(9), 1)])?;
+    /// // Components 0 to 9.
+    /// assert_eq!(storage.width(), 10);
+    /// # Ok::<(), Box<dyn std::error::Error>>(())
+    /// ```
+    pub fn width(&self) -> u32
+        ensures value { result ≡ width self.now.entities self.now.places }
+        ensures most { result ≤ 256 }
+        ensures within { (h : Handle) (id : Component) (v : ℤ)
+            → value_of self.now.entities h id ≡ Some v → id.0 < result }
+    {
+        // Each component has a column, and there are no more than 256.
+        prove_eq!(self.living.beyond(), 0);
+        let mut width = 0;
+        for number in 0..256 {
+            if self.is_held(ComponentId(number as u8)) {
+                width = number + 1;
+            }
+        }
+        width
     }
 }

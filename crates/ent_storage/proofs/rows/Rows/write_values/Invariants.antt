@@ -1,6 +1,6 @@
 use Rattle.ent_storage.proofs.Common.{◌≡◌, ◌≤◌, ◌<◌, ◌+◌, ◌-◌, ◌*◌, ◌++◌, IfSome, vec_len, w64}
 use Rattle.ent_storage.proofs.Common.{FitsSigned, ComponentId, value_of, values_bytes, vec_capacity}
-use Rattle.ent_storage.proofs.storage.Storage.write_values.Given as goal
+use Rattle.ent_storage.proofs.rows.Rows.write_values.Given as goal
 
 abbrev pub invariant-loop-number : goal.invariant-loop-number
 invariant-loop-number l = record {

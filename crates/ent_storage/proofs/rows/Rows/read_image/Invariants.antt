@@ -1,6 +1,6 @@
 use Rattle.ent_storage.proofs.Common.{◌≡◌, ◌≤◌, ◌+◌, take}
 use Rattle.ent_storage.proofs.ImageRead.{AreRead}
-use Rattle.ent_storage.proofs.storage.Storage.read_image.Given as goal
+use Rattle.ent_storage.proofs.rows.Rows.read_image.Given as goal
 
 -- the entities of the handles so far were read, and nobody else
 abbrev pub invariant-loop-handle : goal.invariant-loop-handle

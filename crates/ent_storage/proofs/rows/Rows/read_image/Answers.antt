@@ -6,7 +6,7 @@ use Rattle.ent_storage.proofs.Common.{NoEntity}
 use Rattle.ent_storage.proofs.ImageRead.{damaged, read_more, places_more, first_read, all_first}
 use Rattle.ent_storage.proofs.ImageRead.{are_stored, is_read, nothing_left, width_told}
 use Rattle.ent_storage.proofs.ImageRead.{width_placed, too_wide}
-use Rattle.ent_storage.proofs.storage.Storage.read_image.Goals as goal
+use Rattle.ent_storage.proofs.rows.Rows.read_image.Goals as goal
 
 pub loop-handle-init : goal.loop-handle-init
 loop-handle-init c =

@@ -1,8 +1,8 @@
 use Rattle.ent_storage.proofs.Common.{rules, ◌≡◌, ap, sym, subst, refl, ◌∙◌, Result, OnOk, OnErr}
 use Rattle.ent_storage.proofs.Common.{EntityMap, Store, birth_of, value_of, to_z-of_z, fin_get}
 use Rattle.ent_storage.proofs.ImageGiven.{given, given_value, given_others, given_birth, given_rest}
-use Rattle.ent_storage.proofs.storage.Storage.give.Goals.{After-give_one}
-use Rattle.ent_storage.proofs.storage.Storage.give.Goals as goal
+use Rattle.ent_storage.proofs.rows.Rows.give.Goals.{After-give_one}
+use Rattle.ent_storage.proofs.rows.Rows.give.Goals as goal
 
 either : {T E A B : Type 0} (P : Type 0) (r : Result T E) → (A → P) → (B → P) → OnOk r A → OnErr r B
     → P
