@@ -75,8 +75,8 @@ pub struct Reservers<R = Reserver> {
 #[repr(align(128))]
 struct Place<R>(Mutex<R>);
 
-/// What a [`Reservers`] can hold: a [`Reserver`], a [`Lent`], or a `&mut` to one of them, of any
-/// [source](Phased).
+/// What a [`Reservers`] can hold: a [`Reserver`], one that is [`Lent`], or a `&mut` to one of them,
+/// of any [source](Phased).
 ///
 /// No other type can implement it.
 ///
