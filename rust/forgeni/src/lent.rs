@@ -7,8 +7,8 @@ use core::fmt;
 use core::ops::Deref;
 
 /// A [`Reserver`] that is lent by a [`phase`](crate::Entities::phase) or by a pool of reservers, or
-/// the [`Commands`] of a system that are lent by a [`phase`](crate::World::phase) of a world. It has
-/// the same calls, at no extra cost.
+/// the [`Commands`] of a system, lent by the [`phase`](crate::World::phase) of a world. It has the
+/// same calls, at no extra cost.
 ///
 /// The borrower can neither keep nor replace what is lent. So the phase has all of it at its end,
 /// even if a `Lent` is dropped or forgotten.
