@@ -34,8 +34,7 @@ impl World {
     /// let (open, mut systems) = world.open(1)?;
     /// systems[0].despawn(cart)?;
     /// systems[0].insert(cart, &[(ComponentId(0), 2)])?;
-    /// let queues = systems.into_iter().map(|one| one.finish()).collect();
-    /// let (mut world, queues) = open.close(queues)?;
+    /// let (mut world, queues) = open.close(systems)?;
     /// let report = world.apply(queues)?;
     /// // It was gone when the second command's turn came.
     /// assert_eq!((report.faults.len(), report.faults[0].command), (1, 1));
@@ -114,8 +113,7 @@ impl Stopped {
     ///
     /// let (open, mut systems) = World::new().open(1)?;
     /// systems[0].spawn(&[])?;
-    /// let queues = systems.into_iter().map(|one| one.finish()).collect();
-    /// let (mut world, queues) = open.close(queues)?;
+    /// let (mut world, queues) = open.close(systems)?;
     /// let cache = vec![0_u8; 1 << 20];
     /// let report = match world.apply(queues) {
     ///     Err(SyncError::Stopped(stopped)) => {

@@ -9,7 +9,6 @@ ghost use Rattle.ent_queue.specs.Command.{Spawn, SpawnMany, Insert, Remove, Desp
 ghost use Rattle.ent_queue.specs.Reserving.{refused_by};
 ghost use Rattle.ent_shared.specs.Replies.{IsReturned};
 
-use crate::command_queue::CommandQueue;
 use crate::numbering::Numbering;
 use crate::open_world::OpenWorld;
 use ent_alloc::ReserveError;
@@ -21,8 +20,8 @@ use std::marker::{Model, PhantomData};
 use std::mem;
 use std::sync::Arc;
 
-/// Issues the commands of one system. They take effect when the queue is applied. It may go to
-/// another thread.
+/// Issues the commands of one system. They take effect when the phase is closed with it, and its
+/// queue is applied. It may go to another thread.
 ///
 /// A spawn reserves its handle at once, so a system knows what it will have spawned. The world can
 /// be read, as it was when it was opened.
@@ -42,7 +41,7 @@ use std::sync::Arc;
 ///         });
 ///     }
 /// });
-/// let (mut world, queues) = open.close(systems.into_iter().map(|one| one.finish()).collect())?;
+/// let (mut world, queues) = open.close(systems)?;
 /// assert_eq!(world.apply(queues)?.born.len(), 2);
 /// # Ok::<(), Box<dyn std::error::Error>>(())
 /// ```
@@ -116,8 +115,7 @@ impl<J: Numbering> Commands<J> {
     /// let (open, mut systems) = World::new().open(1)?;
     /// let cart = systems[0].spawn(&[(ComponentId(0), 5)])?;
     /// assert!(!open.view().contains(cart));
-    /// let queues = systems.into_iter().map(|one| one.finish()).collect();
-    /// let (mut world, queues) = open.close(queues)?;
+    /// let (mut world, queues) = open.close(systems)?;
     /// world.apply(queues)?;
     /// assert_eq!(world.get(cart, ComponentId(0)), Some(5));
     /// # Ok::<(), Box<dyn std::error::Error>>(())
@@ -222,8 +220,7 @@ impl<J: Numbering> Commands<J> {
     ///
     /// // It takes effect when the queue is applied.
     /// assert_eq!(systems[0].view().get(oak, AGE), Some(80));
-    /// let queues = systems.into_iter().map(|one| one.finish()).collect();
-    /// let (mut world, queues) = open.close(queues)?;
+    /// let (mut world, queues) = open.close(systems)?;
     /// world.apply(queues)?;
     /// assert_eq!(world.get(oak, AGE), Some(81));
     /// # Ok::<(), Box<dyn std::error::Error>>(())
@@ -296,8 +293,7 @@ impl<J: Numbering> Commands<J> {
     /// for commands in &mut systems {
     ///     commands.despawn(oak)?;
     /// }
-    /// let queues = systems.into_iter().map(|one| one.finish()).collect();
-    /// let (mut world, queues) = open.close(queues)?;
+    /// let (mut world, queues) = open.close(systems)?;
     /// let report = world.apply(queues)?;
     /// assert_eq!(report.faults.len(), 1);
     /// assert_eq!((report.faults[0].system, report.faults[0].kind), (1, FaultKind::NotAlive(oak)));
@@ -387,37 +383,24 @@ impl<J: Numbering> Commands<J> {
     /// assert_eq!(names.collect::<Vec<_>>(), ["burn", "move"]);
     /// # Ok::<(), Box<dyn std::error::Error>>(())
     /// ```
-    #[must_use]
-    pub fn number(&self) -> usize
-        ensures { result ≡ self.now.reserver.own.number }
-    {
-        self.reserver.number()
-    }
-
-    /// Returns the queue of the commands that were issued, which [`OpenWorld::close`] takes.
+    ///
+    /// Systems that came back in any order can be sorted by it:
     ///
     /// ```
     /// use forgeni::World;
     ///
     /// let (open, systems) = World::new().open(3)?;
-    /// // A queue is a value, so it may be kept, or go to another thread.
-    /// let queues: Vec<_> = systems.into_iter().map(|commands| commands.finish()).collect();
-    /// let (mut world, queues) = open.close(queues)?;
-    /// assert!(world.apply(queues)?.born.is_empty());
+    /// // Threads have ended in some order.
+    /// let mut ended: Vec<_> = systems.into_iter().rev().collect();
+    /// ended.sort_by_key(|one| one.number());
+    /// assert_eq!(ended.iter().map(|one| one.number()).collect::<Vec<_>>(), [0, 1, 2]);
+    /// let _closed = open.close(ended)?;
     /// # Ok::<(), Box<dyn std::error::Error>>(())
     /// ```
-    ///
-    /// The system can issue no more:
-    ///
-    /// ```compile_fail
-    /// let (open, mut systems) = forgeni::World::new().open(1).unwrap();
-    /// let mut only = systems.pop().unwrap();
-    /// let queue = only.finish();
-    /// only.spawn(&[]);
-    /// ```
-    pub fn finish(self) -> CommandQueue<J>
-        ensures { result ≡ self }
+    #[must_use]
+    pub fn number(&self) -> usize
+        ensures { result ≡ self.now.reserver.own.number }
     {
-        CommandQueue::new(self)
+        self.reserver.number()
     }
 }

@@ -28,10 +28,11 @@ use std::thread::Threads;
 ///
 /// ```
 /// # #[cfg(feature = "std")] {
-/// use forgeni::{fill_in_blocks, BlockSize, CommandsInBlocks, OutOfMemory, StdThreads, View, World};
+/// use forgeni::{fill_in_blocks, Blocks, BlockSize, OutOfMemory, StdThreads, View, World};
+/// use forgeni::WorldCommands;
 ///
-/// fn launch(_: &View<'_>, commands: &mut CommandsInBlocks<'_>) -> Result<(), OutOfMemory> {
-///     commands.spawn_many_with(100, &[]).map_or_else(|refused| refused.or_memory(), |_| Ok(()))
+/// fn launch(_: &View<'_>, out: &mut WorldCommands<'_, Blocks>) -> Result<(), OutOfMemory> {
+///     out.spawn_many_with(100, &[]).map_or_else(|refused| refused.or_memory(), |_| Ok(()))
 /// }
 ///
 /// let (mut world, mut sizes) = (World::new(), [BlockSize::new(1000); 3]);

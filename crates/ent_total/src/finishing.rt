@@ -10,7 +10,7 @@ ghost use Rattle.ent_total.specs.Closing.{IsMissing, count_missing};
 ghost use Rattle.ent_total.specs.declared.close_error.CloseError.TheVariants.{OtherPhase, InUse};
 
 use crate::close_error::CloseError;
-use crate::command_queue::CommandQueue;
+use crate::commands::Commands;
 use crate::numbering::Numbering;
 use crate::open_world::{OpenWorld, Parts};
 use crate::queues::Queues;
@@ -20,81 +20,79 @@ use ent_handle::HandedBack;
 use ent_shared::Reserver;
 
 impl<J: Numbering> OpenWorld<J> {
-    /// Ends the phase with the queues of all its systems. Their order here is the order in which
-    /// they will take effect, and numbers their systems in births and faults. The world hasn't
-    /// changed, except that handles are reserved. It doesn't allocate, and takes time for each
-    /// queue, however many commands a queue has.
+    /// Ends the phase with all its systems. Their order here is the order in which their queues will
+    /// take effect, and numbers them in births and faults. The world hasn't changed, except that
+    /// handles are reserved. It doesn't allocate, and takes time for each system, however many
+    /// commands it has issued.
     ///
     /// ```
     /// use forgeni::{CloseError, World};
     ///
     /// let (open, mut systems) = World::new().open(2)?;
     /// systems[1].spawn(&[])?;
-    /// let mut queues: Vec<_> = systems.into_iter().map(|one| one.finish()).collect();
     ///
-    /// // A queue is missing: the phase goes on, and the other queue comes back.
-    /// let last = queues.pop();
-    /// let ((open, mut queues), error) = open.close(queues).unwrap_err().into_parts();
+    /// // A system is missing: the phase goes on, and the other system comes back.
+    /// let last = systems.pop();
+    /// let ((open, mut systems), error) = open.close(systems).unwrap_err().into_parts();
     /// assert_eq!(error, CloseError::Missing { count: 1 });
-    /// queues.extend(last);
+    /// systems.extend(last);
     ///
-    /// let (mut world, queues) = open.close(queues)?;
+    /// let (mut world, queues) = open.close(systems)?;
     /// assert_eq!(world.apply(queues)?.born.len(), 1);
     /// # Ok::<(), Box<dyn std::error::Error>>(())
     /// ```
     ///
     /// # Errors
     ///
-    /// [`HandedBack`] has the phase, which goes on, the queues that are handed back, and the first
+    /// [`HandedBack`] has the phase, which goes on, the systems that are handed back, and the first
     /// of these errors that applies. With [`CloseError::OtherPhase`] and [`CloseError::Missing`]
-    /// all queues are handed back in their order. With [`CloseError::InUse`] the phase keeps them,
+    /// all systems are handed back in their order. With [`CloseError::InUse`] the phase keeps them,
     /// as [`close_lost`](OpenWorld::close_lost) does.
     pub fn close(
         mut self,
-        queues: Vec<CommandQueue<J>>,
-    ) -> Result<(World, Queues), HandedBack<(Self, Vec<CommandQueue<J>>), CloseError>>
+        systems: Vec<Commands<J>>,
+    ) -> Result<(World, Queues), HandedBack<(Self, Vec<Commands<J>>), CloseError>>
         ensures world { IfOk result (λ made.
-            IsClosed self.world (reservers_returned self queues.items) made.0.world) }
+            IsClosed self.world (reservers_returned self systems.items) made.0.world) }
         ensures number { IfOk result (λ made. made.0.number ≡ self.of_world) }
         ensures spawned { IfOk result (λ made. made.0.spawned ≡ self.spawned) }
         ensures queues { IfOk result (λ made.
-            made.1 ≡ record { world = self.of_world; queues = queues_returned self queues.items }) }
+            made.1 ≡ record { world = self.of_world; queues = queues_returned self systems.items }) }
 
         // When it succeeds, when it is refused, and what holds then.
-        ensures may_return { OnOk result (MayReturn self queues.items) }
+        ensures may_return { OnOk result (MayReturn self systems.items) }
         ensures all { OnOk result
-            (length (reservers_returned self queues.items) ≡ self.world.shared.count) }
+            (length (reservers_returned self systems.items) ≡ self.world.shared.count) }
         ensures other_phase { IsErrAnd result (λ h. h.error ≡ OtherPhase)
-            ↔ ¬ (MayReturn self queues.items) }
+            ↔ ¬ (MayReturn self systems.items) }
         ensures missing { IsErrAnd result (λ h. IsMissing h.error)
-            ↔ (MayReturn self queues.items
-            × (length (reservers_returned self queues.items) < self.world.shared.count)) }
+            ↔ (MayReturn self systems.items
+            × (length (reservers_returned self systems.items) < self.world.shared.count)) }
         ensures how_many { IfErr result (λ h. IsMissing h.error
-            → length (reservers_returned self queues.items) + count_missing h.error
+            → length (reservers_returned self systems.items) + count_missing h.error
             ≡ self.world.shared.count) }
         ensures handed_back { IfErr result (λ h. h.error ≢ InUse
-            → (h.value.0 ≡ self) × (h.value.1.items ≡ queues.items)) }
+            → (h.value.0 ≡ self) × (h.value.1.items ≡ systems.items)) }
         ensures returned { IfErr result (λ h. h.error ≡ InUse
-            → (h.value.0 ≡ with_returned self queues.items) × (h.value.1.items ≡ [])) }
+            → (h.value.0 ≡ with_returned self systems.items) × (h.value.1.items ≡ [])) }
     {
-        let Some(missing) = self.missing(&queues) else {
-            return Err(HandedBack::new((self, queues), CloseError::OtherPhase));
+        let Some(missing) = self.missing(&systems) else {
+            return Err(HandedBack::new((self, systems), CloseError::OtherPhase));
         };
         if missing > 0 {
             let error = CloseError::Missing { count: missing };
-            return Err(HandedBack::new((self, queues), error));
+            return Err(HandedBack::new((self, systems), error));
         }
-        self.take_back(queues);
+        self.take_back(systems);
         match self.end() {
             Ok(parts) => Ok(close_all(parts)),
             Err(open) => Err(open.in_use()),
         }
     }
 
-    /// Ends the phase although some systems are lost: their [`Commands`](crate::Commands) or queues
-    /// were dropped, as by a thread that panicked. The queues of the others take effect in their
-    /// order here, which also numbers their systems in births and faults. What a lost system issued
-    /// is gone.
+    /// Ends the phase although some systems are lost: their [`Commands`](crate::Commands) were
+    /// dropped, as by a thread that panicked. The queues of the others take effect in their order
+    /// here, which also numbers them in births and faults. What a lost system issued is gone.
     ///
     /// Which of its requests were refused is lost too. So the front of the pool counts as reserved,
     /// as far as requests went, and the next sync point or flush also brings to life those handles
@@ -107,8 +105,7 @@ impl<J: Numbering> OpenWorld<J> {
     /// systems[0].spawn(&[])?;
     /// // The thread of the other system has panicked.
     /// drop(systems.pop());
-    /// let queues = systems.into_iter().map(|one| one.finish()).collect();
-    /// let (mut world, queues) = open.close_lost(queues)?;
+    /// let (mut world, queues) = open.close_lost(systems)?;
     /// assert_eq!(world.apply(queues)?.born.len(), 1);
     /// # Ok::<(), Box<dyn std::error::Error>>(())
     /// ```
@@ -116,34 +113,34 @@ impl<J: Numbering> OpenWorld<J> {
     /// # Errors
     ///
     /// The same as for [`close`](OpenWorld::close), except for `Missing`. With
-    /// [`CloseError::InUse`] the `Commands` or the queue of a system that wasn't handed in still
-    /// exists. The phase keeps those that were, and they come before those of the next close. One
-    /// that was passed to `core::mem::forget` exists forever.
+    /// [`CloseError::InUse`] the `Commands` of a system that wasn't handed in still exists. The
+    /// phase keeps those that were, and they come before those of the next close. One that was
+    /// passed to `core::mem::forget` exists forever.
     pub fn close_lost(
         mut self,
-        queues: Vec<CommandQueue<J>>,
-    ) -> Result<(World, Queues), HandedBack<(Self, Vec<CommandQueue<J>>), CloseError>>
+        systems: Vec<Commands<J>>,
+    ) -> Result<(World, Queues), HandedBack<(Self, Vec<Commands<J>>), CloseError>>
         ensures world { IfOk result (λ made.
-            IsClosedLost self.world (reservers_returned self queues.items) made.0.world) }
+            IsClosedLost self.world (reservers_returned self systems.items) made.0.world) }
         ensures number { IfOk result (λ made. made.0.number ≡ self.of_world) }
         ensures spawned { IfOk result (λ made. made.0.spawned ≡ self.spawned) }
         ensures queues { IfOk result (λ made.
-            made.1 ≡ record { world = self.of_world; queues = queues_returned self queues.items }) }
+            made.1 ≡ record { world = self.of_world; queues = queues_returned self systems.items }) }
 
         // When it succeeds, when it is refused, and what holds then.
-        ensures may_return { OnOk result (MayReturn self queues.items) }
+        ensures may_return { OnOk result (MayReturn self systems.items) }
         ensures other_phase { IsErrAnd result (λ h. h.error ≡ OtherPhase)
-            ↔ ¬ (MayReturn self queues.items) }
+            ↔ ¬ (MayReturn self systems.items) }
         ensures no_missing { IfErr result (λ h. ¬ (IsMissing h.error)) }
         ensures handed_back { IfErr result (λ h. h.error ≢ InUse
-            → (h.value.0 ≡ self) × (h.value.1.items ≡ queues.items)) }
+            → (h.value.0 ≡ self) × (h.value.1.items ≡ systems.items)) }
         ensures returned { IfErr result (λ h. h.error ≡ InUse
-            → (h.value.0 ≡ with_returned self queues.items) × (h.value.1.items ≡ [])) }
+            → (h.value.0 ≡ with_returned self systems.items) × (h.value.1.items ≡ [])) }
     {
-        if self.missing(&queues).is_none() {
-            return Err(HandedBack::new((self, queues), CloseError::OtherPhase));
+        if self.missing(&systems).is_none() {
+            return Err(HandedBack::new((self, systems), CloseError::OtherPhase));
         }
-        self.take_back(queues);
+        self.take_back(systems);
         match self.end() {
             Ok(parts) => Ok(close_some(parts)),
             Err(open) => Err(open.in_use()),
@@ -151,30 +148,30 @@ impl<J: Numbering> OpenWorld<J> {
     }
 
     /// How many systems are missing beside those returned and these, if these may come back.
-    fn missing(&self, queues: &[CommandQueue<J>]) -> Option<usize>
-        ensures may_return { IsSome result ↔ MayReturn self.now queues.now }
+    fn missing(&self, systems: &[Commands<J>]) -> Option<usize>
+        ensures may_return { IsSome result ↔ MayReturn self.now systems.now }
         ensures count { IfSome result (λ missing.
-            length (reservers_returned self.now queues.now) + missing
+            length (reservers_returned self.now systems.now) + missing
             ≡ self.now.world.shared.count) }
     {
-        if !are_of(self.number(), queues) {
+        if !are_of(self.number(), systems) {
             return None;
         }
         let most = self.count();
         let returned = self.returned();
-        if returned > most || queues.len() > most - returned {
+        if returned > most || systems.len() > most - returned {
             return None;
         }
-        Some(most - returned - queues.len())
+        Some(most - returned - systems.len())
     }
 
     /// That somebody else has a part of the phase.
-    fn in_use(self) -> HandedBack<(Self, Vec<CommandQueue<J>>), CloseError>
+    fn in_use(self) -> HandedBack<(Self, Vec<Commands<J>>), CloseError>
         ensures phase { result.value.0 ≡ self }
-        ensures queues { result.value.1.items ≡ [] }
+        ensures systems { result.value.1.items ≡ [] }
         ensures error { result.error ≡ InUse }
     {
-        let none = self.no_queues();
+        let none = self.no_systems();
         HandedBack::new((self, none), CloseError::InUse)
     }
 }

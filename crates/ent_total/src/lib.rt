@@ -6,7 +6,6 @@ mod applying;
 mod cloning;
 mod close_error;
 mod closing;
-mod command_queue;
 mod commands;
 mod filling;
 mod filling_in_blocks;
@@ -41,7 +40,6 @@ mod world_returning;
 
 pub use cloning::{clone_world, clone_world_from};
 pub use close_error::CloseError;
-pub use command_queue::CommandQueue;
 pub use commands::Commands;
 pub use filling_in_blocks::fill_in_blocks;
 pub use frame_error::FrameError;

@@ -10,10 +10,10 @@ use ent_blocks::{BlockReserver, Blocks, InBlocks};
 ///
 /// ```
 /// # #[cfg(feature = "std")] {
-/// use forgeni::{run_in_blocks, BlockCommands, Log, OfBlocks, OutOfMemory, Phase, Reserver};
-/// use forgeni::{RunError, StdThreads};
+/// use forgeni::{run_in_blocks, Blocks, Log, LogCommands, OfBlocks, OutOfMemory, Phase};
+/// use forgeni::{Reserver, RunError, StdThreads};
 ///
-/// fn launch(commands: &mut BlockCommands<'_, u8>) -> Result<(), OutOfMemory> {
+/// fn launch(commands: &mut LogCommands<'_, u8, Blocks>) -> Result<(), OutOfMemory> {
 ///     commands.spawn().map_or_else(|refused| refused.or_memory(), |_| commands.push(1))
 /// }
 ///

@@ -5,7 +5,6 @@ ghost use Rattle.std.specs.Vec.{vec_capacity, vec_len};
 ghost use Rattle.ent_shared.specs.Phase.{IsOf};
 ghost use Rattle.ent_total.specs.Issuing.{AreNew, MayReturn, issuing, new_commands, with_returned};
 
-use crate::command_queue::CommandQueue;
 use crate::commands::Commands;
 use crate::numbering::Numbering;
 use crate::world_returning::bring_back;
@@ -26,16 +25,16 @@ use std::sync::Arc;
 ///
 /// let mut world = World::new();
 /// let oak = world.spawn(&[])?;
-/// let (open, systems) = world.open(2)?;
-/// let queues = std::thread::scope(|scope| {
-///     let run = |mut commands: forgeni::Commands| {
-///         let _out_of_memory = if open.view().contains(oak) { commands.despawn(oak) } else { Ok(()) };
-///         commands.finish()
-///     };
-///     let threads: Vec<_> = systems.into_iter().map(|it| scope.spawn(move || run(it))).collect();
-///     threads.into_iter().map(|it| it.join().expect("no panic")).collect()
+/// let (open, mut systems) = world.open(2)?;
+/// std::thread::scope(|scope| {
+///     for commands in &mut systems {
+///         let view = open.view();
+///         scope.spawn(move || {
+///             if view.contains(oak) { commands.despawn(oak) } else { Ok(()) }
+///         });
+///     }
 /// });
-/// let (mut world, queues) = open.close(queues)?;
+/// let (mut world, queues) = open.close(systems)?;
 /// assert_eq!((world.apply(queues)?.faults.len(), world.len()), (1, 0));
 /// # Ok::<(), Box<dyn std::error::Error>>(())
 /// ```
@@ -170,16 +169,15 @@ impl<J: Numbering> OpenWorld<J> {
         self.world.shared().count()
     }
 
-    /// Returns the number of systems that have come back: those whose queues a refused close kept.
+    /// Returns the number of systems that have come back: those that a refused close kept.
     ///
     /// ```
     /// use forgeni::World;
     ///
     /// let (open, mut systems) = World::new().open(2)?;
     /// let late = systems.pop();
-    /// let queues = systems.into_iter().map(|one| one.finish()).collect();
-    /// // A system is still at work. The phase keeps the queue of the other.
-    /// let refused = open.close_lost(queues).err().ok_or("it was closed")?;
+    /// // A system is still at work. The phase keeps the commands of the other.
+    /// let refused = open.close_lost(systems).err().ok_or("it was closed")?;
     /// let ((open, _), _) = refused.into_parts();
     /// assert_eq!(open.returned(), 1);
     /// drop(late);
@@ -241,16 +239,16 @@ impl<J: Numbering> OpenWorld<J> {
     }
 
     /// Takes systems returned, in their order, which needs no memory.
-    pub(crate) fn take_back(&mut self, queues: Vec<CommandQueue<J>>)
-        requires { MayReturn self.old queues.items }
-        ensures { self.new ≡ with_returned self.old queues.items }
+    pub(crate) fn take_back(&mut self, systems: Vec<Commands<J>>)
+        requires { MayReturn self.old systems.items }
+        ensures { self.new ≡ with_returned self.old systems.items }
     {
         bring_back(
             &mut self.returned,
             &mut self.queues,
             &self.world,
             self.number,
-            queues,
+            systems,
         );
     }
 
@@ -292,7 +290,7 @@ impl<J: Numbering> OpenWorld<J> {
     }
 
     /// A list without systems.
-    pub(crate) fn no_queues(&self) -> Vec<CommandQueue<J>>
+    pub(crate) fn no_systems(&self) -> Vec<Commands<J>>
         ensures { result.items ≡ [] }
     {
         Vec::new(self.alloc)

@@ -44,8 +44,7 @@ const NO_SYSTEM: u32 = 0xffff_ffff;
 ///         scope.spawn(move || commands.spawn(&[(AGE, 1)]));
 ///     }
 /// });
-/// let queues = systems.into_iter().map(|commands| commands.finish()).collect();
-/// let (mut world, queues) = open.close(queues)?;
+/// let (mut world, queues) = open.close(systems)?;
 /// let report = world.apply(queues)?;
 /// assert_eq!(report.born.len(), 2);
 /// assert!(report.faults.is_empty());

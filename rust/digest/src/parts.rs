@@ -3,8 +3,10 @@
 use crate::{below, digest_of, mixed, played, Digest, Result};
 use alloc::vec::Vec;
 use forgeni::{run_frame, run_in_blocks};
-use forgeni::{BlockCommands, ComponentId, Entities, Entry, Handle, HandleMap, Log, OutOfMemory};
-use forgeni::{Reserver, SparseMap, StdThreads, SyncPoint, SystemCommands, View, World};
+use forgeni::{Blocks, ComponentId, Entities, Entry, Handle, HandleMap, Log, LogCommands};
+use forgeni::{
+    OutOfMemory, Reserver, SparseMap, StdThreads, SyncPoint, SystemCommands, View, World,
+};
 
 /// Calls for one caller, refusals included: of slots, of generations, and of handles from
 /// elsewhere.
@@ -149,7 +151,7 @@ pub fn blocks() -> Result<u64> {
     Ok(digest.0)
 }
 
-fn fill(commands: &mut BlockCommands<'_, usize>) -> core::result::Result<(), OutOfMemory> {
+fn fill(commands: &mut LogCommands<'_, usize, Blocks>) -> core::result::Result<(), OutOfMemory> {
     for turn in 0..10 {
         match commands.spawn() {
             Ok(one) => commands.push(one.index() as usize + turn)?,

@@ -24,9 +24,9 @@
 //! The last lines are of a game whose entities and components are in a `World`. What is compared is
 //! its image, so it is the same births too, and the same handles that come next.
 
-use forgeni::{fill_in_blocks, CommandsInBlocks, ComponentId, View, World};
-use forgeni::{run_in_blocks, BlockCommands, BlockSize, Entities, Entry, Handle, HandleMap};
-use forgeni::{StdThreads, SyncPoint};
+use forgeni::{fill_in_blocks, ComponentId, View, World, WorldCommands};
+use forgeni::{run_in_blocks, BlockSize, Blocks, Entities, Entry, Handle, HandleMap};
+use forgeni::{LogCommands, StdThreads, SyncPoint};
 
 /// A system can return any error, from any thread.
 type Result<T> = std::result::Result<T, Failure>;
@@ -57,7 +57,7 @@ enum Command {
 }
 
 /// Spawns an entity with this energy.
-fn spawn(commands: &mut BlockCommands<'_, Command>, energy: u64) -> Result<()> {
+fn spawn(commands: &mut LogCommands<'_, Command, Blocks>, energy: u64) -> Result<()> {
     match commands.spawn() {
         Ok(new) => commands.push(Command::Change(new, energy))?,
         // A block that is used up refuses, and it does so on every machine. The sync point counts
@@ -101,7 +101,7 @@ impl Game {
     }
 
     /// A system looks at its share of the entities. Many of them spawn, as long as there are few.
-    fn run(&self, system: usize, commands: &mut BlockCommands<'_, Command>) -> Result<()> {
+    fn run(&self, system: usize, commands: &mut LogCommands<'_, Command, Blocks>) -> Result<()> {
         let crowd = self.energy.len() as u64;
         for (one, energy) in &self.energy {
             if one.index() as usize % SYSTEMS != system {
@@ -128,7 +128,7 @@ impl Game {
         let (phase, mut reservers) = entities.share_in_blocks(&sizes)?;
         let game = &*self;
         let systems: [_; SYSTEMS] = std::array::from_fn(|system| {
-            move |commands: &mut BlockCommands<'_, Command>| game.run(system, commands)
+            move |commands: &mut LogCommands<'_, Command, Blocks>| game.run(system, commands)
         });
         let mut logs = run_in_blocks(&StdThreads, &phase, &mut reservers, &systems, workers)?;
         for (size, reserver) in self.sizes.iter_mut().zip(&reservers) {
@@ -203,7 +203,11 @@ const ENERGY: ComponentId = ComponentId(0);
 
 /// A system of that game: as `Game::run`, but it reads the world, and issues the world's own
 /// commands.
-fn run_in_world(system: usize, view: &View<'_>, commands: &mut CommandsInBlocks<'_>) -> Result<()> {
+fn run_in_world(
+    system: usize,
+    view: &View<'_>,
+    commands: &mut WorldCommands<'_, Blocks>,
+) -> Result<()> {
     let (all, input) = (view.with(ENERGY)?, mixed(view.phase() ^ 0x10c5));
     let crowd = all.len() as u64;
     for one in all {
@@ -233,7 +237,7 @@ fn play_world(workers: usize) -> Result<Vec<Vec<u8>>> {
     }
     let mut sizes = [BlockSize::new(4096); SYSTEMS];
     let systems: [_; SYSTEMS] = std::array::from_fn(|system| {
-        move |view: &View<'_>, commands: &mut CommandsInBlocks<'_>| {
+        move |view: &View<'_>, commands: &mut WorldCommands<'_, Blocks>| {
             run_in_world(system, view, commands)
         }
     });

@@ -15,8 +15,8 @@
 //!
 //! What is played when depends on the messages alone, so it is the same each time.
 
-use forgeni::{fill_in_blocks, BlockSize, CommandsInBlocks, ComponentId, Handle, View, World};
-use forgeni::{OutOfMemory, StdThreads};
+use forgeni::{fill_in_blocks, BlockSize, Blocks, ComponentId, Handle, View, World};
+use forgeni::{OutOfMemory, StdThreads, WorldCommands};
 use std::io::{Read, Write};
 use std::net::{TcpListener, TcpStream};
 use std::process::{Child, Command};
@@ -76,7 +76,7 @@ impl Game {
     fn step(&mut self, inputs: [u64; PLAYERS], workers: usize) -> Result<()> {
         let input = inputs.into_iter().fold(0, |all, one| mixed(all ^ one));
         let systems: [_; SYSTEMS] = std::array::from_fn(|system| {
-            move |view: &View<'_>, commands: &mut CommandsInBlocks<'_>| {
+            move |view: &View<'_>, commands: &mut WorldCommands<'_, Blocks>| {
                 let all = view.with(ENERGY)?;
                 let crowd = all.len() as u64;
                 let is_own = |it: &Handle| it.index() as usize % SYSTEMS == system;

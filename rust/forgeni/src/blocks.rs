@@ -18,13 +18,13 @@
 //!
 //! ```
 //! # #[cfg(feature = "std")] {
-//! use forgeni::{run_in_blocks, BlockCommands, BlockSize, Entities, StdThreads, SyncPoint};
+//! use forgeni::{run_in_blocks, Blocks, BlockSize, Entities, LogCommands, StdThreads, SyncPoint};
 //!
 //! let (mut entities, mut refused) = (Entities::new(), 0);
 //! let mut sizes = [BlockSize::new(1_000); 3];
 //! for wave in [40, 60, 90, 140] {
 //!     // Each system launches a wave, which is larger in each frame.
-//!     let launch = |commands: &mut BlockCommands<'_, u32>| {
+//!     let launch = |commands: &mut LogCommands<'_, u32, Blocks>| {
 //!         (0..wave).try_for_each(|_| match commands.spawn() {
 //!             Ok(drone) => commands.push(drone.index()),
 //!             Err(why) => why.or_memory(),

@@ -1,13 +1,17 @@
-//! A reserver that is lent, and how anything is lent.
+//! What a phase lends: reservers, and the commands of systems.
 
-use crate::{Handle, OtherPhase, Phased, Refused, ReserveError, Reserver, SharedSource};
+use crate::{Commands, ComponentId, Handle, OtherPhase, OutOfMemory, Phased, Refused};
+use crate::{ReserveError, Reserver};
 use alloc::vec::Vec;
+use core::fmt;
+use core::ops::Deref;
 
-/// A [`Reserver`] that is lent by a [`phase`](crate::Entities::phase) or by a pool of reservers. It
-/// reserves as the reserver does, at no extra cost.
+/// A [`Reserver`] that is lent by a [`phase`](crate::Entities::phase) or by a pool of reservers, or
+/// the [`Commands`] of a system, lent by the [`phase`](crate::World::phase) of a world. It has the
+/// same calls, at no extra cost.
 ///
-/// The borrower can neither keep the reserver nor replace it. So the phase has all of them at its
-/// end, even if a `Lent` is dropped or forgotten.
+/// The borrower can neither keep nor replace what is lent. So the phase has all of it at its end,
+/// even if a `Lent` is dropped or forgotten.
 ///
 /// ```
 /// use forgeni::{Entities, Handle, Lent, ReserveError};
@@ -27,61 +31,76 @@ use alloc::vec::Vec;
 /// assert_eq!(entities.reserved(), 40);
 /// # Ok::<(), Box<dyn std::error::Error>>(())
 /// ```
-pub struct Lent<'a, S: Phased = SharedSource> {
-    reserver: &'a mut Reserver<S>,
+///
+/// A phase of a world lends the commands of its systems:
+///
+/// ```
+/// use forgeni::{Commands, ComponentId, Handle, Lent, ReserveError, World};
+///
+/// fn launch(commands: &mut Lent<'_, Commands>) -> Result<Handle, ReserveError> {
+///     commands.spawn(&[(ComponentId(0), 100)])
+/// }
+///
+/// let mut world = World::new();
+/// let (drone, queues) = world.phase(1, |_open, systems| launch(&mut systems[0]))?;
+/// world.apply(queues)?;
+/// assert!(world.contains(drone?));
+/// # Ok::<(), Box<dyn std::error::Error>>(())
+/// ```
+pub struct Lent<'a, T = Reserver>(&'a mut T);
+
+impl<'a, T> Lent<'a, T> {
+    pub(crate) fn of(lent: &'a mut T) -> Self {
+        Self(lent)
+    }
+
+    /// The same, for a shorter time.
+    #[cfg(feature = "std")]
+    pub(crate) fn again(&mut self) -> Lent<'_, T> {
+        Lent(self.0)
+    }
 }
 
-/// What is lent has these calls of what it borrows, and everything that can be read from it.
+/// What can be read from it.
+impl<T> Deref for Lent<'_, T> {
+    type Target = T;
+
+    #[inline]
+    fn deref(&self) -> &T {
+        self.0
+    }
+}
+
+impl<T: fmt::Debug> fmt::Debug for Lent<'_, T> {
+    fn fmt(&self, out: &mut fmt::Formatter<'_>) -> fmt::Result {
+        self.0.fmt(out)
+    }
+}
+
+/// What is lent has these calls that change it.
 macro_rules! lends {
     (
-        $Lent:ident.$field:ident: $Of:ident $([$S:ident: $Bound:path])?;
+        $Of:ident $([$S:ident: $Bound:path])?;
         $($(#[$example:meta])* $call:ident($($name:ident: $type:ty),*) -> $returns:ty;)*
     ) => {
-        impl<'a $(, $S: $Bound)?> $Lent<'a $(, $S)?> {
-            pub(crate) fn of($field: &'a mut $Of $(<$S>)?) -> Self {
-                Self { $field }
-            }
-
-            $(
-                #[doc = concat!("The same as [`", stringify!($Of), "::", stringify!($call), "`].")]
-                ///
-                $(#[$example])*
-                ///
-                /// # Errors
-                ///
-                #[doc = concat!("Those of [`", stringify!($Of), "::", stringify!($call), "`].")]
-                #[inline]
-                pub fn $call(&mut self, $($name: $type),*) -> $returns {
-                    self.$field.$call($($name),*)
-                }
-            )*
-        }
-
-        /// What can be read from it.
-        impl $(<$S: $Bound>)? core::ops::Deref for $Lent<'_ $(, $S)?> {
-            type Target = $Of $(<$S>)?;
-
+        impl $(<$S: $Bound>)? Lent<'_, $Of $(<$S>)?> {$(
+            #[doc = concat!("The same as [`", stringify!($Of), "::", stringify!($call), "`].")]
+            ///
+            $(#[$example])*
+            ///
+            /// # Errors
+            ///
+            #[doc = concat!("Those of [`", stringify!($Of), "::", stringify!($call), "`].")]
             #[inline]
-            fn deref(&self) -> &Self::Target {
-                self.$field
+            pub fn $call(&mut self, $($name: $type),*) -> $returns {
+                self.0.$call($($name),*)
             }
-        }
-
-        impl $(<$S: $Bound>)? core::fmt::Debug for $Lent<'_ $(, $S)?>
-        where
-            $Of $(<$S>)?: core::fmt::Debug,
-        {
-            fn fmt(&self, out: &mut core::fmt::Formatter<'_>) -> core::fmt::Result {
-                self.$field.fmt(out)
-            }
-        }
+        )*}
     };
 }
 
-pub(crate) use lends;
-
 lends! {
-    Lent.reserver: Reserver[S: Phased];
+    Reserver[S: Phased];
     /// ```
     /// use forgeni::Entities;
     ///
@@ -114,12 +133,70 @@ lends! {
     reserve_into(handles: &mut Vec<Handle>, n: u32) -> Result<(), ReserveError>;
 }
 
-impl<S: Phased> Lent<'_, S> {
-    /// The same, for a shorter time.
-    #[cfg(feature = "std")]
-    pub(crate) fn again(&mut self) -> Lent<'_, S> {
-        Lent::of(self.reserver)
-    }
+lends! {
+    Commands;
+    /// ```
+    /// use forgeni::{ComponentId, World};
+    ///
+    /// const AGE: ComponentId = ComponentId(0);
+    ///
+    /// let mut world = World::new();
+    /// let (oak, queues) = world.phase(1, |_open, systems| systems[0].spawn(&[(AGE, 80)]))?;
+    /// world.apply(queues)?;
+    /// assert_eq!(world.get(oak?, AGE), Some(80));
+    /// # Ok::<(), Box<dyn std::error::Error>>(())
+    /// ```
+    spawn(components: &[(ComponentId, i64)]) -> Result<Handle, ReserveError>;
+    /// ```
+    /// use forgeni::World;
+    ///
+    /// let mut world = World::new();
+    /// let (sparks, queues) = world.phase(1, |_open, systems| systems[0].spawn_many(10, &[]))?;
+    /// world.apply(queues)?;
+    /// assert_eq!((sparks?.len(), world.len()), (10, 10));
+    /// # Ok::<(), Box<dyn std::error::Error>>(())
+    /// ```
+    spawn_many(n: u32, components: &[(ComponentId, i64)]) -> Result<Vec<Handle>, ReserveError>;
+    /// ```
+    /// use forgeni::{ComponentId, World};
+    ///
+    /// const AGE: ComponentId = ComponentId(0);
+    ///
+    /// let mut world = World::new();
+    /// let oak = world.spawn(&[(AGE, 80)])?;
+    /// let (done, queues) = world.phase(1, |_open, systems| systems[0].insert(oak, &[(AGE, 81)]))?;
+    /// done?;
+    /// world.apply(queues)?;
+    /// assert_eq!(world.get(oak, AGE), Some(81));
+    /// # Ok::<(), Box<dyn std::error::Error>>(())
+    /// ```
+    insert(handle: Handle, components: &[(ComponentId, i64)]) -> Result<(), OutOfMemory>;
+    /// ```
+    /// use forgeni::{ComponentId, World};
+    ///
+    /// const LIT: ComponentId = ComponentId(0);
+    ///
+    /// let mut world = World::new();
+    /// let lamp = world.spawn(&[(LIT, 1)])?;
+    /// let (done, queues) = world.phase(1, |_open, systems| systems[0].remove(lamp, LIT))?;
+    /// done?;
+    /// world.apply(queues)?;
+    /// assert_eq!(world.get(lamp, LIT), None);
+    /// # Ok::<(), Box<dyn std::error::Error>>(())
+    /// ```
+    remove(handle: Handle, id: ComponentId) -> Result<(), OutOfMemory>;
+    /// ```
+    /// use forgeni::World;
+    ///
+    /// let mut world = World::new();
+    /// let oak = world.spawn(&[])?;
+    /// let (done, queues) = world.phase(1, |_open, systems| systems[0].despawn(oak))?;
+    /// done?;
+    /// world.apply(queues)?;
+    /// assert!(world.is_empty());
+    /// # Ok::<(), Box<dyn std::error::Error>>(())
+    /// ```
+    despawn(handle: Handle) -> Result<(), OutOfMemory>;
 }
 
 impl Lent<'_> {
@@ -145,6 +222,6 @@ impl Lent<'_> {
     /// [`OtherPhase`] if they are not of one phase. Nothing has changed then.
     #[inline]
     pub fn meet(&mut self, other: &mut Lent<'_>) -> Result<(), OtherPhase> {
-        self.reserver.meet(other.reserver)
+        self.0.meet(other.0)
     }
 }

@@ -30,12 +30,12 @@
 //! ```
 
 use crate::lent::Lent;
-use crate::{Handle, Phased, Refused};
+use crate::{Handle, Phased, Refused, Reserver};
 use core::fmt;
 
 pub use crate::logs::{BeginError, Entry, Log, Reserves, SyncPoint};
 
-impl<S: Phased> Reserves for Lent<'_, S> {
+impl<S: Phased> Reserves for Lent<'_, Reserver<S>> {
     #[inline]
     fn reserve_one(&mut self) -> Result<Handle, Refused> {
         self.reserve()

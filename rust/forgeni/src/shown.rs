@@ -2,13 +2,13 @@
 //! name in the package than where they are proved. The erased tests take this file too.
 
 /// `Debug` for types that show what these calls return, and say that there is more. A type
-/// parameter is in brackets, and a type in place of one in parentheses.
+/// parameter is in brackets, and types in place of some in parentheses.
 macro_rules! shows {
     ($(
-        $name:ident $(<$life:lifetime>)? $([$of:ident $(: $bound:path)?])? $(($is:ty))?:
+        $name:ident $(<$life:lifetime>)? $([$of:ident $(: $bound:path)?])? $(($($is:ty),+))?:
         $($call:ident)*;
     )*) => {$(
-        impl $(<$of $(: $bound)?>)? core::fmt::Debug for $name<$($life,)? $($of)? $($is)?> {
+        impl $(<$of $(: $bound)?>)? core::fmt::Debug for $name<$($life,)? $($of)? $($($is),+)?> {
             fn fmt(&self, out: &mut core::fmt::Formatter<'_>) -> core::fmt::Result {
                 out.debug_struct(stringify!($name))
                     $(.field(stringify!($call), &self.$call()))*

@@ -69,48 +69,6 @@ pub type WorldCommands<'a, S = SharedSource> = SystemCommands<'a, IssuedCommands
 /// ```
 pub type LogCommands<'a, C, S = SharedSource> = SystemCommands<'a, Log<C>, S>;
 
-/// Fills the log of one system, with handles from a block of its own.
-///
-/// ```
-/// # #[cfg(feature = "std")] {
-/// use forgeni::{run_in_blocks, BlockCommands, Entities, OutOfMemory, StdThreads};
-///
-/// fn launch(commands: &mut BlockCommands<'_, u32>) -> Result<(), OutOfMemory> {
-///     match commands.spawn() {
-///         Ok(drone) => commands.push(drone.index()),
-///         Err(refused) => refused.or_memory(),
-///     }
-/// }
-///
-/// let (phase, mut reservers) = Entities::new().share_in_blocks(&[10; 3])?;
-/// let logs = run_in_blocks(&StdThreads, &phase, &mut reservers, &[launch; 3], 2)?;
-/// // The third system has the third block, whichever worker ran it.
-/// assert_eq!(logs[2].entries()[1], forgeni::Entry::Command(20));
-/// # }
-/// # Ok::<(), Box<dyn std::error::Error>>(())
-/// ```
-pub type BlockCommands<'a, C> = LogCommands<'a, C, Blocks>;
-
-/// Issues the commands of one system of a world, with handles from a block of its own.
-///
-/// ```
-/// # #[cfg(feature = "std")] {
-/// use forgeni::{fill_in_blocks, CommandsInBlocks, OutOfMemory, StdThreads, View, World};
-///
-/// fn launch(_: &View<'_>, commands: &mut CommandsInBlocks<'_>) -> Result<(), OutOfMemory> {
-///     commands.spawn_with(&[]).map_or_else(|refused| refused.or_memory(), |_| Ok(()))
-/// }
-///
-/// let (phase, mut reservers) = World::new().open_in_blocks(&[10; 3])?;
-/// let queues = fill_in_blocks(&StdThreads, &phase, &mut reservers, &[launch; 3], 2)?;
-/// let mut world = phase.close(reservers)?.into_world()?;
-/// let report = world.apply(queues)?;
-/// assert!(report.born.iter().any(|one| one.index() == 20));
-/// # }
-/// # Ok::<(), Box<dyn std::error::Error + Send + Sync>>(())
-/// ```
-pub type CommandsInBlocks<'a> = WorldCommands<'a, Blocks>;
-
 /// Returns the closure, as a [`System`]. The call lets Rust infer the types of its parameters, and
 /// its error is [`OutOfMemory`]:
 ///
@@ -170,5 +128,5 @@ systems!([C, S: Source, E] LogSystem<C, S, E>, commands: &mut LogCommands<'_, C,
 
 shows! {
     SystemCommands<'_>:;
-    CommandsInBlocks<'_>: left;
+    SystemCommands<'_>(IssuedCommands, Blocks): left;
 }

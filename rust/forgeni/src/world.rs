@@ -12,10 +12,9 @@ use crate::Limits;
 
 pub use crate::component::{Birth, ComponentId};
 pub use crate::components::StorageImageFault;
-pub use crate::phases::{CommandQueue, Commands, EndedWorld, InWorld, OpenWorld, World};
+pub use crate::phases::{Commands, EndedWorld, InWorld, OpenWorld, World};
 pub use crate::phases::{GoOnError, Queues, Stop, Stopped, SyncError};
 pub use crate::storage::{Bundle, InlineBundle, Items, Storage, StorageError};
-pub use crate::world_phase::LentCommands;
 pub use crate::worlds::{Fault, FaultKind, Report, View, WorldImageFault};
 
 /// # Making one
@@ -63,6 +62,5 @@ shows! {
     OpenWorld: count returned;
     EndedWorld: requested_past;
     Commands: number;
-    CommandQueue: number;
     View<'_>: phase;
 }

@@ -146,8 +146,7 @@ impl World {
     /// let (open, mut systems) = World::new().open(2)?;
     /// let cart = systems[0].spawn(&[(ComponentId(0), 5)])?;
     /// systems[1].insert(cart, &[(ComponentId(1), 6)])?;
-    /// let queues = systems.into_iter().map(|one| one.finish()).collect();
-    /// let (mut world, queues) = open.close(queues)?;
+    /// let (mut world, queues) = open.close(systems)?;
     /// world.apply(queues)?;
     /// assert_eq!(world.get(cart, ComponentId(1)), Some(6));
     /// # Ok::<(), Box<dyn std::error::Error>>(())

@@ -4,9 +4,9 @@
 use crate::blocks::{close, dealt};
 use crate::common::{flushed, seeds, small, Model, Numbers};
 use forgeni::{
-    fill_in_blocks, run_in_blocks, Birth, BlockCommands, BlockSize, Blocks, CloseError,
-    CommandsInBlocks, ComponentId, Entities, InBlocks, InWorld, Limits, LogSystem, OfBlocks, Phase,
-    Report, Reserver, ShareError, System, View, World,
+    fill_in_blocks, run_in_blocks, Birth, BlockSize, Blocks, CloseError, ComponentId, Entities,
+    InBlocks, InWorld, Limits, LogCommands, LogSystem, OfBlocks, Phase, Report, Reserver,
+    ShareError, System, View, World, WorldCommands,
 };
 use forgeni::{
     Entry, Handle, HandleMap, Log, OutOfMemory, Refused, ReserveError, RunError, StdThreads,
@@ -30,8 +30,8 @@ enum Does {
 }
 
 impl LogSystem<u32, Blocks> for Does {
-    fn run(&self, commands: &mut BlockCommands<'_, u32>) -> Result<(), OutOfMemory> {
-        let spawn = |commands: &mut BlockCommands<'_, u32>| match commands.spawn() {
+    fn run(&self, commands: &mut LogCommands<'_, u32, Blocks>) -> Result<(), OutOfMemory> {
+        let spawn = |commands: &mut LogCommands<'_, u32, Blocks>| match commands.spawn() {
             Ok(_) => Ok(()),
             Err(refused) => refused.or_memory(),
         };
@@ -188,7 +188,7 @@ fn digests(workers: usize) -> Vec<u64> {
                 .expect("memory");
             let seen = &values;
             let system = |number: u64| {
-                move |commands: &mut BlockCommands<'_, (Handle, Option<u64>)>| {
+                move |commands: &mut LogCommands<'_, (Handle, Option<u64>), Blocks>| {
                     for (one, value) in seen {
                         let luck = mixed(one.to_bits() ^ value ^ frame);
                         match luck % 16 {
@@ -245,7 +245,7 @@ fn a_game_that_looks_at_handles_is_the_same_on_any_number_of_workers() {
 fn systems_may_wait_for_one_another() {
     let together = Barrier::new(8);
     let systems = [(); 8].map(|()| {
-        |commands: &mut BlockCommands<'_, ()>| {
+        |commands: &mut LogCommands<'_, (), Blocks>| {
             together.wait();
             commands
                 .spawn()
@@ -356,7 +356,7 @@ fn a_block_that_is_used_up_refuses_and_the_system_goes_on() {
     assert_eq!((spawns(&logs[0]), logs[0].refused()), (10, 2));
     assert_eq!((logs[0].len(), logs[1].refused()), (24, 0));
     assert_eq!(used_of(&reservers), [10, 2]);
-    let full = |commands: &mut BlockCommands<'_, ()>| {
+    let full = |commands: &mut LogCommands<'_, (), Blocks>| {
         assert_eq!((commands.left(), commands.entries().len()), (0, 0));
         assert_eq!(
             commands.spawn(),
@@ -401,7 +401,11 @@ enum Step {
 struct Script(Vec<Step>);
 
 impl System<Blocks> for Script {
-    fn run(&self, view: &View<'_>, commands: &mut CommandsInBlocks<'_>) -> Result<(), OutOfMemory> {
+    fn run(
+        &self,
+        view: &View<'_>,
+        commands: &mut WorldCommands<'_, Blocks>,
+    ) -> Result<(), OutOfMemory> {
         let living = view.by_birth()?;
         let at = |rank: usize| living.get(rank % living.len().max(1)).copied();
         let mut last = None;
@@ -721,7 +725,7 @@ fn sizes_follow_what_was_wanted() {
 fn a_bulk_that_was_refused_is_served_in_the_next_frame() {
     const BULKS: [u32; 3] = [10, 100, 1000];
     let systems = BULKS.map(|bulk| {
-        move |_: &View<'_>, commands: &mut CommandsInBlocks<'_>| match commands
+        move |_: &View<'_>, commands: &mut WorldCommands<'_, Blocks>| match commands
             .spawn_many_with(bulk, &[])
         {
             Ok(_) => Ok(()),
@@ -980,8 +984,9 @@ fn no_systems_make_a_frame_in_blocks() {
 /// Closures are systems too, and those of several types go into one list.
 #[test]
 fn systems_of_several_types_run_together() {
-    type Boxed<'a> =
-        Box<dyn Fn(&View<'_>, &mut CommandsInBlocks<'_>) -> Result<(), OutOfMemory> + Sync + 'a>;
+    type Boxed<'a> = Box<
+        dyn Fn(&View<'_>, &mut WorldCommands<'_, Blocks>) -> Result<(), OutOfMemory> + Sync + 'a,
+    >;
     let value = 9;
     let systems: [Boxed<'_>; 2] = [
         Box::new(|_, commands| {

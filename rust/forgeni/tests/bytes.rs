@@ -10,8 +10,8 @@ mod refusing;
 use common::{flushed, handle};
 use forgeni::trace::{Checker, Log, Recorder, Reservation, ReserveReply};
 use forgeni::{
-    log, Birth, CommandQueue, Commands, ComponentId, Entities, Entry, Handle, HandleMap, Limits,
-    LogCommands, ReserveError, Storage, World,
+    log, Birth, ComponentId, Entities, Entry, Handle, HandleMap, Limits, LogCommands, ReserveError,
+    Storage, World,
 };
 use refusing::{asked, held};
 
@@ -184,11 +184,6 @@ fn phases() {
     exactly(0, || shared.close_lost(reservers).expect("lost"));
 }
 
-/// The queues of these systems.
-fn finished(systems: Vec<Commands>) -> Vec<CommandQueue> {
-    systems.into_iter().map(Commands::finish).collect()
-}
-
 #[test]
 fn worlds() {
     let mut world = World::new();
@@ -196,9 +191,8 @@ fn worlds() {
         // The systems, their reservers, and the list that a sync point reads.
         let most = (APART + 32 + 32) * count + 1_024;
         let (open, systems) = at_most(most, || world.open(count).expect("memory"));
-        let queues = finished(systems);
         // The opening has made room for the list that a sync point reads.
-        let (closed, queues) = exactly(0, || open.close(queues).expect("closed"));
+        let (closed, queues) = exactly(0, || open.close(systems).expect("closed"));
         world = closed;
         exactly(0, || world.apply(queues).expect("memory"));
     }
@@ -207,7 +201,7 @@ fn worlds() {
     // The list, and the command in the queue.
     let spawn = || systems[0].spawn_many(N, &[(HP, 1)]).expect("handles");
     at_most(2 * HANDLE * BYTES + 64, spawn);
-    let (mut world, queues) = open.close(finished(systems)).expect("closed");
+    let (mut world, queues) = open.close(systems).expect("closed");
     // Of each entity: a place in the report, its slot, its handle with its birth, a pair of the
     // index, whose room is twice what it needs, and a component with its place.
     let entity = HANDLE + SLOT + 24 + 2 * 12 + 16 + 4;

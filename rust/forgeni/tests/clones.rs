@@ -2,7 +2,7 @@
 //! happens to the other.
 
 use crate::common::{flushed, handle, seeds, small, Model, Numbers};
-use forgeni::{AllocError, Birth, Commands, ComponentId, Entities, Handle, Limits, Queues, State};
+use forgeni::{AllocError, Birth, ComponentId, Entities, Handle, Limits, Queues, State};
 use forgeni::{SyncError, World};
 
 /// Two allocators with other limits, each with its model. A call goes to one of them, and now and
@@ -246,8 +246,7 @@ fn frame(world: World, gone: Handle, hit: Handle) -> (World, Queues) {
     systems[0].spawn_many(2, &[(HP, 9)]).expect("handles");
     systems[0].despawn(gone).expect("memory");
     systems[0].insert(hit, &[(HP, -1)]).expect("memory");
-    let queues = systems.into_iter().map(Commands::finish).collect();
-    open.close(queues).expect("closed")
+    open.close(systems).expect("closed")
 }
 
 /// A world of so many entities, of which every third has gone.

@@ -2,7 +2,7 @@
 //! `examples/counted_runs.sh` runs each of these tests at several sizes under callgrind, and
 //! compares. The variable `FORGENI_ENTITIES` says how many entities there are.
 
-use forgeni::{Birth, Commands, Entities, Handle, Storage, World};
+use forgeni::{Birth, Entities, Handle, Storage, World};
 
 const BIRTH: Birth = Birth {
     frame: 0,
@@ -100,8 +100,7 @@ fn flushes_into_a_long_list() {
 fn lists_of_a_phase(world: World, count: u32) -> World {
     let (open, mut systems) = world.open(1).expect("memory");
     let given = systems[0].spawn_many(count, &[]).expect("memory is ample");
-    let queues = systems.into_iter().map(Commands::finish).collect();
-    let (mut world, queues) = open.close(queues).expect("closed");
+    let (mut world, queues) = open.close(systems).expect("closed");
     let report = world.apply(queues).expect("memory is ample");
     assert_eq!(report.born, given);
     world

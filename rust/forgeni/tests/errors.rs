@@ -1,11 +1,11 @@
 //! Errors travel: by `?` into a box for any thread, and apart from what they hand back.
 
 use forgeni::{
-    Absent, AllocError, CloseError, CommandQueue, Commands, ComponentId, Entities, Fault,
-    FreeError, Freed, GoOnError, HandedBack, Handle, HandleMap, ImageFault, InsertError, Lent,
-    Limits, OpenWorld, OtherPhase, OutOfMemory, ParseHandleError, Phase, Queues, Refused, Report,
-    ReserveError, Reserver, ShareError, State, Stop, Stopped, Storage, StorageError, SyncError,
-    Tracked, View, World,
+    Absent, AllocError, CloseError, Commands, ComponentId, Entities, Fault, FreeError, Freed,
+    GoOnError, HandedBack, Handle, HandleMap, ImageFault, InsertError, Lent, Limits, OpenWorld,
+    OtherPhase, OutOfMemory, ParseHandleError, Phase, Queues, Refused, Report, ReserveError,
+    Reserver, ShareError, State, Stop, Stopped, Storage, StorageError, SyncError, Tracked, View,
+    World,
 };
 use std::error::Error;
 
@@ -36,7 +36,7 @@ fn each_error_travels() {
     travels::<SyncError>();
     travels::<Stop>();
     travels::<HandedBack<(Phase, Vec<Reserver>), CloseError>>();
-    travels::<HandedBack<(OpenWorld, Vec<CommandQueue>), CloseError>>();
+    travels::<HandedBack<(OpenWorld, Vec<Commands>), CloseError>>();
     travels::<HandedBack<Entities, ShareError>>();
     travels::<HandedBack<World, ShareError>>();
     #[cfg(feature = "std")]
@@ -50,7 +50,7 @@ fn each_error_travels() {
 fn each_type_is_send_and_sync() {
     shared_by_threads::<(Handle, Limits, State, Freed, ComponentId)>();
     shared_by_threads::<(Entities, Phase, Reserver, Lent<'_>)>();
-    shared_by_threads::<(World, OpenWorld, Commands, CommandQueue, Queues)>();
+    shared_by_threads::<(World, OpenWorld, Commands, Lent<'_, Commands>, Queues)>();
     shared_by_threads::<(Storage, Report, Fault, Stopped)>();
     shared_by_threads::<HandleMap<String>>();
     shared_by_threads::<Tracked<HandleMap<String>>>();
@@ -96,8 +96,7 @@ fn not_finished() -> Result<(), Boxed> {
 /// Queues of another world.
 fn not_applied() -> Result<(), Boxed> {
     let (open, systems) = World::new().open(1)?;
-    let queues = systems.into_iter().map(Commands::finish).collect();
-    let (_, queues) = open.close(queues)?;
+    let (_, queues) = open.close(systems)?;
     World::new().apply(queues)?;
     Ok(())
 }
@@ -141,8 +140,7 @@ fn the_parts_of_each() {
     let refused = open.close(vec![]).expect_err("two are missing");
     let ((open, none), error) = refused.into_parts();
     assert_eq!((none.len(), error), (0, CloseError::Missing { count: 2 }));
-    let queues = systems.into_iter().map(Commands::finish).collect();
-    let (mut world, queues) = open.close(queues).expect("closed");
+    let (mut world, queues) = open.close(systems).expect("closed");
 
     let refused = World::new().apply(queues).expect_err("of another world");
     assert!(matches!(refused, SyncError::OtherWorld(_)));

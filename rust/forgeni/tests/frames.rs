@@ -175,8 +175,7 @@ fn story(world: &World, report: &Report) -> Story {
 fn in_turn(world: World, scripts: &[Script]) -> (World, Report) {
     if scripts.is_empty() {
         let (open, systems) = world.open(1).expect("opened");
-        let queues = systems.into_iter().map(Commands::finish).collect();
-        let (mut world, queues) = open.close(queues).expect("closed");
+        let (mut world, queues) = open.close(systems).expect("closed");
         let report = world.apply(queues).expect("memory");
         return (world, report);
     }
@@ -187,10 +186,10 @@ fn in_turn(world: World, scripts: &[Script]) -> (World, Report) {
     let living = Living { all, aged };
     let run = |(mut commands, script): (Commands, &Script)| {
         run_steps(&script.0, &living, &mut commands);
-        commands.finish()
+        commands
     };
-    let queues = systems.into_iter().zip(scripts).map(run).collect();
-    let (mut world, queues) = open.close(queues).expect("closed");
+    let systems = systems.into_iter().zip(scripts).map(run).collect();
+    let (mut world, queues) = open.close(systems).expect("closed");
     let report = world.apply(queues).expect("memory");
     (world, report)
 }
@@ -460,8 +459,7 @@ fn what_a_frame_wants() {
 
     let (open, mut systems) = world.open(1).expect("opened");
     systems[0].spawn(&[]).expect("a handle");
-    let queues = systems.into_iter().map(Commands::finish).collect();
-    let (mut world, queues) = open.close(queues).expect("closed");
+    let (mut world, queues) = open.close(systems).expect("closed");
     let refused = run_frame(&mut world, &[nothing], 1).expect_err("not flushed");
     assert!(matches!(refused, FrameError::NeedsFlush), "{refused}");
     world.apply(queues).expect("memory");

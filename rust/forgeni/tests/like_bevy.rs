@@ -214,8 +214,7 @@ fn too_many_entities() {
 fn reserve_and_spawn() {
     let (open, mut systems) = World::new().open(1).expect("opened");
     let one = systems[0].spawn(&[]).expect("a handle");
-    let queues = systems.into_iter().map(|one| one.finish()).collect();
-    let (mut world, _queues) = open.close(queues).expect("closed");
+    let (mut world, _queues) = open.close(systems).expect("closed");
     assert!(!world.contains(one));
     world.flush().expect("memory");
     assert!(world.contains(one));

@@ -2,8 +2,8 @@
 
 use crate::common::{flushed, handle, small};
 use forgeni::{
-    AllocError, Commands, ComponentId, Entities, Fault, FaultKind, Freed, Handle, HandleMap,
-    Limits, Refused, ReserveError, Storage, World,
+    AllocError, ComponentId, Entities, Fault, FaultKind, Freed, Handle, HandleMap, Limits, Refused,
+    ReserveError, Storage, World,
 };
 #[cfg(target_pointer_width = "32")]
 use forgeni::{InsertError, OutOfMemory, SparseMap};
@@ -183,8 +183,7 @@ fn commands_at_the_end_of_a_quota() {
     let refused = ReserveError::Quota { left: 0 };
     assert_eq!(only.spawn_many(WANTED, &[]), Err(refused));
     assert_eq!(only.spawn(&[]), Err(refused));
-    let queues = systems.into_iter().map(Commands::finish).collect();
-    let (mut world, queues) = open.close(queues).expect("closed");
+    let (mut world, queues) = open.close(systems).expect("closed");
     let report = world.apply(queues).expect("memory");
     assert_eq!(report.faults.len(), TIMES as usize + 2);
     let last = Fault {

@@ -5,7 +5,7 @@
 mod common;
 
 use common::{flushed, this_program};
-use forgeni::{Commands, ComponentId, Entities, Fault, GoOnError, Handle, Limits};
+use forgeni::{ComponentId, Entities, Fault, GoOnError, Handle, Limits};
 use forgeni::{Queues, Report, ReserveError, ShareError, Stop, Stopped, SyncError, World};
 use std::env;
 use std::process::Command;
@@ -45,8 +45,7 @@ fn prepared() -> (World, Queues) {
             systems[1].despawn(*one).expect("issued");
         }
     }
-    let queues = systems.into_iter().map(|one| one.finish()).collect();
-    open.close(queues).expect("closed")
+    open.close(systems).expect("closed")
 }
 
 fn living(world: &World) -> Vec<(Handle, Option<i64>)> {
@@ -113,8 +112,7 @@ fn with_a_request(world: World, stopped: Stopped) -> (World, Stopped) {
     let (open, mut systems) = world.open(1).expect("opened");
     let refused = ReserveError::Space { wanted: 1, left: 0 };
     assert_eq!(systems[0].spawn(&[]), Err(refused));
-    let queues = systems.into_iter().map(Commands::finish).collect();
-    let (mut world, _) = open.close(queues).expect("closed");
+    let (mut world, _) = open.close(systems).expect("closed");
     let place = stopped.stop();
     let error = stopped.go_on(&mut world).expect_err("not flushed");
     let GoOnError::NeedsFlush(stopped) = error else {
@@ -230,8 +228,7 @@ fn open_again_and_again() {
                 assert!(free > 0);
                 assert_eq!(systems.len(), 1024);
                 systems[1023].spawn(&[]).expect("a handle");
-                let queues = systems.into_iter().map(Commands::finish).collect();
-                let (mut world, _) = open.close(queues).expect("closed");
+                let (mut world, _) = open.close(systems).expect("closed");
                 world.flush().expect("memory");
                 assert_eq!(world.len(), 2);
                 return;

@@ -13,11 +13,10 @@ use forgeni::trace::{Call, CheckError, Checker, FreeReply, Log, Reservation};
 #[cfg(feature = "std")]
 use forgeni::{run_to_sync_point, LogCommands, LogError, StdThreads};
 use forgeni::{
-    tables, AllocError, AnyMap, BeginError, Birth, Change, CommandQueue, Commands, ComponentId,
-    Entities, Entry, Fault, Follows, FreeError, GoOnError, Handle, HandleMap, History, ImageFault,
-    InsertError, JoinMaps, Limits, OpenWorld, OutOfMemory, Queues, Report, ReserveError,
-    ShareError, SparseMap, State, Stop, Storage, StorageError, SyncError, SyncPoint, Tracked,
-    World, WorldImageFault,
+    tables, AllocError, AnyMap, BeginError, Birth, Change, Commands, ComponentId, Entities, Entry,
+    Fault, Follows, FreeError, GoOnError, Handle, HandleMap, History, ImageFault, InsertError,
+    JoinMaps, Limits, OpenWorld, OutOfMemory, Queues, Report, ReserveError, ShareError, SparseMap,
+    State, Stop, Storage, StorageError, SyncError, SyncPoint, Tracked, World, WorldImageFault,
 };
 use refusing::{asked, held, most_held, refusing, Refusal};
 use std::fmt::Debug;
@@ -496,8 +495,7 @@ fn small_world() -> (World, Handle) {
     world.despawn(handle(0, 1)).expect("alive");
     let (open, mut systems) = world.open(1).expect("memory");
     let soon = systems[0].spawn(&[]).expect("memory");
-    let queues = systems.into_iter().map(Commands::finish).collect();
-    (open.close(queues).expect("closed").0, soon)
+    (open.close(systems).expect("closed").0, soon)
 }
 
 /// An entity, its birth and a component.
@@ -1690,8 +1688,7 @@ fn open_gives_the_world_back() {
             assert_eq!(all(&world), before);
             world.open(3).expect("memory")
         });
-        let queues = systems.into_iter().map(Commands::finish).collect();
-        let (world, _) = open.close(queues).expect("closed");
+        let (world, _) = open.close(systems).expect("closed");
         assert_eq!(all(&world), before);
         refused
     });
@@ -1705,8 +1702,8 @@ fn phase() -> (OpenWorld, Commands) {
 
 /// Ends the phase and lets its queue take effect. What every command has done, each of which was
 /// issued once.
-fn applied(open: OpenWorld, queue: CommandQueue) -> (World, Report) {
-    let (mut world, queues) = open.close(vec![queue]).expect("closed");
+fn applied(open: OpenWorld, only: Commands) -> (World, Report) {
+    let (mut world, queues) = open.close(vec![only]).expect("closed");
     let report = world.apply(queues).expect("memory");
     assert_eq!(report.faults, []);
     (world, report)
@@ -1717,7 +1714,7 @@ fn a_spawn_by_command_reserves_once() {
     each_in_turn(|refusal| {
         let (open, mut only) = phase();
         let (one, refused) = insist(refusal, ReserveError::Memory, || only.spawn(&MANY));
-        let (world, report) = applied(open, only.finish());
+        let (world, report) = applied(open, only);
         assert_eq!(report.born, [one]);
         assert_eq!(world.items(one).map(Vec::from_iter), Some(MANY.to_vec()));
         refused
@@ -1725,7 +1722,7 @@ fn a_spawn_by_command_reserves_once() {
     each_in_turn(|refusal| {
         let (open, mut only) = phase();
         let (all, refused) = insist(refusal, ReserveError::Memory, || only.spawn_many(50, &MANY));
-        let (world, report) = applied(open, only.finish());
+        let (world, report) = applied(open, only);
         assert_eq!((report.born, world.len()), (all, 52));
         refused
     });
@@ -1737,14 +1734,14 @@ fn a_command_is_issued_once() {
     each_in_turn(|refusal| {
         let (open, mut only) = phase();
         let (_, refused) = insist(refusal, OutOfMemory, || only.insert(second, &MANY));
-        let (world, _) = applied(open, only.finish());
+        let (world, _) = applied(open, only);
         assert_eq!(world.items(second).map(Vec::from_iter), Some(MANY.to_vec()));
         refused
     });
     each_in_turn(|refusal| {
         let (open, mut only) = phase();
         let (_, refused) = insist(refusal, OutOfMemory, || only.remove(first, HP));
-        let (world, _) = applied(open, only.finish());
+        let (world, _) = applied(open, only);
         assert_eq!(
             world.items(first).map(Vec::from_iter),
             Some(MANY[1..].to_vec())
@@ -1755,7 +1752,7 @@ fn a_command_is_issued_once() {
     each_in_turn(|refusal| {
         let (open, mut only) = phase();
         let (_, refused) = insist(refusal, OutOfMemory, || only.despawn(first));
-        let (world, _) = applied(open, only.finish());
+        let (world, _) = applied(open, only);
         assert_eq!((world.len(), world.contains(first)), (1, false));
         refused
     });
@@ -1767,8 +1764,7 @@ fn a_close_takes_no_memory() {
     let (open, mut systems) = two().open(3).expect("opened");
     systems[2].insert(handle(1, 1), &[(HP, 2)]).expect("memory");
     systems[1].insert(handle(1, 1), &[(HP, 1)]).expect("memory");
-    let queues = systems.into_iter().map(Commands::finish).collect();
-    let (closed, refused) = refusing(Refusal::All { after: 0 }, || open.close(queues));
+    let (closed, refused) = refusing(Refusal::All { after: 0 }, || open.close(systems));
     assert_eq!(refused, 0);
     let (mut world, queues) = closed.expect("closed");
     world.apply(queues).expect("memory");
@@ -1787,8 +1783,7 @@ fn with_queues() -> (World, Queues) {
         systems[1].despawn(*one).expect("memory");
         systems[1].insert(*one, &MANY).expect("memory");
     }
-    let queues = systems.into_iter().map(Commands::finish).collect();
-    open.close(queues).expect("closed")
+    open.close(systems).expect("closed")
 }
 
 /// Ends a sync point that may have stopped, with ample memory. All faults. No other world takes
@@ -1863,8 +1858,7 @@ fn with_places() -> (World, Queues, Vec<Handle>) {
     let bundle = (30..36).map(|id| (ComponentId(id), 1)).collect::<Vec<_>>();
     let spawned = systems[3].spawn_many(SPAWNED as u32, &bundle);
     let spawned = spawned.expect("memory");
-    let queues = systems.into_iter().map(Commands::finish).collect();
-    let (world, queues) = open.close(queues).expect("closed");
+    let (world, queues) = open.close(systems).expect("closed");
     (world, queues, spawned)
 }
 
@@ -1999,25 +1993,26 @@ fn a_flush_of_a_world() {
 mod frames {
     use super::*;
     use forgeni::{
-        fill_in_blocks, run_frame, run_in_blocks, BlockCommands, Blocks, CommandsInBlocks, Deals,
-        FrameError, HandedBack, InWorld, Overflow, Phase, Reserver, RunError, SystemCommands, View,
+        fill_in_blocks, run_frame, run_in_blocks, Blocks, Deals, FrameError, HandedBack, InWorld,
+        LogCommands, Overflow, Phase, Reserver, RunError, SharedSource, View, WorldCommands,
     };
 
-    /// Systems that issue by commands of this type.
+    /// Systems that issue commands with handles of this source.
     macro_rules! systems {
-        ($module:ident, $commands:ident) => {
+        ($module:ident, $Source:ident) => {
             mod $module {
                 use super::*;
 
                 type Ran = Result<(), OutOfMemory>;
+                type Out<'a> = WorldCommands<'a, $Source>;
 
-                pub fn launch(_: &View<'_>, commands: &mut $commands<'_>) -> Ran {
+                pub fn launch(_: &View<'_>, commands: &mut Out<'_>) -> Ran {
                     commands
                         .spawn_many_with(4, &MANY)
                         .map_or_else(ReserveError::or_memory, |_| Ok(()))
                 }
 
-                pub fn change(view: &View<'_>, commands: &mut $commands<'_>) -> Ran {
+                pub fn change(view: &View<'_>, commands: &mut Out<'_>) -> Ran {
                     for one in view.with(HP)? {
                         commands.insert_with(one, &MANY[1..])?;
                         commands.remove(one, HP)?;
@@ -2026,7 +2021,7 @@ mod frames {
                 }
 
                 /// Twice, so that there are faults.
-                fn clear(view: &View<'_>, commands: &mut $commands<'_>) -> Ran {
+                fn clear(view: &View<'_>, commands: &mut Out<'_>) -> Ran {
                     for one in view.by_birth()? {
                         commands.despawn(one)?;
                         commands.despawn(one)?;
@@ -2034,14 +2029,14 @@ mod frames {
                     Ok(())
                 }
 
-                pub const SYSTEMS: [fn(&View<'_>, &mut $commands<'_>) -> Ran; 3] =
+                pub const SYSTEMS: [fn(&View<'_>, &mut Out<'_>) -> Ran; 3] =
                     [launch, change, clear];
             }
         };
     }
 
-    systems!(of_one_cursor, SystemCommands);
-    systems!(of_blocks, CommandsInBlocks);
+    systems!(of_one_cursor, SharedSource);
+    systems!(of_blocks, Blocks);
     use of_one_cursor::{change, launch, SYSTEMS};
 
     /// What a frame with ample memory makes of that world.
@@ -2312,7 +2307,7 @@ mod frames {
     /// are lost, and the blocks are used up.
     #[test]
     fn logs_in_blocks_refused_on_one_thread() {
-        let fills = |commands: &mut BlockCommands<'_, u64>| -> Result<(), OutOfMemory> {
+        let fills = |commands: &mut LogCommands<'_, u64, Blocks>| -> Result<(), OutOfMemory> {
             for number in 0..5 {
                 commands
                     .spawn()
@@ -2363,7 +2358,7 @@ mod frames {
                 |refusal| {
                     let mut world = two();
                     let refused = std::sync::atomic::AtomicUsize::new(0);
-                    let system = |view: &View<'_>, commands: &mut SystemCommands<'_>| {
+                    let system = |view: &View<'_>, commands: &mut WorldCommands<'_>| {
                         let (ran, times) = refusing(refusal, || {
                             launch(view, commands)?;
                             change(view, commands)

@@ -3,9 +3,7 @@
 
 use crate::common::small;
 use forgeni::{fill_in_blocks, run_frame, run_in_blocks, run_logs};
-use forgeni::{
-    run_to_sync_point, BlockCommands, CommandsInBlocks, Entities, FrameError, LogCommands,
-};
+use forgeni::{run_to_sync_point, Blocks, Entities, FrameError, LogCommands, WorldCommands};
 use forgeni::{LogError, LogSystem, OutOfMemory, ReserveError, RunError, SharedSource, StdThreads};
 use forgeni::{System, SystemCommands, View, World};
 use std::error::Error;
@@ -100,10 +98,10 @@ fn logs_return_the_first_error() {
 #[test]
 fn blocks_return_the_first_error() {
     let logging: Vec<_> = (0..40)
-        .map(|number| move |_: &mut BlockCommands<'_, ()>| told(number))
+        .map(|number| move |_: &mut LogCommands<'_, (), Blocks>| told(number))
         .collect();
     let issuing: Vec<_> = (0..40)
-        .map(|number| move |_: &View<'_>, _: &mut CommandsInBlocks<'_>| told(number))
+        .map(|number| move |_: &View<'_>, _: &mut WorldCommands<'_, Blocks>| told(number))
         .collect();
     for workers in WORKERS {
         let shared = Entities::new().share_in_blocks(&[1; 40]);

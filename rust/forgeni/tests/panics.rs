@@ -221,17 +221,17 @@ fn a_phase_goes_on_without_the_system_that_panicked() {
                 if commands.number() == 2 {
                     resume_unwind(Box::new("stopped"));
                 }
-                commands.finish()
+                commands
             })
         };
         let threads: Vec<_> = systems.into_iter().map(run).collect();
         threads.into_iter().map(|thread| thread.join()).collect()
     });
-    let queues: Vec<_> = joined.into_iter().filter_map(Result::ok).collect();
-    let left = open.close(queues).expect_err("one is lost");
-    let ((open, queues), error) = left.into_parts();
+    let systems: Vec<_> = joined.into_iter().filter_map(Result::ok).collect();
+    let left = open.close(systems).expect_err("one is lost");
+    let ((open, systems), error) = left.into_parts();
     assert_eq!(error, CloseError::Missing { count: 1 });
-    let (mut world, queues) = open.close_lost(queues).expect("it is lost");
+    let (mut world, queues) = open.close_lost(systems).expect("it is lost");
     let report = world.apply(queues).expect("memory");
     assert_eq!((report.born.len(), report.faults.len()), (4, 0));
     let with = |one| world.get(one, HP) == Some(2);
@@ -301,9 +301,8 @@ fn printing_that_panics_changes_nothing() {
     breaks(&open);
     breaks(&systems);
     systems[0].despawn(handle(4, 1)).expect("memory");
-    let queues = systems.into_iter().map(Commands::finish).collect();
-    breaks(&queues);
-    let (mut world, queues) = open.close(queues).expect("closed");
+    breaks(&systems);
+    let (mut world, queues) = open.close(systems).expect("closed");
     breaks(&queues);
     breaks(&world);
     let report = world.apply(queues).expect("memory");

@@ -5,7 +5,7 @@
 //! `examples/at_size.sh` runs them. Without optimisation they would take a minute.
 
 use forgeni::trace::{Call, Checker, FreeReply, Recorder, Reservation};
-use forgeni::{Birth, CommandQueue, Commands, ComponentId, Entities, Fault, FaultKind};
+use forgeni::{Birth, Commands, ComponentId, Entities, Fault, FaultKind};
 use forgeni::{Freed, Handle, HandleMap, Limits, Queues, ReserveError, ShareError, State};
 use forgeni::{Storage, World};
 
@@ -305,8 +305,7 @@ fn births_listed_by_order() {
 fn issued(world: World, count: usize, issue: impl Fn(&mut Commands)) -> (World, Queues) {
     let (open, mut systems) = world.open(count).expect("memory is ample");
     systems.iter_mut().for_each(issue);
-    let queues: Vec<CommandQueue> = systems.into_iter().map(Commands::finish).collect();
-    open.close(queues).expect("all are there")
+    open.close(systems).expect("all are there")
 }
 
 #[test]

@@ -4,10 +4,10 @@ use crate::common::{handle, small};
 use forgeni::trace::{AllocReply, Call, CheckError, Checker, Difference, FlushReply, FreeReply};
 use forgeni::trace::{Log, Recorder, Reservation, ReserveReply};
 use forgeni::{
-    handle_map, sparse_map, Absent, AllocError, Birth, CloseError, Commands, ComponentId, Entities,
-    Fault, FaultKind, FreeError, Freed, Handle, HandleMap, InsertError, Limits, OtherPhase,
-    OutOfMemory, ParseHandleError, Refused, ReserveError, ShareError, SharedSource, SparseMap,
-    State, Stop, Storage, StorageError, SyncError, World,
+    handle_map, sparse_map, Absent, AllocError, Birth, CloseError, ComponentId, Entities, Fault,
+    FaultKind, FreeError, Freed, Handle, HandleMap, InsertError, Limits, OtherPhase, OutOfMemory,
+    ParseHandleError, Refused, ReserveError, ShareError, SharedSource, SparseMap, State, Stop,
+    Storage, StorageError, SyncError, World,
 };
 use std::fmt::{Debug, Display};
 
@@ -159,8 +159,7 @@ fn errors_with_parts() {
         (&unopened, "Count"),
         (&unfinished, "Missing { count: 1 }"),
     ]);
-    let queues = systems.into_iter().map(Commands::finish).collect();
-    let (_, queues) = unfinished.into_parts().0 .0.close(queues).expect("closed");
+    let (_, queues) = unfinished.into_parts().0 .0.close(systems).expect("closed");
     let unapplied = World::new().apply(queues).expect_err("another world");
     displays([(
         &unapplied as &dyn Display,
@@ -264,9 +263,7 @@ fn values_of_worlds() {
         ),
         (&systems[1], "Commands { number: 1, .. }"),
     ]);
-    let queues: Vec<_> = systems.into_iter().map(Commands::finish).collect();
-    debugs([(&queues[1] as &dyn Debug, "CommandQueue { number: 1, .. }")]);
-    let (mut world, queues) = open.close(queues).expect("closed");
+    let (mut world, queues) = open.close(systems).expect("closed");
     let report = world.apply(queues).expect("memory");
     debugs([(
         &report as &dyn Debug,
@@ -388,8 +385,7 @@ mod frames {
     fn errors_of_a_frame() {
         let (mut world, queues) = {
             let (open, systems) = World::new().open(1).expect("opened");
-            let queues = systems.into_iter().map(Commands::finish).collect();
-            open.close(queues).expect("closed")
+            open.close(systems).expect("closed")
         };
         type Failed = FrameError<&'static str>;
         displays([

@@ -2,8 +2,8 @@
 
 use crate::common::handle;
 use forgeni::{
-    AllocError, Birth, CloseError, Commands, ComponentId, Fault, FaultKind, FreeError, Freed,
-    Limits, ReserveError, ShareError, SyncError, World,
+    AllocError, Birth, CloseError, ComponentId, Fault, FaultKind, FreeError, Freed, Limits,
+    ReserveError, ShareError, SyncError, World,
 };
 
 const HP: ComponentId = ComponentId(0);
@@ -62,8 +62,7 @@ fn spawned_between_two_flushes() {
 
     let (open, systems) = world.open(1).expect("opened");
     let ((open, _), _) = open.close(vec![]).expect_err("missing").into_parts();
-    let queues = systems.into_iter().map(Commands::finish).collect();
-    let (mut world, _) = open.close(queues).expect("closed");
+    let (mut world, _) = open.close(systems).expect("closed");
     assert_eq!(spawned(&mut world), "0.4294967295.3");
 
     let (open, systems) = world.open(1).expect("opened");
@@ -97,8 +96,7 @@ fn queues_take_effect_in_their_order() {
     assert_eq!(second.view().get(old, HP), Some(1));
     assert_eq!(first.view().get(early, SPEED), None);
 
-    let queues = vec![first.finish(), second.finish()];
-    let (mut world, queues) = open.close(queues).expect("all queues");
+    let (mut world, queues) = open.close(vec![first, second]).expect("all queues");
     assert!(world.needs_flush());
     assert_eq!(world.spawn(&[]), Err(AllocError::NeedsFlush));
     let report = world.apply(queues).expect("memory");
@@ -130,7 +128,7 @@ fn several_values_are_replaced() {
     let (open, mut systems) = world.open(1).expect("a phase");
     let mut only = systems.pop().expect("a system");
     only.insert(one, &[(HP, 3), (SPEED, 4)]).expect("memory");
-    let (mut world, queues) = open.close(vec![only.finish()]).expect("all queues");
+    let (mut world, queues) = open.close(vec![only]).expect("all queues");
     let report = world.apply(queues).expect("memory");
     assert_eq!((report.born.len(), report.faults.len()), (0, 0));
     assert_eq!(
@@ -154,7 +152,7 @@ fn a_refused_spawn_is_a_fault() {
     let refused = ReserveError::Space { wanted: 1, left: 0 };
     assert_eq!(only.spawn(&[]), Err(refused));
     assert_eq!(only.spawn_many(0, &[]), Ok(vec![]));
-    let (mut world, queues) = open.close(vec![only.finish()]).expect("all queues");
+    let (mut world, queues) = open.close(vec![only]).expect("all queues");
     let report = world.apply(queues).expect("memory");
     let kinds: Vec<FaultKind> = report.faults.iter().map(|fault| fault.kind).collect();
     let space = |wanted, left| FaultKind::Space { wanted, left };
@@ -163,50 +161,52 @@ fn a_refused_spawn_is_a_fault() {
 }
 
 #[test]
-fn a_phase_wants_all_its_queues() {
+fn a_phase_wants_all_its_systems() {
     let (open, mut systems) = World::new().open(2).expect("a phase");
-    let second = systems.pop().expect("a system").finish();
-    let first = systems.pop().expect("a system").finish();
+    let second = systems.pop().expect("a system");
+    let first = systems.pop().expect("a system");
     let left = open.close(vec![first]).expect_err("one is missing");
     assert_eq!(left.to_string(), "missing callers: 1");
-    let ((open, mut queues), error) = left.into_parts();
+    let ((open, mut systems), error) = left.into_parts();
     assert_eq!(error, CloseError::Missing { count: 1 });
     assert_eq!((open.count(), open.returned()), (2, 0));
-    assert_eq!(queues.len(), 1);
+    assert_eq!(systems.len(), 1);
 
     let (other, mut others) = World::new().open(1).expect("a phase");
-    let foreign = others.pop().expect("a system").finish();
-    queues.push(foreign);
-    let left = open.close(queues).expect_err("foreign");
+    systems.append(&mut others);
+    let left = open.close(systems).expect_err("foreign");
     assert_eq!(left.to_string(), "a caller is of another phase");
-    let ((open, queues), error) = left.into_parts();
-    assert_eq!((error, queues.len()), (CloseError::OtherPhase, 2));
-    let left = open.close_lost(queues).expect_err("foreign");
-    let ((open, mut queues), error) = left.into_parts();
-    assert_eq!((error, queues.len()), (CloseError::OtherPhase, 2));
-    let foreign = queues.pop().expect("a queue");
+    let ((open, systems), error) = left.into_parts();
+    assert_eq!((error, systems.len()), (CloseError::OtherPhase, 2));
+    let left = open.close_lost(systems).expect_err("foreign");
+    let ((open, mut systems), error) = left.into_parts();
+    assert_eq!((error, systems.len()), (CloseError::OtherPhase, 2));
+    let foreign = systems.pop().expect("a system");
     let closed = other.close(vec![foreign]);
-    assert!(closed.is_ok(), "its own queue");
-    queues.push(second);
-    let (world, _) = open.close(queues).expect("all queues");
-    assert!(world.is_empty());
+    assert!(closed.is_ok(), "its own system");
+    systems.push(second);
+
+    // What came back goes on: it can issue more.
+    systems[0].spawn(&[]).expect("a handle");
+    let (mut world, queues) = open.close(systems).expect("all systems");
+    world.apply(queues).expect("memory");
+    assert_eq!(world.len(), 1);
 }
 
-/// A system whose queue came late can still be put before the others.
+/// A system that came late can still be put before the others.
 #[test]
-fn a_late_queue_keeps_its_number() {
+fn a_late_system_keeps_its_number() {
     let (open, mut systems) = World::new().open(2).expect("a phase");
     assert_eq!((systems[0].number(), systems[1].number()), (0, 1));
     let one = systems[1].spawn(&[(HP, 1)]).expect("a handle");
     systems[0].insert(one, &[(HP, 2)]).expect("memory");
     systems[1].insert(one, &[(HP, 3)]).expect("memory");
     let late = systems.remove(0);
-    let queues = systems.into_iter().map(Commands::finish).collect();
-    let left = open.close(queues).expect_err("one is missing");
-    let (open, mut queues) = left.into_parts().0;
-    queues.push(late.finish());
-    queues.sort_by_key(|queue| queue.number());
-    let (mut world, queues) = open.close(queues).expect("all queues");
+    let left = open.close(systems).expect_err("one is missing");
+    let (open, mut systems) = left.into_parts().0;
+    systems.push(late);
+    systems.sort_by_key(|one| one.number());
+    let (mut world, queues) = open.close(systems).expect("all systems");
     world.apply(queues).expect("memory");
     assert_eq!(world.get(one, HP), Some(3));
     assert_eq!(world.birth(one).map(|birth| birth.system), Some(1));
@@ -221,14 +221,14 @@ fn a_refused_close_keeps_its_queues() {
     let one = first.spawn(&[(HP, 1)]).expect("a handle");
     first.insert(one, &[(HP, 5)]).expect("memory");
     second.insert(one, &[(HP, 2)]).expect("memory");
-    let left = open.close_lost(vec![second.finish()]).expect_err("in use");
+    let left = open.close_lost(vec![second]).expect_err("in use");
     let ((open, none), error) = left.into_parts();
     assert_eq!((error, none.len()), (CloseError::InUse, 0));
     assert_eq!((open.count(), open.returned()), (2, 1));
     let left = open.close(Vec::new()).expect_err("one is missing");
     let ((open, _), error) = left.into_parts();
     assert_eq!(error, CloseError::Missing { count: 1 });
-    let (mut world, queues) = open.close(vec![first.finish()]).expect("all queues");
+    let (mut world, queues) = open.close(vec![first]).expect("all queues");
     world.apply(queues).expect("memory");
     assert_eq!(world.get(one, HP), Some(5));
     assert_eq!(world.birth(one).map(|birth| birth.system), Some(1));
@@ -240,8 +240,7 @@ fn queues_of_another_world_are_refused() {
     let queues_of = |world: World, value| {
         let (open, mut systems) = world.open(1).expect("a phase");
         systems[0].spawn(&[(HP, value)]).expect("a handle");
-        let queues = systems.into_iter().map(Commands::finish).collect();
-        open.close(queues).expect("all queues")
+        open.close(systems).expect("all queues")
     };
     let (mut one, of_one) = queues_of(World::new(), 1);
     let (mut other, of_other) = queues_of(World::default(), 2);
@@ -300,12 +299,12 @@ fn a_phase_ends_without_a_lost_system() {
     assert!(panicked.join().is_err());
     let mine = other.spawn(&[(SPEED, 3)]).expect("a handle");
     assert_eq!(mine, handle_of_the_other());
-    let left = open.close(vec![other.finish()]).expect_err("one lost");
-    let ((open, queues), error) = left.into_parts();
+    let left = open.close(vec![other]).expect_err("one lost");
+    let ((open, systems), error) = left.into_parts();
     let missing = CloseError::Missing { count: 1 };
-    assert_eq!((error, queues.len()), (missing, 1));
+    assert_eq!((error, systems.len()), (missing, 1));
 
-    let (mut world, queues) = open.close_lost(queues).expect("one lost");
+    let (mut world, queues) = open.close_lost(systems).expect("one lost");
     assert!(world.needs_flush());
     let report = world.apply(queues).expect("memory");
     assert_eq!(report.faults, []);
@@ -334,8 +333,7 @@ fn a_world_is_opened_for_some_systems() {
     assert_eq!(error, ShareError::Count);
     let (open, mut systems) = world.open(1024).expect("a phase");
     systems[1023].spawn(&[]).expect("a handle");
-    let queues = systems.into_iter().map(|one| one.finish()).collect();
-    let (world, queues) = open.close(queues).expect("all queues");
+    let (world, queues) = open.close(systems).expect("all queues");
     drop(queues);
     let refused = world.open(1).expect_err("not flushed");
     let (mut world, error) = refused.into_parts();
@@ -349,7 +347,7 @@ fn a_world_is_opened_for_some_systems() {
     assert_eq!(world.birth(handle(0, 1)), Some(birth));
 }
 
-/// Commands and their queue outlive the phase, which goes with the last of them.
+/// Commands outlive the phase, which goes with the last of them.
 #[test]
 fn dropped_after_their_phase() {
     let mut world = World::new();
@@ -362,8 +360,7 @@ fn dropped_after_their_phase() {
     drop(open);
     assert_eq!(kept.view().get(handle(7, 1), HP), Some(7));
     kept.spawn(&[(HP, 1)]).expect("a handle");
-    let queue = kept.finish();
-    drop(queue);
+    drop(kept);
 }
 
 /// A world may be made on one thread and used on another.
@@ -375,7 +372,7 @@ fn sent_to_another_thread() {
         let (open, mut systems) = world.open(1).expect("a phase");
         let mut only = systems.pop().expect("a system");
         only.insert(one, &[(HP, 4)]).expect("memory");
-        let (mut world, queues) = open.close(vec![only.finish()]).expect("all queues");
+        let (mut world, queues) = open.close(vec![only]).expect("all queues");
         world.apply(queues).expect("memory");
         world
     });

@@ -110,8 +110,7 @@ fn an_empty_world() {
 fn with_requests_outstanding() {
     let (open, mut systems) = small().open(2).expect("a phase");
     let born = systems[0].spawn(&[(SPEED, 1)]).expect("memory");
-    let queues = systems.into_iter().map(|one| one.finish()).collect();
-    let (world, queues) = open.close(queues).expect("all queues");
+    let (world, queues) = open.close(systems).expect("all queues");
     let mut again = World::read_image(&written(&world)).expect("an image");
     assert!(again.needs_flush() && again.len() == 1);
 

@@ -3,8 +3,8 @@
 use crate::common::{handle, seeds, Numbers};
 use crate::worlds::{any_components, pick, Command, WorldModel};
 use forgeni::{
-    AllocError, Birth, CommandQueue, Commands, ComponentId, FaultKind, FreeError, Freed, Handle,
-    Limits, ReserveError, World,
+    AllocError, Birth, Commands, ComponentId, FaultKind, FreeError, Freed, Handle, Limits,
+    ReserveError, World,
 };
 use std::collections::BTreeSet;
 use std::thread;
@@ -114,8 +114,8 @@ impl System {
         self.issued.push(command);
     }
 
-    fn finish(self) -> (CommandQueue, Vec<Command>) {
-        (self.commands.finish(), self.issued)
+    fn into_parts(self) -> (Commands, Vec<Command>) {
+        (self.commands, self.issued)
     }
 }
 
@@ -185,9 +185,9 @@ fn phase(world: World, model: &mut WorldModel, seed: u64, way: Way, place: &str)
             });
         }
     });
-    let (queues, issued): (Vec<_>, Vec<_>) = systems.into_iter().map(System::finish).unzip();
+    let (systems, issued): (Vec<_>, Vec<_>) = systems.into_iter().map(System::into_parts).unzip();
     check_given(model, &issued, place);
-    let (mut world, queues) = open.close(queues).expect("all queues");
+    let (mut world, queues) = open.close(systems).expect("all systems");
     let asked = issued.iter().flatten().any(|command| match command {
         Command::Spawn(handles, _) => !handles.is_empty(),
         Command::Refused(_) => true,

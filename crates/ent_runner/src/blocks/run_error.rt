@@ -6,9 +6,9 @@ use std::fmt;
 ///
 /// ```
 /// # #[cfg(feature = "std")] {
-/// use forgeni::{run_in_blocks, BlockCommands, Entities, OutOfMemory, RunError, StdThreads};
+/// use forgeni::{run_in_blocks, Blocks, Entities, LogCommands, OutOfMemory, RunError, StdThreads};
 ///
-/// fn idle(_: &mut BlockCommands<'_, ()>) -> Result<(), OutOfMemory> {
+/// fn idle(_: &mut LogCommands<'_, (), Blocks>) -> Result<(), OutOfMemory> {
 ///     Ok(())
 /// }
 ///

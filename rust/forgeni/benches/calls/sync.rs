@@ -5,7 +5,7 @@ use crate::plain::allocator::Handle as PlainHandle;
 use crate::plain::bundle::Bundle;
 use crate::plain::world::{Command, World as PlainWorld};
 use crate::{line, line_of_two, places, rounds, shift, timed, Run, COUNT};
-use forgeni::{Commands, ComponentId, Handle, World};
+use forgeni::{ComponentId, Handle, World};
 use std::hint::black_box;
 
 /// How many entities the world has, and how many rounds of four commands are issued.
@@ -115,8 +115,7 @@ fn applied(step: u32) -> Run {
         only.remove(one, flag).expect("memory");
         only.despawn(spawned).expect("memory");
     }
-    let queues = systems.into_iter().map(Commands::finish).collect();
-    let (mut world, queues) = open.close(queues).expect("closed");
+    let (mut world, queues) = open.close(systems).expect("closed");
     timed(|| {
         let report = black_box(&mut world).apply(queues).expect("memory");
         (report.born.len() + report.faults.len()) as u64
@@ -189,8 +188,7 @@ fn of_kind<const KIND: usize, const STEP: u32, const PLACE: usize>() -> Run {
             Kind::Despawn => only.despawn(one).expect("memory"),
         }
     }
-    let queues = systems.into_iter().map(Commands::finish).collect();
-    let (mut world, queues) = open.close(queues).expect("closed");
+    let (mut world, queues) = open.close(systems).expect("closed");
     let run = timed(|| {
         let report = black_box(&mut world).apply(queues).expect("memory");
         (report.born.len() + report.faults.len()) as u64

@@ -6,7 +6,7 @@ use std::collections::HashMap;
 use std::process::Command;
 
 /// A call of what a phase lends to a system.
-type Call = fn(&mut forgeni::LentCommands<'_>) -> Result<(), OutOfMemory>;
+type Call = fn(&mut forgeni::Lent<'_, Commands>) -> Result<(), OutOfMemory>;
 
 /// Each error of what a phase lends is handed on, and each command that succeeds is issued once.
 #[test]
@@ -323,7 +323,7 @@ mod of_many {
 #[cfg(feature = "std")]
 mod systems {
     use super::*;
-    use forgeni::{run_frame, run_in_blocks, run_logs, BlockCommands, FrameError, RunError};
+    use forgeni::{run_frame, run_in_blocks, run_logs, Blocks, FrameError, LogCommands, RunError};
     use forgeni::{SystemCommands, View};
     use std::sync::atomic::{AtomicUsize, Ordering};
 
@@ -391,7 +391,7 @@ mod systems {
     /// The same of systems in blocks: before any of them runs, nothing has changed.
     #[test]
     fn systems_in_blocks() {
-        let system = |commands: &mut BlockCommands<'_, u8>| -> Result<(), OutOfMemory> {
+        let system = |commands: &mut LogCommands<'_, u8, Blocks>| -> Result<(), OutOfMemory> {
             assert_eq!(commands.left(), 1);
             Ok(())
         };

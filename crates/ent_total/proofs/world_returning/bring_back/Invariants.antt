@@ -5,7 +5,7 @@ use Rattle.ent_total.proofs.world_returning.bring_back.Given as goal
 -- those that came so far
 abbrev pub invariant-loop-one : goal.invariant-loop-one
 invariant-loop-one g l = record {
-  all : l.yielded ++ l.one-iterator.rest.items ≡ l.fn.queues.items;
+  all : l.yielded ++ l.one-iterator.rest.items ≡ l.fn.systems.items;
   returned : l.returned.items ≡ l.initial.returned.items ++ issuing l.yielded;
   queues : l.queues_returned.items ≡ l.initial.queues_returned.items ++ issued l.yielded;
   own : All (IsOf l.fn.world.shared) l.returned.items;

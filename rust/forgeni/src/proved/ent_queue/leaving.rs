@@ -11,12 +11,12 @@ impl<O> SystemCommands<'_, O, Blocks> {
     ///
     /// ```
     /// # #[cfg(feature = "std")] {
-    /// use forgeni::{fill_in_blocks, CommandsInBlocks, OutOfMemory, StdThreads, View, World};
+    /// use forgeni::{fill_in_blocks, Blocks, OutOfMemory, StdThreads, View, World, WorldCommands};
     ///
     /// /// A burst of what the block still has.
-    /// fn burst(_: &View<'_>, commands: &mut CommandsInBlocks<'_>) -> Result<(), OutOfMemory> {
-    ///     let n = commands.left();
-    ///     commands.spawn_many_with(n, &[]).map_or_else(|refused| refused.or_memory(), |_| Ok(()))
+    /// fn burst(_: &View<'_>, out: &mut WorldCommands<'_, Blocks>) -> Result<(), OutOfMemory> {
+    ///     let n = out.left();
+    ///     out.spawn_many_with(n, &[]).map_or_else(|refused| refused.or_memory(), |_| Ok(()))
     /// }
     ///
     /// let (phase, mut reservers) = World::new().open_in_blocks(&[10, 30])?;

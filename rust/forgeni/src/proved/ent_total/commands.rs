@@ -1,7 +1,6 @@
 // Made of crates/ent_total/src/commands.rt by rust/erase. It isn't edited by hand.
 
 use alloc::vec::Vec;
-use crate::phases::command_queue::CommandQueue;
 use crate::phases::open_world::OpenWorld;
 use crate::allocator::ReserveError;
 use crate::handles::{ComponentId, Handle, OutOfMemory};
@@ -10,8 +9,8 @@ use crate::worlds::View;
 use core::mem;
 use crate::kit::sync::Arc;
 
-/// Issues the commands of one system. They take effect when the queue is applied. It may go to
-/// another thread.
+/// Issues the commands of one system. They take effect when the phase is closed with it, and its
+/// queue is applied. It may go to another thread.
 ///
 /// A spawn reserves its handle at once, so a system knows what it will have spawned. The world can
 /// be read, as it was when it was opened.
@@ -31,7 +30,7 @@ use crate::kit::sync::Arc;
 ///         });
 ///     }
 /// });
-/// let (mut world, queues) = open.close(systems.into_iter().map(|one| one.finish()).collect())?;
+/// let (mut world, queues) = open.close(systems)?;
 /// assert_eq!(world.apply(queues)?.born.len(), 2);
 /// # Ok::<(), Box<dyn std::error::Error>>(())
 /// ```
@@ -60,8 +59,7 @@ impl Commands {
     /// let (open, mut systems) = World::new().open(1)?;
     /// let cart = systems[0].spawn(&[(ComponentId(0), 5)])?;
     /// assert!(!open.view().contains(cart));
-    /// let queues = systems.into_iter().map(|one| one.finish()).collect();
-    /// let (mut world, queues) = open.close(queues)?;
+    /// let (mut world, queues) = open.close(systems)?;
     /// world.apply(queues)?;
     /// assert_eq!(world.get(cart, ComponentId(0)), Some(5));
     /// # Ok::<(), Box<dyn std::error::Error>>(())
@@ -178,8 +176,7 @@ impl Commands {
     ///
     /// // It takes effect when the queue is applied.
     /// assert_eq!(systems[0].view().get(oak, AGE), Some(80));
-    /// let queues = systems.into_iter().map(|one| one.finish()).collect();
-    /// let (mut world, queues) = open.close(queues)?;
+    /// let (mut world, queues) = open.close(systems)?;
     /// world.apply(queues)?;
     /// assert_eq!(world.get(oak, AGE), Some(81));
     /// # Ok::<(), Box<dyn std::error::Error>>(())
@@ -265,8 +262,7 @@ impl Commands {
     /// for commands in &mut systems {
     ///     commands.despawn(oak)?;
     /// }
-    /// let queues = systems.into_iter().map(|one| one.finish()).collect();
-    /// let (mut world, queues) = open.close(queues)?;
+    /// let (mut world, queues) = open.close(systems)?;
     /// let report = world.apply(queues)?;
     /// assert_eq!(report.faults.len(), 1);
     /// assert_eq!((report.faults[0].system, report.faults[0].kind), (1, FaultKind::NotAlive(oak)));
@@ -349,6 +345,20 @@ impl Commands {
     /// # Ok::<(), Box<dyn std::error::Error>>(())
     /// ```
     ///
+    /// Systems that came back in any order can be sorted by it:
+    ///
+    /// ```
+    /// use forgeni::World;
+    ///
+    /// let (open, systems) = World::new().open(3)?;
+    /// // Threads have ended in some order.
+    /// let mut ended: Vec<_> = systems.into_iter().rev().collect();
+    /// ended.sort_by_key(|one| one.number());
+    /// assert_eq!(ended.iter().map(|one| one.number()).collect::<Vec<_>>(), [0, 1, 2]);
+    /// let _closed = open.close(ended)?;
+    /// # Ok::<(), Box<dyn std::error::Error>>(())
+    /// ```
+    ///
     /// <details><summary>Contract</summary>
     ///
     /// <code style="display: block; tab-size: 4; white-space: pre-wrap">// In the words of [contracts](crate::contracts):
@@ -385,40 +395,6 @@ impl Commands {
     #[inline]
     pub fn is_of(&self, phase: &OpenWorld) -> bool {
         self.number == phase.number()
-    }
-
-    /// Returns the queue of the commands that were issued, which [`OpenWorld::close`] takes.
-    ///
-    /// ```
-    /// use forgeni::World;
-    ///
-    /// let (open, systems) = World::new().open(3)?;
-    /// // A queue is a value, so it may be kept, or go to another thread.
-    /// let queues: Vec<_> = systems.into_iter().map(|commands| commands.finish()).collect();
-    /// let (mut world, queues) = open.close(queues)?;
-    /// assert!(world.apply(queues)?.born.is_empty());
-    /// # Ok::<(), Box<dyn std::error::Error>>(())
-    /// ```
-    ///
-    /// The system can issue no more:
-    ///
-    /// ```compile_fail
-    /// let (open, mut systems) = forgeni::World::new().open(1).unwrap();
-    /// let mut only = systems.pop().unwrap();
-    /// let queue = only.finish();
-    /// only.spawn(&[]);
-    /// ```
-    ///
-    /// <details><summary>Contract</summary>
-    ///
-    /// <code style="display: block; tab-size: 4; white-space: pre-wrap">// In the words of [contracts](crate::contracts):
-    /// ensures { result ≡ self }
-    /// </code>
-    ///
-    /// </details>
-    #[inline]
-    pub fn finish(self) -> CommandQueue {
-        CommandQueue::new(self)
     }
 }
 

@@ -2,7 +2,6 @@
 
 use alloc::vec::Vec;
 use crate::kit::vec::FallibleVec;
-use crate::phases::command_queue::CommandQueue;
 use crate::phases::commands::Commands;
 use crate::phases::world_returning::bring_back;
 use crate::handles::OutOfMemory;
@@ -20,16 +19,16 @@ use crate::kit::sync::Arc;
 ///
 /// let mut world = World::new();
 /// let oak = world.spawn(&[])?;
-/// let (open, systems) = world.open(2)?;
-/// let queues = std::thread::scope(|scope| {
-///     let run = |mut commands: forgeni::Commands| {
-///         let _out_of_memory = if open.view().contains(oak) { commands.despawn(oak) } else { Ok(()) };
-///         commands.finish()
-///     };
-///     let threads: Vec<_> = systems.into_iter().map(|it| scope.spawn(move || run(it))).collect();
-///     threads.into_iter().map(|it| it.join().expect("no panic")).collect()
+/// let (open, mut systems) = world.open(2)?;
+/// std::thread::scope(|scope| {
+///     for commands in &mut systems {
+///         let view = open.view();
+///         scope.spawn(move || {
+///             if view.contains(oak) { commands.despawn(oak) } else { Ok(()) }
+///         });
+///     }
 /// });
-/// let (mut world, queues) = open.close(queues)?;
+/// let (mut world, queues) = open.close(systems)?;
 /// assert_eq!((world.apply(queues)?.faults.len(), world.len()), (1, 0));
 /// # Ok::<(), Box<dyn std::error::Error>>(())
 /// ```
@@ -109,16 +108,15 @@ impl OpenWorld {
         self.world.shared().count()
     }
 
-    /// Returns the number of systems that have come back: those whose queues a refused close kept.
+    /// Returns the number of systems that have come back: those that a refused close kept.
     ///
     /// ```
     /// use forgeni::World;
     ///
     /// let (open, mut systems) = World::new().open(2)?;
     /// let late = systems.pop();
-    /// let queues = systems.into_iter().map(|one| one.finish()).collect();
-    /// // A system is still at work. The phase keeps the queue of the other.
-    /// let refused = open.close_lost(queues).err().ok_or("it was closed")?;
+    /// // A system is still at work. The phase keeps the commands of the other.
+    /// let refused = open.close_lost(systems).err().ok_or("it was closed")?;
     /// let ((open, _), _) = refused.into_parts();
     /// assert_eq!(open.returned(), 1);
     /// drop(late);
@@ -227,16 +225,16 @@ impl OpenWorld {
 
     /// Takes systems returned, in their order, which needs no memory.
     #[inline]
-    pub(super) fn take_back(&mut self, queues: Vec<CommandQueue>)
-        // requires { MayReturn self.old queues.items }
-        // ensures { self.new ≡ with_returned self.old queues.items }
+    pub(super) fn take_back(&mut self, systems: Vec<Commands>)
+        // requires { MayReturn self.old systems.items }
+        // ensures { self.new ≡ with_returned self.old systems.items }
     {
         bring_back(
             &mut self.returned,
             &mut self.queues,
             &self.world,
             self.number,
-            queues,
+            systems,
         );
     }
 
@@ -278,7 +276,7 @@ impl OpenWorld {
 
     /// A list without systems.
     #[inline]
-    pub(super) fn no_queues(&self) -> Vec<CommandQueue>
+    pub(super) fn no_systems(&self) -> Vec<Commands>
         // ensures { result.items ≡ [] }
     {
         Vec::new()

@@ -22,9 +22,9 @@ use crate::kit::thread::Join;
 ///
 /// ```
 /// # #[cfg(feature = "std")] {
-/// use forgeni::{run_in_blocks, BlockCommands, Entities, StdThreads, SyncPoint};
+/// use forgeni::{run_in_blocks, Blocks, Entities, LogCommands, StdThreads, SyncPoint};
 ///
-/// let spawn = |commands: &mut BlockCommands<'_, String>| match commands.spawn() {
+/// let spawn = |commands: &mut LogCommands<'_, String, Blocks>| match commands.spawn() {
 ///     Ok(one) => commands.push(format!("{one}")),
 ///     Err(refused) => refused.or_memory(),
 /// };
@@ -43,9 +43,9 @@ use crate::kit::thread::Join;
 ///
 /// ```
 /// # #[cfg(feature = "std")] {
-/// use forgeni::{run_in_blocks, BlockCommands, Entities, OutOfMemory, RunError, StdThreads};
+/// use forgeni::{run_in_blocks, Blocks, Entities, LogCommands, OutOfMemory, RunError, StdThreads};
 ///
-/// fn fails(commands: &mut BlockCommands<'_, ()>) -> Result<(), OutOfMemory> {
+/// fn fails(commands: &mut LogCommands<'_, (), Blocks>) -> Result<(), OutOfMemory> {
 ///     let _reserved = commands.spawn();
 ///     Err(OutOfMemory)
 /// }

@@ -4,17 +4,16 @@
 
 use alloc::vec::Vec;
 use crate::kit::vec::FallibleVec;
-use crate::phases::command_queue::CommandQueue;
 use crate::phases::commands::Commands;
 use crate::reserving::SharedReserver;
 
 /// Whether all of them are of the phase of this number.
 #[inline]
-pub(super) fn are_of(number: u64, queues: &[CommandQueue]) -> bool
-    // ensures { IsTrue result ↔ AreCommandsOf number queues.now }
+pub(super) fn are_of(number: u64, systems: &[Commands]) -> bool
+    // ensures { IsTrue result ↔ AreCommandsOf number systems.now }
 {
-    for one in queues {
-        if one.commands.number != number {
+    for one in systems {
+        if one.number != number {
             return false;
         }
     }
@@ -28,26 +27,26 @@ pub(super) fn bring_back(
     queues_returned: &mut Vec<crate::commands::IssuedCommands>,
     world: &crate::worlds::OpenWorld,
     number: u64,
-    queues: Vec<CommandQueue>,
+    systems: Vec<Commands>,
 )
     // requires stands_for { J.world_of number ≡ world.now }
-    // requires of { AreCommandsOf number queues.items }
+    // requires of { AreCommandsOf number systems.items }
     // requires own { All (IsOf world.now.shared) returned.old.items }
-    // requires room { vec_len returned.old + length queues.items ≤ vec_capacity returned.old }
-    // requires queue_room { vec_len queues_returned.old + length queues.items
+    // requires room { vec_len returned.old + length systems.items ≤ vec_capacity returned.old }
+    // requires queue_room { vec_len queues_returned.old + length systems.items
     //     ≤ vec_capacity queues_returned.old }
-    // ensures may_return { returned.new.items ≡ returned.old.items ++ issuing queues.items }
-    // ensures queues { queues_returned.new.items ≡ queues_returned.old.items ++ issued queues.items }
+    // ensures may_return { returned.new.items ≡ returned.old.items ++ issuing systems.items }
+    // ensures queues { queues_returned.new.items ≡ queues_returned.old.items ++ issued systems.items }
     // ensures own { All (IsOf world.now.shared) returned.new.items }
     // ensures room { vec_capacity returned.new ≡ vec_capacity returned.old }
     // ensures queue_room { vec_capacity queues_returned.new ≡ vec_capacity queues_returned.old }
 {
-    for one in queues {
+    for one in systems {
         let Commands {
             reserver,
             queue,
             ..
-        } = one.commands;
+        } = one;
         returned.push_reserved(reserver);
         queues_returned.push_reserved(queue);
     }
