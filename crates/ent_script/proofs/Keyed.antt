@@ -5,8 +5,11 @@ use Rattle.ent_script.proofs.Common.{bytes_eq-Decides, list_any, Data, object, M
 use Rattle.ent_script.proofs.Common.{member, put, as_object, data_of, Part, cut, IsUnder, AreAmong}
 use Rattle.ent_script.proofs.Common.{AreFields, of_fields, keys_among, pairs_of, has_keys, is_spawn}
 use Rattle.ent_script.proofs.Common.{is_spawn_many, is_insert, is_remove, is_despawn, of_kind}
-use Rattle.ent_script.proofs.Common.{operation_of, Fields, Kind, Bor, option_copied, ◌||◌}
+use Rattle.ent_script.proofs.Common.{operation_of, Fields, Kind, Bor, option_copied, ◌||◌, codes, []}
+use Rattle.ent_script.proofs.Common.{◌∷◌}
+use Rattle.ent_script.specs.Fields.{AreKinds}
 use Rattle.ent_script.specs.declared.cause.Cause.TheVariants as cause
+use Rattle.ent_script.specs.declared.fields.Kinds.{Kinds}
 use Rattle.ent_script.specs.declared.kind.Kind.TheVariants as kinds
 use Rattle.ent_script.proofs.CutMeanings.{bundle-cut, with-cut, count-cut, binding-cut, removed-cut}
 use Rattle.ent_script.proofs.CutMeanings.{target-cut}
@@ -38,6 +41,34 @@ two_keys a b = search rules
 
 pub three_keys : (a b c : Bool) → ((a || b) || c) ≡ ((a || (b || (c || false))) && true)
 three_keys a b c = search rules
+
+-- ---- which kinds have a key
+
+-- the kinds of a key are those of the name that it is
+pub kinds_here : (name k : List ℕ) (d : Data) (kinds : Kinds) → bytes_eq k name ≡ true
+    → AreKinds kinds (put name d no_members) → AreKinds kinds (put k d no_members)
+kinds_here name k d kinds e are = rw ((bytes_eq-Decides k name).0 e) are
+
+-- a key that no operation has
+pub no_kinds : (k : List ℕ) (d : Data) (ms : Members) → bytes_eq k (codes "spawn") ≡ false
+    → bytes_eq k (codes "as") ≡ false → bytes_eq k (codes "insert") ≡ false
+    → bytes_eq k (codes "on") ≡ false → bytes_eq k (codes "remove") ≡ false
+    → bytes_eq k (codes "despawn") ≡ false → bytes_eq k (codes "spawn_many") ≡ false
+    → bytes_eq k (codes "with") ≡ false → AreKinds (record {
+      spawn = false;
+      spawn_many = false;
+      insert = false;
+      remove = false;
+      despawn = false;
+    }) (put k d ms)
+no_kinds k d ms e1 e2 e3 e4 e5 e6 e7 e8 = record {
+  spawn = search (rules, among-put (codes "spawn" ∷ codes "as" ∷ []) k d ms);
+  spawn_many =
+      search (rules, among-put (codes "spawn_many" ∷ codes "with" ∷ codes "as" ∷ []) k d ms);
+  insert = search (rules, among-put (codes "insert" ∷ codes "on" ∷ []) k d ms);
+  remove = search (rules, among-put (codes "remove" ∷ codes "on" ∷ []) k d ms);
+  despawn = search (rules, among-put (codes "despawn" ∷ []) k d ms);
+}
 
 -- ---- what is under a key
 

@@ -23,20 +23,77 @@ pub(crate) struct Kinds {
     pub(crate) despawn: bool,
 }
 
+/// The kinds that have a key that is none of an operation's.
+const NONE: Kinds = Kinds {
+    spawn: false,
+    spawn_many: false,
+    insert: false,
+    remove: false,
+    despawn: false,
+};
+
+/// Those that have `spawn`.
+const SPAWN: Kinds = Kinds {
+    spawn: true,
+    ..NONE
+};
+
+/// Those that have `as`.
+const AS: Kinds = Kinds {
+    spawn: true,
+    spawn_many: true,
+    ..NONE
+};
+
+/// Those that have `insert`.
+const INSERT: Kinds = Kinds {
+    insert: true,
+    ..NONE
+};
+
+/// Those that have `on`.
+const ON: Kinds = Kinds {
+    insert: true,
+    remove: true,
+    ..NONE
+};
+
+/// Those that have `remove`.
+const REMOVE: Kinds = Kinds {
+    remove: true,
+    ..NONE
+};
+
+/// Those that have `despawn`.
+const DESPAWN: Kinds = Kinds {
+    despawn: true,
+    ..NONE
+};
+
+/// Those that have `spawn_many`.
+const SPAWN_MANY: Kinds = Kinds {
+    spawn_many: true,
+    ..NONE
+};
+
+/// Those that have `with`.
+const WITH: Kinds = Kinds {
+    spawn_many: true,
+    ..NONE
+};
+
 impl Kinds {
-    /// The kinds of these that have the key too.
-    fn with(self, key: &str) -> Self
-        ensures { (d : Data) (ms : Members) → AreKinds self ms
-            → AreKinds result (put key.now d ms) }
+    /// The kinds of these that have one key more, which those others are the kinds to have.
+    fn with(self, others: Kinds) -> Self
+        ensures { (key : List ℕ) (d : Data) (ms : Members) → AreKinds self ms
+            → AreKinds others (put key d no_members) → AreKinds result (put key d ms) }
     {
-        let is_as = key == "as";
-        let is_on = key == "on";
         Kinds {
-            spawn: self.spawn & ((key == "spawn") | is_as),
-            spawn_many: self.spawn_many & ((key == "spawn_many") | (key == "with") | is_as),
-            insert: self.insert & ((key == "insert") | is_on),
-            remove: self.remove & ((key == "remove") | is_on),
-            despawn: self.despawn & (key == "despawn"),
+            spawn: self.spawn & others.spawn,
+            spawn_many: self.spawn_many & others.spawn_many,
+            insert: self.insert & others.insert,
+            remove: self.remove & others.remove,
+            despawn: self.despawn & others.despawn,
         }
     }
 }
@@ -86,23 +143,32 @@ impl<'a> Fields<'a> {
         ensures { (d : Data) (ms : Members) → data_of part.entry ≡ cut 1 d → AreFields self.old ms
             → AreFields self.new (put key.now d ms) }
     {
-        self.kinds = self.kinds.with(key);
         if key == "spawn" {
             self.spawn = Some(part);
+            self.kinds = self.kinds.with(SPAWN);
         } else if key == "as" {
             self.binds = Some(part);
+            self.kinds = self.kinds.with(AS);
         } else if key == "insert" {
             self.insert = Some(part);
+            self.kinds = self.kinds.with(INSERT);
         } else if key == "on" {
             self.on = Some(part);
+            self.kinds = self.kinds.with(ON);
         } else if key == "remove" {
             self.remove = Some(part);
+            self.kinds = self.kinds.with(REMOVE);
         } else if key == "despawn" {
             self.despawn = Some(part);
+            self.kinds = self.kinds.with(DESPAWN);
         } else if key == "spawn_many" {
             self.spawn_many = Some(part);
+            self.kinds = self.kinds.with(SPAWN_MANY);
         } else if key == "with" {
             self.with = Some(part);
+            self.kinds = self.kinds.with(WITH);
+        } else {
+            self.kinds = NONE;
         }
     }
 }
