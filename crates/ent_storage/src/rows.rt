@@ -144,10 +144,15 @@ impl Rows {
         ensures grows { self.old.spare ≤ self.new.spare }
         ensures places { self.new.places ≡ self.old.places }
 
-        // With room for that many, the call succeeds.
+        // With room for that many, the call succeeds and changes nothing.
         ensures succeeds { additional ≤ self.old.spare → IsOk result }
+        ensures in_place { additional ≤ self.old.spare → self.new ≡ self.old }
+
         ensures err { OnErr result (self.new ≡ self.old) }
     {
+        if additional <= self.spare() {
+            return Ok(());
+        }
         self.living.reserve(additional)?;
         Ok(())
     }

@@ -194,7 +194,7 @@ impl<S: Deals> InWorld<S> {
     pub(crate) fn view(&self) -> View<'_>
         ensures { result ≡ view_in self.now }
     {
-        self.rest.view()
+        self.rest.view(self.source.as_opened())
     }
 }
 

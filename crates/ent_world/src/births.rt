@@ -1,40 +1,52 @@
 //! What a flush brings to life enters the storage, each entity with its birth.
 //!
-//! All enter in the order of the flush, and nothing moves: the storage's index has room for a pair
-//! of each slot that is made by then. A fresh slot comes after all others, and an old one has its
-//! pair. If a phase in blocks has made slots that the index does not have yet, the first birth past
-//! them brings their pairs. The births are of no system at first. Then the queues name them, one
-//! after the other, and an entity that has the birth of a system keeps it. Those that no queue
-//! lists are numbered at last. So the time grows with the number of births and of new slots alone,
-//! in any order, as long as the storage's index has dropped no pair (`ent_storage`).
-ghost use Rattle.std.specs.Prelude.{◌≡◌, ◌+◌, ◌≤◌, ◌++◌, ◌^◌, drop, length};
+//! All enter in the order of the flush, and get the next places: the allocator keeps each with its
+//! handle. The births are of no system at first. Then the queues name them, one after the other,
+//! and an entity that has the birth of a system keeps it. Those that no queue lists are numbered at
+//! last. So the time grows with the number of births alone.
+ghost use Rattle.std.specs.Prelude.{◌≡◌, ◌+◌, ◌<◌, ◌≤◌, ◌++◌, ◌^◌, All, drop, length, true};
+ghost use Rattle.std.specs.FinSet as set;
 ghost use Rattle.ent_queue.specs.Entry.{command_of};
 ghost use Rattle.ent_world.specs.Sync.{no_system, with_born, listed_by, handles_listed};
 ghost use Rattle.ent_world.specs.Entering.{first_birth, next_birth, birth_after, AreNew};
 ghost use Rattle.ent_world.specs.Entering.{named, named_handles, named_queues, numbered};
-ghost use Rattle.ent_world.specs.Rows.{ArePlaces};
+ghost use Rattle.ent_world.specs.Rows.{ArePlaces, with_rows};
 
 use crate::rows::place_of;
 use ent_alloc::Entities;
 use ent_handle::{Birth, Handle};
 use ent_queue::{CommandQueue, Entry, Handles};
-use ent_storage::Storage;
+use ent_storage::Rows;
 
 /// The number of no system: births of handles that no queue lists have it.
 const NO_SYSTEM: u32 = u32::MAX;
 
-/// Enters all that are born, each with the first birth of no system. There has to be room for them.
-pub(crate) fn enter_all(storage: &mut Storage, phase: u64, handles: &[Handle])
+/// Enters all that are born, each with the first birth of no system, and keeps the next places with
+/// them, from the first one on. There has to be room for them.
+pub(crate) fn enter_all(
+    entities: &mut Entities,
+    storage: &mut Rows,
+    phase: u64,
+    first: u32,
+    handles: &[Handle],
+)
+    requires living { All (λ h. set.contains entities.old.allocator.live h ≡ true) handles.now }
+    requires fits { first + length handles.now < 2 ^ 32 }
     requires new { AreNew handles.now storage.old.entities }
     requires room { length handles.now ≤ storage.old.spare }
+    ensures rows { entities.new.rows ≡ with_rows entities.old.rows first handles.now }
+    ensures allocator { entities.new.allocator ≡ entities.old.allocator }
     ensures entered { storage.new.entities ≡ with_born
         storage.old.entities (λ _. first_birth phase no_system) handles.now }
     ensures places { storage.new.places ≡ storage.old.places ++ handles.now }
     ensures spare { storage.new.spare + length handles.now ≡ storage.old.spare }
 {
     let birth = first_birth(phase, NO_SYSTEM);
+    let mut row = first;
     for handle in handles {
-        let _ = storage.born_within(*handle, birth);
+        storage.push(*handle, birth);
+        entities.set_row(*handle, row);
+        row += 1;
     }
 }
 
@@ -42,7 +54,7 @@ pub(crate) fn enter_all(storage: &mut Storage, phase: u64, handles: &[Handle])
 /// The first queue that lists a handle counts.
 pub(crate) fn name_listed(
     entities: &Entities,
-    storage: &mut Storage,
+    storage: &mut Rows,
     before: usize,
     phase: u64,
     queues: &[CommandQueue],
@@ -65,7 +77,7 @@ pub(crate) fn name_listed(
 }
 
 /// Numbers those of the handles that no queue lists. They stand from the place `before` on.
-pub(crate) fn number_others(storage: &mut Storage, before: usize, phase: u64, handles: &[Handle])
+pub(crate) fn number_others(storage: &mut Rows, before: usize, phase: u64, handles: &[Handle])
     requires { drop before storage.old.places ≡ handles.now }
     ensures numbered { storage.new.entities ≡ numbered
         (first_birth phase no_system) handles.now storage.old.entities }
@@ -85,7 +97,7 @@ pub(crate) fn number_others(storage: &mut Storage, before: usize, phase: u64, ha
 /// Names what one queue lists, from this birth on.
 fn name_queue(
     entities: &Entities,
-    storage: &mut Storage,
+    storage: &mut Rows,
     before: usize,
     first: Birth,
     queue: &CommandQueue,
@@ -105,7 +117,7 @@ fn name_queue(
 /// Names the handles of one command, from this birth on, and returns the birth of the next handle.
 fn name_entry(
     entities: &Entities,
-    storage: &mut Storage,
+    storage: &mut Rows,
     before: usize,
     birth: Birth,
     entry: Entry<'_>,
@@ -132,7 +144,7 @@ fn name_entry(
 /// Names the handles, from this birth on, and returns the birth of the next one.
 fn name_handles(
     entities: &Entities,
-    storage: &mut Storage,
+    storage: &mut Rows,
     before: usize,
     first: Birth,
     handles: Handles<'_>,
@@ -153,7 +165,7 @@ fn name_handles(
 }
 
 /// Gives the entity its birth, if it is born now and has none of a system yet.
-fn name(entities: &Entities, storage: &mut Storage, before: usize, handle: Handle, birth: Birth)
+fn name(entities: &Entities, storage: &mut Rows, before: usize, handle: Handle, birth: Birth)
     requires { ArePlaces entities.now.rows storage.old.places }
     ensures named { storage.new.entities ≡ named
         (drop before storage.old.places) handle birth storage.old.entities }

@@ -7,7 +7,7 @@ ghost use Rattle.ent_world.specs.World.{IsWorld};
 use crate::world::World;
 use ent_alloc::{Entities, Limits, Prepared};
 use ent_handle::Memory;
-use ent_storage::Storage;
+use ent_storage::Rows;
 use std::alloc::Global;
 use std::mem;
 
@@ -76,9 +76,9 @@ impl World {
 fn prepare(
     alloc: Global,
     prepared: &mut Prepared,
-    storage: &mut Storage,
+    storage: &mut Rows,
     entities: &Entities,
-    source: &Storage,
+    source: &Rows,
 ) -> Result<(), Memory>
     ensures allocator { prepared.new.entities ≡ prepared.old.entities }
     ensures slots { OnOk result (entities.now.allocator.made ≤ prepared.new.slots) }
@@ -99,7 +99,7 @@ fn prepare(
 }
 
 /// A storage of the same entities, with as much room. Without slots and entities it has none.
-fn copied(alloc: Global, storage: &Storage, slots: u32) -> Result<Storage, Memory>
+fn copied(alloc: Global, storage: &Rows, slots: u32) -> Result<Rows, Memory>
     ensures entities { IfOk result (λ copy. copy.entities ≡ storage.now.entities) }
     ensures places { IfOk result (λ copy. copy.places ≡ storage.now.places) }
     ensures spare { IfOk result (λ copy. 0 < slots → storage.now.spare ≤ copy.spare) }
@@ -107,19 +107,14 @@ fn copied(alloc: Global, storage: &Storage, slots: u32) -> Result<Storage, Memor
 {
     let entities = storage.len();
     if slots == 0 && entities == 0 {
-        return Ok(Storage::new(alloc));
+        return Ok(Rows::new(alloc));
     }
     storage.try_clone()
 }
 
 /// Lets a storage take over the entities of another one, with as much room. Without slots and
 /// entities it doesn't allocate.
-fn copy_into(
-    alloc: Global,
-    storage: &mut Storage,
-    source: &Storage,
-    slots: u32,
-) -> Result<(), Memory>
+fn copy_into(alloc: Global, storage: &mut Rows, source: &Rows, slots: u32) -> Result<(), Memory>
     ensures entities { OnOk result (storage.new.entities ≡ source.now.entities) }
     ensures places { OnOk result (storage.new.places ≡ source.now.places) }
     ensures spare { OnOk result (0 < slots → source.now.spare ≤ storage.new.spare) }
@@ -129,7 +124,7 @@ fn copy_into(
 {
     let entities = source.len();
     if slots == 0 && entities == 0 {
-        storage.try_clone_from(&Storage::new(alloc))
+        storage.try_clone_from(&Rows::new(alloc))
     } else {
         storage.try_clone_from(source)
     }

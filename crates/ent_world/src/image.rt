@@ -30,7 +30,7 @@ use crate::rows::{place_of, set_rows};
 use crate::world::World;
 use ent_alloc::{Entities, ImageFault, Living};
 use ent_handle::{Handle, Memory, read_long, read_word, write_long, write_word};
-use ent_storage::{Storage, StorageImageFault};
+use ent_storage::{Rows, StorageImageFault};
 use std::alloc::Global;
 
 /// The letters `FORGENW` and a zero, the first one lowest.
@@ -97,7 +97,7 @@ fn read_header(bytes: &[u8]) -> Result<(u64, &[u8], &[u8]), WorldImageFault>
 /// more bytes.
 fn write_entities(
     entities: &Entities,
-    storage: &Storage,
+    storage: &Rows,
     handles: Living<'_>,
     width: u32,
     extra: u32,
@@ -178,7 +178,7 @@ fn read_storage(
     handles: &[Handle],
     room: usize,
     bytes: &[u8],
-) -> Result<Storage, WorldImageFault>
+) -> Result<Rows, WorldImageFault>
     requires apart { AllPairs (λ g h. g ≢ h) handles.now }
     requires room { length handles.now ≤ room }
     ensures found { IfOk result (λ s. entities_bytes s.entities handles.now ≡ bytes.now) }
@@ -194,7 +194,7 @@ fn read_storage(
         → IsRestFault handles.now bytes.now fault) }
     ensures memory { IfErr result (λ fault. fault ≡ WorldImageFault.Memory → 0 < room) }
 {
-    match Storage::read_image(alloc, handles, room, bytes) {
+    match Rows::read_image(alloc, handles, room, bytes) {
         Ok(storage) => Ok(storage),
         Err(StorageImageFault::Memory) => Err(WorldImageFault::Memory),
         Err(fault) => Err(WorldImageFault::Storage(fault)),

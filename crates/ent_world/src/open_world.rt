@@ -16,7 +16,7 @@ ghost use Rattle.ent_world.specs.Rows.{AreRows};
 use crate::view::View;
 use crate::world::World;
 use ent_shared::{Reserver, Shared};
-use ent_storage::Storage;
+use ent_storage::Rows;
 use std::alloc::Global;
 use std::marker::Model;
 
@@ -24,7 +24,7 @@ use std::marker::Model;
 #[derive(Drop)]
 pub struct OpenWorld {
     shared: Shared,
-    storage: Storage,
+    storage: Rows,
     phase: u64,
     alloc: Global,
 }
@@ -58,7 +58,7 @@ impl Model for OpenWorld {
 }
 
 impl OpenWorld {
-    pub(crate) fn new(alloc: Global, shared: Shared, storage: Storage, phase: u64) -> Self
+    pub(crate) fn new(alloc: Global, shared: Shared, storage: Rows, phase: u64) -> Self
         requires world { IsOpenWorld
             (record { shared = shared; phase = phase; entities = storage.entities }) }
         requires rows { AreRows shared.rows storage.places storage.entities }
@@ -86,7 +86,7 @@ impl OpenWorld {
         ensures phase { result.phase ≡ self.now.phase }
         ensures entities { result.entities ≡ self.now.entities }
     {
-        View::new(&self.storage, self.phase)
+        View::new(self.shared.opened(), &self.storage, self.phase)
     }
 
     /// Ends the phase with all its reservers, as [`Shared::close`] does. Nothing of the world but

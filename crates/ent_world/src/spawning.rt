@@ -9,7 +9,7 @@ ghost use Rattle.ent_world.specs.Effects.{spawned};
 
 use ent_alloc::{AllocFault, Entities};
 use ent_handle::{Birth, ComponentId, Handle, Memory};
-use ent_storage::Storage;
+use ent_storage::Rows;
 
 /// The handle that `alloc` gives next.
 #[inline(always)]
@@ -36,7 +36,7 @@ pub(crate) fn next_handle(entities: &Entities) -> Result<Handle, AllocFault>
 /// is not there.
 #[inline(always)]
 pub(crate) fn make(
-    storage: &mut Storage,
+    storage: &mut Rows,
     place: usize,
     handle: Handle,
     birth: Birth,
@@ -53,9 +53,8 @@ pub(crate) fn make(
     ensures err { OnErr result (storage.new.entities ≡ storage.old.entities) }
     ensures unplaced { OnErr result (storage.new.places ≡ storage.old.places) }
 {
-    if storage.born(handle, birth).is_err() {
-        return Err(Memory);
-    }
+    storage.reserve(1)?;
+    storage.push(handle, birth);
     if storage.insert_at(place, handle, items).is_err() {
         let _ = storage.despawn_at(place, handle);
         return Err(Memory);

@@ -13,13 +13,12 @@ ghost use Rattle.ent_world.specs.Memory.{TakesMemoryAt};
 use crate::applying::Applying;
 use crate::births::{enter_all, name_listed, number_others};
 use crate::fault::{SyncFault, SyncReport};
-use crate::rows::set_rows;
 use crate::stop::{At, Stop};
 use crate::world::World;
 use ent_alloc::Entities;
 use ent_handle::{Handle, Memory};
 use ent_queue::CommandQueue;
-use ent_storage::Storage;
+use ent_storage::Rows;
 
 impl World {
     /// The sync point: brings to life what is reserved, each entity with its birth by these queues,
@@ -166,8 +165,13 @@ impl World {
         let first = self.entities.len();
         self.entities.flush(&mut handles)?;
         let before = first as usize;
-        enter_all(&mut self.storage, self.phase, &handles);
-        set_rows(&mut self.entities, first, &handles);
+        enter_all(
+            &mut self.entities,
+            &mut self.storage,
+            self.phase,
+            first,
+            &handles,
+        );
         name_listed(
             &self.entities,
             &mut self.storage,
@@ -181,10 +185,9 @@ impl World {
     }
 }
 
-/// Makes room for what is reserved, and in the storage's index for each slot that is made by then.
-/// If nothing is reserved, it doesn't allocate.
+/// Makes room for what is reserved. If nothing is, it doesn't allocate.
 #[inline(always)]
-fn reserve_births(entities: &Entities, storage: &mut Storage) -> Result<(), Memory>
+fn reserve_births(entities: &Entities, storage: &mut Rows) -> Result<(), Memory>
     ensures entities { storage.new.entities ≡ storage.old.entities }
     ensures places { storage.new.places ≡ storage.old.places }
     ensures ok { OnOk result (length entities.now.allocator.taken ≤ storage.new.spare) }
@@ -195,9 +198,5 @@ fn reserve_births(entities: &Entities, storage: &mut Storage) -> Result<(), Memo
     if reserved == 0 {
         return Ok(());
     }
-    storage.reserve(reserved as usize)?;
-    // The old slots come first.
-    let fresh = reserved.saturating_sub(entities.top());
-    storage.reserve_slots(entities.total() as usize + fresh as usize)?;
-    Ok(())
+    storage.reserve(reserved as usize)
 }

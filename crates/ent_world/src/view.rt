@@ -4,9 +4,12 @@ ghost use Rattle.std.specs.declared.cmp.Ordering.TheVariants.{Greater};
 ghost use Rattle.ent_handle.specs.Handle.{Handle as HandleValue, handle_cmp};
 ghost use Rattle.ent_storage.specs.EntityMap.{birth_of, value_of};
 ghost use Rattle.ent_storage.specs.BirthOrder.{ListsAll, ListsWith};
+ghost use Rattle.ent_world.specs.Rows.{AreRows};
 
+use crate::rows::place_of;
+use ent_alloc::Entities;
 use ent_handle::{Birth, ComponentId, Handle, Memory};
-use ent_storage::Storage;
+use ent_storage::Rows;
 use std::marker::Model;
 
 /// What a system can read of a world while others reserve: the world as it was when it was opened.
@@ -31,25 +34,36 @@ use std::marker::Model;
 /// ```
 #[derive(Drop)]
 pub struct View<'a> {
-    storage: &'a Storage,
+    entities: &'a Entities,
+    storage: &'a Rows,
     phase: u64,
 }
 
 impl<'a> Model for View<'a> {
     ghost use Rattle.ent_world.specs.OpenWorld.{View, view_code};
+    ghost use Rattle.ent_world.specs.Rows.{AreRows};
 
     ghost Value = { View };
 
     ghost coded = { view_code };
 
     ghost view = { λ v. record { phase = v.phase; entities = v.storage.now.entities } };
+
+    ghost invariant = { λ v.
+        AreRows v.entities.now.rows v.storage.now.places v.storage.now.entities };
 }
 
 impl<'a> View<'a> {
-    pub(crate) fn new(storage: &'a Storage, phase: u64) -> Self
+    /// A view of the entities in the storage, whose places the opened allocator has as rows.
+    pub(crate) fn new(entities: &'a Entities, storage: &'a Rows, phase: u64) -> Self
+        requires { AreRows entities.now.rows storage.now.places storage.now.entities }
         ensures { result ≡ record { phase = phase; entities = storage.now.entities } }
     {
-        View { storage, phase }
+        View {
+            entities,
+            storage,
+            phase,
+        }
     }
 
     /// Returns `true` if the entity is alive.
@@ -67,7 +81,7 @@ impl<'a> View<'a> {
     pub fn contains(&self, handle: Handle) -> bool
         ensures { result ≡ map.contains_key self.now.entities handle }
     {
-        self.storage.contains(handle)
+        place_of(self.entities, handle).is_some()
     }
 
     /// Returns the value of the entity's component, if the entity is alive and has it.
@@ -87,7 +101,8 @@ impl<'a> View<'a> {
     pub fn get(&self, handle: Handle, id: ComponentId) -> Option<i64>
         ensures { result ≡ value_of self.now.entities handle id }
     {
-        self.storage.get(handle, id)
+        let place = place_of(self.entities, handle)?;
+        self.storage.get_at(place, handle, id)
     }
 
     /// Returns the birth of the entity, if it is alive: when it came to life, and by which system.
@@ -107,7 +122,8 @@ impl<'a> View<'a> {
     pub fn birth(&self, handle: Handle) -> Option<Birth>
         ensures { result ≡ birth_of self.now.entities handle }
     {
-        self.storage.birth(handle)
+        let place = place_of(self.entities, handle)?;
+        Some(self.storage.birth_at(place, handle))
     }
 
     /// Returns the handles of the entities that have the component, ordered by birth and then by

@@ -21,7 +21,7 @@ use ent_alloc::{AllocFault, Entities, FreeFault, Freed, Limits, State};
 use ent_handle::{Birth, ComponentId, Handle, Memory};
 use ent_queue::Bundle;
 use ent_shared::{Reserver, share};
-use ent_storage::{Items, Storage};
+use ent_storage::{Items, Rows};
 use std::alloc::Global;
 use std::marker::Model;
 
@@ -33,7 +33,7 @@ use std::marker::Model;
 #[derive(Drop)]
 pub struct World {
     pub(crate) entities: Entities,
-    pub(crate) storage: Storage,
+    pub(crate) storage: Rows,
     pub(crate) phase: u64,
     pub(crate) alloc: Global,
 }
@@ -77,7 +77,7 @@ impl World {
         prove_eq!(entities.cursor(), 0);
         World {
             entities,
-            storage: Storage::new(alloc),
+            storage: Rows::new(alloc),
             phase: 0,
             alloc,
         }

@@ -3,20 +3,21 @@ ghost use Rattle.std.specs.Prelude.{◌≡◌, IfOk, IfErr, length, ◌<◌};
 ghost use Rattle.ent_blocks.specs.Ending.{TakesAnew};
 ghost use Rattle.ent_world.specs.World.{IsWorld};
 ghost use Rattle.ent_world.specs.InBlocks.{BelongTogether, world_with, world_after};
+ghost use Rattle.ent_world.specs.Rows.{AreRows};
 
 use crate::view::View;
 use crate::world::World;
 use ent_alloc::Entities;
 use ent_blocks::Ended;
 use ent_handle::{HandedBack, Memory};
-use ent_storage::Storage;
+use ent_storage::Rows;
 use std::alloc::Global;
 use std::marker::Model;
 
 /// A world without its allocator, which is in a phase.
 #[derive(Drop)]
 pub struct WorldRest {
-    storage: Storage,
+    storage: Rows,
     phase: u64,
     alloc: Global,
 }
@@ -53,12 +54,13 @@ impl World {
 }
 
 impl WorldRest {
-    /// The world as it was when its phase was opened.
-    pub fn view(&self) -> View<'_>
+    /// The world as it was when its phase was opened, with the allocator as it was then.
+    pub fn view<'a>(&'a self, entities: &'a Entities) -> View<'a>
+        requires { AreRows entities.now.rows self.now.store.places self.now.store.entities }
         ensures phase { result.phase ≡ self.now.phase }
         ensures entities { result.entities ≡ self.now.store.entities }
     {
-        View::new(&self.storage, self.phase)
+        View::new(entities, &self.storage, self.phase)
     }
 
     /// Puts the world together with an allocator that belongs to it, such as the one that it was

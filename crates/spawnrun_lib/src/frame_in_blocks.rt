@@ -72,7 +72,8 @@ where
     let Ok((blocks, reservers)) = open_in_blocks(alloc, entities, sizes) else {
         return Err(Undone::Memory);
     };
-    let filled = fill_in_blocks(rt, alloc, &blocks, reservers, rest.view(), systems, workers);
+    let view = rest.view(blocks.opened());
+    let filled = fill_in_blocks(rt, alloc, &blocks, reservers, view, systems, workers);
     let (queues, reservers) = match filled {
         Ok(filled) => filled,
         Err(refused) => {

@@ -34,10 +34,7 @@ impl Storing {
                 out.word("done");
             }
             "spare_since" => write_change(self.noted, self.storage.spare(), out),
-            name => match name.strip_suffix("_at") {
-                Some(name) => at_place(&mut self.storage, name, call, out),
-                None => change(&mut self.storage, call, out),
-            },
+            _ => change(&mut self.storage, call, out),
         }
     }
 
@@ -92,27 +89,6 @@ fn remove(storage: &mut Storage, call: &Call<'_>, out: &mut Out) {
     match storage.remove(call.handle, call.id()) {
         Ok(value) => out.value(value),
         Err(fault) => out.show(&fault),
-    }
-}
-
-/// The calls whose name ends with `_at`: they are given the place of their handle.
-fn at_place(storage: &mut Storage, name: &str, call: &Call<'_>, out: &mut Out) {
-    let handle = call.handle;
-    let Some(place) = storage.place(handle) else {
-        return out.word("no place");
-    };
-    match name {
-        "get" => out.value(storage.get_at(place, handle, call.id())),
-        "birth" => out.birth(Some(storage.birth_at(place, handle))),
-        "items" => out.entity(Some(storage.items_at(place, handle))),
-        "set_birth" => {
-            storage.set_birth_at(place, handle, call.birth);
-            out.word("done");
-        }
-        "insert" => out.done(storage.insert_at(place, handle, &call.items)),
-        "remove" => out.value(storage.remove_at(place, handle, call.id())),
-        "despawn" => out.value(storage.despawn_at(place, handle)),
-        _ => out.word("no such call"),
     }
 }
 

@@ -6,7 +6,7 @@ use alloc::vec::Vec;
 use crate::kit::prove_eq;
 use crate::kit::vec::FallibleVec;
 use crate::components::image_fault::StorageImageFault;
-use crate::components::storage::Storage;
+use crate::components::rows::Rows;
 use crate::handles::{
     Birth, ComponentId, Handle, OutOfMemory, read_long, read_word, write_long, write_word,
 };
@@ -84,7 +84,7 @@ fn read_value(bytes: &[u8]) -> Option<(Option<i64>, &[u8])>
     Some((Some(number.cast_signed()), rest))
 }
 
-impl Storage {
+impl Rows {
     /// The entities of these handles, in their order, of which these are the bytes, all of them.
     /// They get the places of the handles. There is room for `room` entities in all.
     ///
@@ -128,7 +128,7 @@ impl Storage {
         if width > 256 {
             return Err(StorageImageFault::Width { width });
         }
-        let mut storage = Storage::new();
+        let mut storage = Rows::new();
         storage.reserve(room)?;
         let mut rest = rest;
         for handle in handles {
@@ -156,18 +156,6 @@ impl Storage {
     }
 
     /// Returns the number of components up to the last one that any entity has.
-    ///
-    /// ```
-    /// use forgeni::{Birth, ComponentId, Storage};
-    ///
-    /// let mut storage = Storage::new();
-    /// let cart = "0v1".parse()?;
-    /// storage.born(cart, Birth { frame: 0, system: 0, ordinal: 0 })?;
-    /// storage.insert(cart, &[(ComponentId(9), 1)])?;
-    /// // Components 0 to 9.
-    /// assert_eq!(storage.width(), 10);
-    /// # Ok::<(), Box<dyn std::error::Error>>(())
-    /// ```
     ///
     /// <details><summary>Contract</summary>
     ///
@@ -292,7 +280,7 @@ fn item_of(id: ComponentId, value: i64) -> (ComponentId, i64)
 /// `None` if no values are so written.
 #[inline]
 fn read_values<'a>(
-    storage: &mut Storage,
+    storage: &mut Rows,
     place: usize,
     handle: Handle,
     width: u32,
@@ -332,7 +320,7 @@ fn read_values<'a>(
 /// written.
 #[inline]
 fn read_entity<'a>(
-    storage: &mut Storage,
+    storage: &mut Rows,
     handle: Handle,
     width: u32,
     bytes: &'a [u8],
@@ -358,9 +346,7 @@ fn read_entity<'a>(
     }
     let (birth, rest) = read_birth(bytes);
     let place = storage.len();
-    let Ok(()) = storage.born_within(handle, birth) else {
-        unreachable!()
-    };
+    storage.push(handle, birth);
     let Some(rest) = read_values(storage, place, handle, width, rest)? else {
         return Ok(None);
     };

@@ -3,6 +3,7 @@
 //! What a storage has: the look-ups, which change nothing.
 
 use alloc::vec::Vec;
+use crate::kit::prove_eq;
 use crate::components::items::Items;
 use crate::components::order::handles_in_order;
 use crate::components::storage::Storage;
@@ -295,7 +296,7 @@ impl Storage {
     /// The value of a component of the entity at this place, which has to be that of the handle
     /// (`place`). It takes constant time.
     #[inline(always)]
-    pub(crate) fn get_at(&self, place: usize, handle: Handle, id: ComponentId) -> Option<i64>
+    fn get_at(&self, place: usize, handle: Handle, id: ComponentId) -> Option<i64>
         // requires { slice_get self.now.places place ≡ Some handle }
         // ensures { result ≡ value_of self.now.entities handle id }
     {
@@ -305,20 +306,55 @@ impl Storage {
     /// The components and their values, in ascending order of number, of the entity at this place,
     /// which has to be that of the handle.
     #[inline]
-    pub(crate) fn items_at(&self, place: usize, handle: Handle) -> Items<'_>
+    fn items_at(&self, place: usize, handle: Handle) -> Items<'_>
         // requires { slice_get self.now.places place ≡ Some handle }
         // ensures { option_map map.entries (components_of self.now.entities handle) ≡ Some result }
     {
         self.living.items(place)
     }
 
-    /// When and by whom the entity at this place was brought to life. The place has to be that of
-    /// the handle. It takes constant time.
+    /// Whether any entity has the component.
     #[inline]
-    pub(crate) fn birth_at(&self, place: usize, handle: Handle) -> Birth
-        // requires { slice_get self.now.places place ≡ Some handle }
-        // ensures { birth_of self.now.entities handle ≡ Some result }
+    fn is_held(&self, id: ComponentId) -> bool
+        // ensures { result ≡ is_held self.now.entities self.now.places id.0 }
     {
-        self.living.birth(place)
+        !self.dense(id).is_empty()
+    }
+
+    /// Returns the number of components up to the last one that any entity has.
+    ///
+    /// ```
+    /// use forgeni::{Birth, ComponentId, Storage};
+    ///
+    /// let mut storage = Storage::new();
+    /// let cart = "0v1".parse()?;
+    /// storage.born(cart, Birth { frame: 0, system: 0, ordinal: 0 })?;
+    /// storage.insert(cart, &[(ComponentId(9), 1)])?;
+    /// // Components 0 to 9.
+    /// assert_eq!(storage.width(), 10);
+    /// # Ok::<(), Box<dyn std::error::Error>>(())
+    /// ```
+    ///
+    /// <details><summary>Contract</summary>
+    ///
+    /// <code style="display: block; tab-size: 4; white-space: pre-wrap">// In the words of [contracts](crate::contracts):
+    /// ensures value { result ≡ [width](crate::contracts::ent_storage::image#width) self.now.entities self.now.places }
+    /// ensures most { result ≤ 256 }
+    /// ensures within { (h : [Handle](crate::contracts::ent_handle::handle#Handle)) (id : Component) (v : [ℤ](crate::contracts::logic#ℤ))
+    /// &#9;→ [value_of](crate::contracts::ent_storage::entity_map#value_of) self.now.entities h id ≡ [Some](crate::contracts::logic#Some) v → id.0 \< result }
+    /// </code>
+    ///
+    /// </details>
+    #[inline]
+    pub fn width(&self) -> u32 {
+        // Each component has a column, and there are no more than 256.
+        prove_eq!(self.living.beyond(), 0);
+        let mut width = 0;
+        for number in 0..256 {
+            if self.is_held(ComponentId(number as u8)) {
+                width = number + 1;
+            }
+        }
+        width
     }
 }

@@ -4,7 +4,8 @@
 //!
 //! `Storage` keeps the entities in one vector. An entity's *place* is its position there. Beside
 //! the vector an index has the place of each handle, and for each component number a sparse set has
-//! the values, by places.
+//! the values, by places. `Rows` has no index: its caller keeps the places, as a world does in the
+//! rows of its allocator.
 //!
 //! [`InlineBundle`] has components and their values by themselves, as commands carry them. And [`search`]
 //! finds the position of a key among pairs of a key and a value, by strictly rising key.
@@ -30,6 +31,7 @@ mod living;
 mod order;
 mod pairs;
 mod places;
+mod rows;
 mod slot;
 mod sparse_set;
 
@@ -38,4 +40,5 @@ pub use fault::StorageError;
 pub use image_fault::StorageImageFault;
 pub use items::Items;
 pub(crate) use pairs::search;
+pub use rows::Rows;
 pub use storage::Storage;

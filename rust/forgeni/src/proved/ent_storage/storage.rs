@@ -562,18 +562,6 @@ impl Storage {
 }
 
 impl Storage {
-    /// Changes the birth of the entity at this place, which has to be that of the handle, and
-    /// leaves the rest. It takes constant time and doesn't allocate.
-    #[inline]
-    pub(crate) fn set_birth_at(&mut self, place: usize, handle: Handle, birth: Birth)
-        // requires { slice_get self.old.places place ≡ Some handle }
-        // ensures entities { self.new.entities ≡ with_birth self.old.entities handle birth }
-        // ensures spare { self.new.spare ≡ self.old.spare }
-        // ensures places { self.new.places ≡ self.old.places }
-    {
-        self.living.set_birth(place, birth);
-    }
-
     /// Whether there is room for one more entity.
     #[inline(always)]
     fn has_spare(&self) -> bool
@@ -590,7 +578,7 @@ impl Storage {
     ///
     /// `Present`: the entity is there already. Nothing has changed.
     #[inline(always)]
-    pub(crate) fn born_within(&mut self, handle: Handle, birth: Birth) -> Result<(), StorageError>
+    fn born_within(&mut self, handle: Handle, birth: Birth) -> Result<(), StorageError>
         // requires room { 0 < self.old.spare }
         // ensures ok { OnOk result
         //     (self.new.entities ≡ map.insert self.old.entities handle (newborn birth)) }
@@ -626,7 +614,7 @@ impl Storage {
     /// The time is that of a look-up, for the entity that moves, and of a look at each component
     /// that any entity has ever had.
     #[inline(always)]
-    pub(crate) fn despawn_at(&mut self, place: usize, handle: Handle) -> Option<Handle>
+    fn despawn_at(&mut self, place: usize, handle: Handle) -> Option<Handle>
         // requires { slice_get self.old.places place ≡ Some handle }
         // ensures entities { self.new.entities ≡ map.remove self.old.entities handle }
         // ensures spare { self.new.spare ≡ self.old.spare + 1 }
@@ -654,7 +642,7 @@ impl Storage {
     ///
     /// Out of memory for the components that the entity does not have yet. Nothing has changed.
     #[inline(always)]
-    pub(crate) fn insert_at(
+    fn insert_at(
         &mut self,
         place: usize,
         handle: Handle,
@@ -679,7 +667,7 @@ impl Storage {
     /// Returns the value that it had, or `None` if the entity does not have it. It takes constant
     /// time and doesn't allocate.
     #[inline(always)]
-    pub(crate) fn remove_at(&mut self, place: usize, handle: Handle, id: ComponentId) -> Option<i64>
+    fn remove_at(&mut self, place: usize, handle: Handle, id: ComponentId) -> Option<i64>
         // requires { slice_get self.old.places place ≡ Some handle }
         // ensures value { result ≡ value_of self.old.entities handle id }
         // ensures entities { self.new.entities

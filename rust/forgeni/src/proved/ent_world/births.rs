@@ -2,36 +2,47 @@
 
 //! What a flush brings to life enters the storage, each entity with its birth.
 //!
-//! All enter in the order of the flush, and nothing moves: the storage's index has room for a pair
-//! of each slot that is made by then. A fresh slot comes after all others, and an old one has its
-//! pair. If a phase in blocks has made slots that the index does not have yet, the first birth past
-//! them brings their pairs. The births are of no system at first. Then the queues name them, one
-//! after the other, and an entity that has the birth of a system keeps it. Those that no queue
-//! lists are numbered at last. So the time grows with the number of births and of new slots alone,
-//! in any order, as long as the storage's index has dropped no pair (`ent_storage`).
+//! All enter in the order of the flush, and get the next places: the allocator keeps each with its
+//! handle. The births are of no system at first. Then the queues name them, one after the other,
+//! and an entity that has the birth of a system keeps it. Those that no queue lists are numbered at
+//! last. So the time grows with the number of births alone.
 
 use crate::worlds::rows::place_of;
 use crate::allocator::Entities;
 use crate::handles::{Birth, Handle};
 use crate::commands::{IssuedCommands, Entry, Handles};
-use crate::components::Storage;
+use crate::components::Rows;
 
 /// The number of no system: births of handles that no queue lists have it.
 const NO_SYSTEM: u32 = u32::MAX;
 
-/// Enters all that are born, each with the first birth of no system. There has to be room for them.
+/// Enters all that are born, each with the first birth of no system, and keeps the next places with
+/// them, from the first one on. There has to be room for them.
 #[inline]
-pub(super) fn enter_all(storage: &mut Storage, phase: u64, handles: &[Handle])
+pub(super) fn enter_all(
+    entities: &mut Entities,
+    storage: &mut Rows,
+    phase: u64,
+    first: u32,
+    handles: &[Handle],
+)
+    // requires living { All (λ h. set.contains entities.old.allocator.live h ≡ true) handles.now }
+    // requires fits { first + length handles.now < 2 ^ 32 }
     // requires new { AreNew handles.now storage.old.entities }
     // requires room { length handles.now ≤ storage.old.spare }
+    // ensures rows { entities.new.rows ≡ with_rows entities.old.rows first handles.now }
+    // ensures allocator { entities.new.allocator ≡ entities.old.allocator }
     // ensures entered { storage.new.entities ≡ with_born
     //     storage.old.entities (λ _. first_birth phase no_system) handles.now }
     // ensures places { storage.new.places ≡ storage.old.places ++ handles.now }
     // ensures spare { storage.new.spare + length handles.now ≡ storage.old.spare }
 {
     let birth = first_birth(phase, NO_SYSTEM);
+    let mut row = first;
     for handle in handles {
-        let _ = storage.born_within(*handle, birth);
+        storage.push(*handle, birth);
+        entities.set_row(*handle, row);
+        row += 1;
     }
 }
 
@@ -40,7 +51,7 @@ pub(super) fn enter_all(storage: &mut Storage, phase: u64, handles: &[Handle])
 #[inline]
 pub(super) fn name_listed(
     entities: &Entities,
-    storage: &mut Storage,
+    storage: &mut Rows,
     before: usize,
     phase: u64,
     queues: &[IssuedCommands],
@@ -64,7 +75,7 @@ pub(super) fn name_listed(
 
 /// Numbers those of the handles that no queue lists. They stand from the place `before` on.
 #[inline]
-pub(super) fn number_others(storage: &mut Storage, before: usize, phase: u64, handles: &[Handle])
+pub(super) fn number_others(storage: &mut Rows, before: usize, phase: u64, handles: &[Handle])
     // requires { drop before storage.old.places ≡ handles.now }
     // ensures numbered { storage.new.entities ≡ numbered
     //     (first_birth phase no_system) handles.now storage.old.entities }
@@ -85,7 +96,7 @@ pub(super) fn number_others(storage: &mut Storage, before: usize, phase: u64, ha
 #[inline]
 fn name_queue(
     entities: &Entities,
-    storage: &mut Storage,
+    storage: &mut Rows,
     before: usize,
     first: Birth,
     queue: &IssuedCommands,
@@ -106,7 +117,7 @@ fn name_queue(
 #[inline]
 fn name_entry(
     entities: &Entities,
-    storage: &mut Storage,
+    storage: &mut Rows,
     before: usize,
     birth: Birth,
     entry: Entry<'_>,
@@ -134,7 +145,7 @@ fn name_entry(
 #[inline]
 fn name_handles(
     entities: &Entities,
-    storage: &mut Storage,
+    storage: &mut Rows,
     before: usize,
     first: Birth,
     handles: Handles<'_>,
@@ -156,7 +167,7 @@ fn name_handles(
 
 /// Gives the entity its birth, if it is born now and has none of a system yet.
 #[inline]
-fn name(entities: &Entities, storage: &mut Storage, before: usize, handle: Handle, birth: Birth)
+fn name(entities: &Entities, storage: &mut Rows, before: usize, handle: Handle, birth: Birth)
     // requires { ArePlaces entities.now.rows storage.old.places }
     // ensures named { storage.new.entities ≡ named
     //     (drop before storage.old.places) handle birth storage.old.entities }

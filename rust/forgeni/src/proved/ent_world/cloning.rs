@@ -5,7 +5,7 @@
 use crate::worlds::world::World;
 use crate::allocator::{Entities, Limits, Prepared};
 use crate::handles::OutOfMemory;
-use crate::components::Storage;
+use crate::components::Rows;
 use core::mem;
 
 impl World {
@@ -85,9 +85,9 @@ impl World {
 #[inline]
 fn prepare(
     prepared: &mut Prepared,
-    storage: &mut Storage,
+    storage: &mut Rows,
     entities: &Entities,
-    source: &Storage,
+    source: &Rows,
 ) -> Result<(), OutOfMemory>
     // ensures allocator { prepared.new.entities ≡ prepared.old.entities }
     // ensures slots { OnOk result (entities.now.allocator.made ≤ prepared.new.slots) }
@@ -109,7 +109,7 @@ fn prepare(
 
 /// A storage of the same entities, with as much room. Without slots and entities it has none.
 #[inline]
-fn copied(storage: &Storage, slots: u32) -> Result<Storage, OutOfMemory>
+fn copied(storage: &Rows, slots: u32) -> Result<Rows, OutOfMemory>
     // ensures entities { IfOk result (λ copy. copy.entities ≡ storage.now.entities) }
     // ensures places { IfOk result (λ copy. copy.places ≡ storage.now.places) }
     // ensures spare { IfOk result (λ copy. 0 < slots → storage.now.spare ≤ copy.spare) }
@@ -117,7 +117,7 @@ fn copied(storage: &Storage, slots: u32) -> Result<Storage, OutOfMemory>
 {
     let entities = storage.len();
     if slots == 0 && entities == 0 {
-        return Ok(Storage::new());
+        return Ok(Rows::new());
     }
     storage.try_clone()
 }
@@ -125,11 +125,7 @@ fn copied(storage: &Storage, slots: u32) -> Result<Storage, OutOfMemory>
 /// Lets a storage take over the entities of another one, with as much room. Without slots and
 /// entities it doesn't allocate.
 #[inline]
-fn copy_into(
-    storage: &mut Storage,
-    source: &Storage,
-    slots: u32,
-) -> Result<(), OutOfMemory>
+fn copy_into(storage: &mut Rows, source: &Rows, slots: u32) -> Result<(), OutOfMemory>
     // ensures entities { OnOk result (storage.new.entities ≡ source.now.entities) }
     // ensures places { OnOk result (storage.new.places ≡ source.now.places) }
     // ensures spare { OnOk result (0 < slots → source.now.spare ≤ storage.new.spare) }
@@ -139,7 +135,7 @@ fn copy_into(
 {
     let entities = source.len();
     if slots == 0 && entities == 0 {
-        storage.try_clone_from(&Storage::new())
+        storage.try_clone_from(&Rows::new())
     } else {
         storage.try_clone_from(source)
     }

@@ -9,7 +9,7 @@ use crate::worlds::rows::{place_of, set_rows};
 use crate::worlds::world::World;
 use crate::allocator::{Entities, ImageFault, Living};
 use crate::handles::{Handle, OutOfMemory, read_long, read_word, write_long, write_word};
-use crate::components::{Storage, StorageImageFault};
+use crate::components::{Rows, StorageImageFault};
 
 /// The letters `FORGENW` and a zero, the first one lowest.
 const MAGIC: u64 = 0x0057_4e45_4752_4f46;
@@ -78,7 +78,7 @@ fn read_header(bytes: &[u8]) -> Result<(u64, &[u8], &[u8]), WorldImageFault>
 #[inline]
 fn write_entities(
     entities: &Entities,
-    storage: &Storage,
+    storage: &Rows,
     handles: Living<'_>,
     width: u32,
     extra: u32,
@@ -160,7 +160,7 @@ fn read_storage(
     handles: &[Handle],
     room: usize,
     bytes: &[u8],
-) -> Result<Storage, WorldImageFault>
+) -> Result<Rows, WorldImageFault>
     // requires apart { AllPairs (λ g h. g ≢ h) handles.now }
     // requires room { length handles.now ≤ room }
     // ensures found { IfOk result (λ s. entities_bytes s.entities handles.now ≡ bytes.now) }
@@ -176,7 +176,7 @@ fn read_storage(
     //     → IsRestFault handles.now bytes.now fault) }
     // ensures memory { IfErr result (λ fault. fault ≡ WorldImageFault.Memory → 0 < room) }
 {
-    match Storage::read_image(handles, room, bytes) {
+    match Rows::read_image(handles, room, bytes) {
         Ok(storage) => Ok(storage),
         Err(StorageImageFault::Memory) => Err(WorldImageFault::Memory),
         Err(fault) => Err(WorldImageFault::Storage(fault)),

@@ -4,18 +4,18 @@ use alloc::vec::Vec;
 use crate::worlds::view::View;
 use crate::worlds::world::World;
 use crate::reserving::{SharedReserver, SharedSource};
-use crate::components::Storage;
+use crate::components::Rows;
 
 /// A world in a phase: many callers reserve from its allocator at once, and read the rest of it.
 pub struct OpenWorld {
     shared: SharedSource,
-    storage: Storage,
+    storage: Rows,
     phase: u64,
 }
 
 impl OpenWorld {
     #[inline]
-    pub(super) fn new(shared: SharedSource, storage: Storage, phase: u64) -> Self
+    pub(super) fn new(shared: SharedSource, storage: Rows, phase: u64) -> Self
         // requires world { IsOpenWorld
         //     (record { shared = shared; phase = phase; entities = storage.entities }) }
         // requires rows { AreRows shared.rows storage.places storage.entities }
@@ -56,7 +56,7 @@ impl OpenWorld {
     /// </details>
     #[inline]
     pub fn view(&self) -> View<'_> {
-        View::new(&self.storage, self.phase)
+        View::new(self.shared.opened(), &self.storage, self.phase)
     }
 
     /// Ends the phase with all its reservers, as [`SharedSource::close`] does. Nothing of the world but

@@ -5,7 +5,7 @@
 
 use crate::allocator::{AllocError, Entities};
 use crate::handles::{Birth, ComponentId, Handle, OutOfMemory};
-use crate::components::Storage;
+use crate::components::Rows;
 
 /// The handle that `alloc` gives next.
 #[inline(always)]
@@ -32,7 +32,7 @@ pub(super) fn next_handle(entities: &Entities) -> Result<Handle, AllocError>
 /// is not there.
 #[inline(always)]
 pub(super) fn make(
-    storage: &mut Storage,
+    storage: &mut Rows,
     place: usize,
     handle: Handle,
     birth: Birth,
@@ -49,9 +49,8 @@ pub(super) fn make(
     // ensures err { OnErr result (storage.new.entities ≡ storage.old.entities) }
     // ensures unplaced { OnErr result (storage.new.places ≡ storage.old.places) }
 {
-    if storage.born(handle, birth).is_err() {
-        return Err(OutOfMemory);
-    }
+    storage.reserve(1)?;
+    storage.push(handle, birth);
     if storage.insert_at(place, handle, items).is_err() {
         let _ = storage.despawn_at(place, handle);
         return Err(OutOfMemory);

@@ -6,13 +6,12 @@ use alloc::vec::Vec;
 use crate::worlds::applying::Applying;
 use crate::worlds::births::{enter_all, name_listed, number_others};
 use crate::worlds::fault::{SyncFault, Report};
-use crate::worlds::rows::set_rows;
 use crate::worlds::stop::{At, Stop};
 use crate::worlds::world::World;
 use crate::allocator::Entities;
 use crate::handles::{Handle, OutOfMemory};
 use crate::commands::IssuedCommands;
-use crate::components::Storage;
+use crate::components::Rows;
 
 impl World {
     /// The sync point: brings to life what is reserved, each entity with its birth by these queues,
@@ -162,8 +161,13 @@ impl World {
         let first = self.entities.len();
         self.entities.flush(&mut handles)?;
         let before = first as usize;
-        enter_all(&mut self.storage, self.phase, &handles);
-        set_rows(&mut self.entities, first, &handles);
+        enter_all(
+            &mut self.entities,
+            &mut self.storage,
+            self.phase,
+            first,
+            &handles,
+        );
         name_listed(
             &self.entities,
             &mut self.storage,
@@ -177,10 +181,9 @@ impl World {
     }
 }
 
-/// Makes room for what is reserved, and in the storage's index for each slot that is made by then.
-/// If nothing is reserved, it doesn't allocate.
+/// Makes room for what is reserved. If nothing is, it doesn't allocate.
 #[inline(always)]
-fn reserve_births(entities: &Entities, storage: &mut Storage) -> Result<(), OutOfMemory>
+fn reserve_births(entities: &Entities, storage: &mut Rows) -> Result<(), OutOfMemory>
     // ensures entities { storage.new.entities ≡ storage.old.entities }
     // ensures places { storage.new.places ≡ storage.old.places }
     // ensures ok { OnOk result (length entities.now.allocator.taken ≤ storage.new.spare) }
@@ -191,9 +194,5 @@ fn reserve_births(entities: &Entities, storage: &mut Storage) -> Result<(), OutO
     if reserved == 0 {
         return Ok(());
     }
-    storage.reserve(reserved as usize)?;
-    // The old slots come first.
-    let fresh = reserved.saturating_sub(entities.top());
-    storage.reserve_slots(entities.total() as usize + fresh as usize)?;
-    Ok(())
+    storage.reserve(reserved as usize)
 }

@@ -1,8 +1,10 @@
 // Made of crates/ent_world/src/view.rt by rust/erase. It isn't edited by hand.
 
 use alloc::vec::Vec;
+use crate::worlds::rows::place_of;
+use crate::allocator::Entities;
 use crate::handles::{Birth, ComponentId, Handle, OutOfMemory};
-use crate::components::Storage;
+use crate::components::Rows;
 
 /// What a system can read of a world while others reserve: the world as it was when it was opened.
 ///
@@ -25,16 +27,23 @@ use crate::components::Storage;
 /// # Ok::<(), Box<dyn std::error::Error>>(())
 /// ```
 pub struct View<'a> {
-    storage: &'a Storage,
+    entities: &'a Entities,
+    storage: &'a Rows,
     phase: u64,
 }
 
 impl<'a> View<'a> {
+    /// A view of the entities in the storage, whose places the opened allocator has as rows.
     #[inline]
-    pub(super) fn new(storage: &'a Storage, phase: u64) -> Self
+    pub(super) fn new(entities: &'a Entities, storage: &'a Rows, phase: u64) -> Self
+        // requires { AreRows entities.now.rows storage.now.places storage.now.entities }
         // ensures { result ≡ record { phase = phase; entities = storage.now.entities } }
     {
-        View { storage, phase }
+        View {
+            entities,
+            storage,
+            phase,
+        }
     }
 
     /// Returns `true` if the entity is alive.
@@ -59,7 +68,7 @@ impl<'a> View<'a> {
     /// </details>
     #[inline]
     pub fn contains(&self, handle: Handle) -> bool {
-        self.storage.contains(handle)
+        place_of(self.entities, handle).is_some()
     }
 
     /// Returns the value of the entity's component, if the entity is alive and has it.
@@ -86,7 +95,8 @@ impl<'a> View<'a> {
     /// </details>
     #[inline]
     pub fn get(&self, handle: Handle, id: ComponentId) -> Option<i64> {
-        self.storage.get(handle, id)
+        let place = place_of(self.entities, handle)?;
+        self.storage.get_at(place, handle, id)
     }
 
     /// Returns the birth of the entity, if it is alive: when it came to life, and by which system.
@@ -113,7 +123,8 @@ impl<'a> View<'a> {
     /// </details>
     #[inline]
     pub fn birth(&self, handle: Handle) -> Option<Birth> {
-        self.storage.birth(handle)
+        let place = place_of(self.entities, handle)?;
+        Some(self.storage.birth_at(place, handle))
     }
 
     /// Returns the handles of the entities that have the component, ordered by birth and then by

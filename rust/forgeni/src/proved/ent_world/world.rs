@@ -9,7 +9,7 @@ use crate::allocator::{AllocError, Entities, FreeError, Freed, Limits, State};
 use crate::handles::{Birth, ComponentId, Handle, OutOfMemory};
 use crate::commands::Bundle;
 use crate::reserving::{SharedReserver, share};
-use crate::components::{Items, Storage};
+use crate::components::{Items, Rows};
 
 /// The living entities and their components.
 ///
@@ -18,7 +18,7 @@ use crate::components::{Items, Storage};
 /// their births and components.
 pub struct World {
     pub(super) entities: Entities,
-    pub(super) storage: Storage,
+    pub(super) storage: Rows,
     pub(super) phase: u64,
 }
 
@@ -40,7 +40,7 @@ impl World {
         prove_eq!(entities.cursor(), 0);
         World {
             entities,
-            storage: Storage::new(),
+            storage: Rows::new(),
             phase: 0,
         }
     }

@@ -7,11 +7,11 @@ use crate::worlds::world::World;
 use crate::allocator::Entities;
 use crate::in_blocks::Ended;
 use crate::handles::{HandedBack, OutOfMemory};
-use crate::components::Storage;
+use crate::components::Rows;
 
 /// A world without its allocator, which is in a phase.
 pub struct WorldRest {
-    storage: Storage,
+    storage: Rows,
     phase: u64,
 }
 
@@ -42,19 +42,14 @@ impl World {
 }
 
 impl WorldRest {
-    /// The world as it was when its phase was opened.
-    ///
-    /// <details><summary>Contract</summary>
-    ///
-    /// <code style="display: block; tab-size: 4; white-space: pre-wrap">// In the words of [contracts](crate::contracts):
-    /// ensures phase { result.phase ≡ self.now.phase }
-    /// ensures entities { result.entities ≡ self.now.store.entities }
-    /// </code>
-    ///
-    /// </details>
+    /// The world as it was when its phase was opened, with the allocator as it was then.
     #[inline]
-    pub fn view(&self) -> View<'_> {
-        View::new(&self.storage, self.phase)
+    pub(crate) fn view<'a>(&'a self, entities: &'a Entities) -> View<'a>
+        // requires { AreRows entities.now.rows self.now.store.places self.now.store.entities }
+        // ensures phase { result.phase ≡ self.now.phase }
+        // ensures entities { result.entities ≡ self.now.store.entities }
+    {
+        View::new(entities, &self.storage, self.phase)
     }
 
     /// Puts the world together with an allocator that belongs to it, such as the one that it was

@@ -6,7 +6,7 @@ use Rattle.ent_world.proofs.Born.{born-new, births_given, distinct}
 use Rattle.ent_world.proofs.PlacedRows.{rows-born, rows-count, born-fit}
 use Rattle.ent_world.proofs.Worlds.{room-after_flush, after_births-world}
 use Rattle.ent_world.proofs.world.World.bring_to_life.Goals.{After-len-first, After-deref}
-use Rattle.ent_world.proofs.world.World.bring_to_life.Goals.{After-set_rows, After-number_others}
+use Rattle.ent_world.proofs.world.World.bring_to_life.Goals.{After-enter_all, After-number_others}
 use Rattle.ent_world.proofs.world.World.bring_to_life.Goals as goal
 
 -- the first that is born has the next place
@@ -25,20 +25,19 @@ enter_all-requires-clause-new c = search (rules, are_born, born-new)
 pub enter_all-requires-clause-room : goal.enter_all-requires-clause-room
 enter_all-requires-clause-room c = search (rules, length_permutation, born-IsPermutation, are_born)
 
-pub set_rows-requires-clause-living : goal.set_rows-requires-clause-living
-set_rows-requires-clause-living c = search (rules, are_born, born-lives)
+pub enter_all-requires-clause-living : goal.enter_all-requires-clause-living
+enter_all-requires-clause-living c = search (rules, are_born, born-lives)
 
-pub set_rows-requires-clause-fits : goal.set_rows-requires-clause-fits
-set_rows-requires-clause-fits c =
-    let at = goal.at.set_rows-requires-clause-fits c in
-    let all =
-    ap length (c.deref-2.ensures.value ∙ sym c.deref.ensures.value ∙ are_born at.After-deref) in
+pub enter_all-requires-clause-fits : goal.enter_all-requires-clause-fits
+enter_all-requires-clause-fits c =
+    let at = goal.at.enter_all-requires-clause-fits c in
+    let all = ap length (are_born at.After-deref) in
     let fit = born-fit c.self.inside.entities.allocator c.self.invariant.world.sound
     c.self.invariant.world.living c.self.invariant.rows in
     omega (arith, all, next_place at.After-len-first, fit)
 
 -- those that are born stand after the others, and have their places as rows
-placed : (c : After-set_rows) (birth : Handle → Birth) → AreRows c.set_rows.new.entities.rows
+placed : (c : After-enter_all) (birth : Handle → Birth) → AreRows c.enter_all.new.entities.rows
     c.enter_all.new.storage.places
     (with_born c.self.inside.storage.entities birth (born c.self.inside.entities.allocator))
 placed c birth =
@@ -49,10 +48,10 @@ placed c birth =
 
 pub name_listed-requires-clause-rows : goal.name_listed-requires-clause-rows
 name_listed-requires-clause-rows c =
-    (placed (goal.at.name_listed-requires-clause-rows c).After-set_rows (λ _. first_birth 0 0)).at
+    (placed (goal.at.name_listed-requires-clause-rows c).After-enter_all (λ _. first_birth 0 0)).at
 
 -- they stand from the first place on
-stand : (c : After-set_rows) → drop c.len-first.result c.enter_all.new.storage.places
+stand : (c : After-enter_all) → drop c.len-first.result c.enter_all.new.storage.places
     ≡ c.deref.result.now
 stand c = rw next_place (search (rules, drop_at))
 
@@ -69,7 +68,7 @@ entered : (c : After-number_others)
 entered c stand_there =
     let s = c.self.inside.entities.allocator in
     let are : c.deref.result.now ≡ born s = search (rules, are_born) in
-    let again : c.deref-3.result.now ≡ born s = search (rules, are) in
+    let again : c.deref-2.result.now ≡ born s = search (rules, are) in
     let given =
     births_given c.self.inside.storage.entities c.self.inside.phase c.args.queues.now (born s)
     (distinct (born s) (born-apart s c.self.invariant.world.sound)) c.requires in
@@ -81,13 +80,13 @@ risen : (c : After-number_others) → (phase : ℕ) → c.number_others.new.stor
     ≡ with_born c.self.inside.storage.entities (birth_in c.self.inside.phase c.args.queues.now
     (born c.self.inside.entities.allocator)) (born c.self.inside.entities.allocator)
     → IsWorld (record {
-      allocator = c.set_rows.new.entities.allocator;
+      allocator = c.enter_all.new.entities.allocator;
       phase = phase;
       entities = c.number_others.new.storage.entities;
     })
 risen c phase all =
     let is = after_births-world c.args.queues.now _ c.self.invariant.world in
-    rw (all, c.set_rows.ensures.allocator, c.in_ok-flush.ensures.ok)
+    rw (all, c.enter_all.ensures.allocator, c.in_ok-flush.ensures.ok)
     (record { sound = is.sound; living = is.living })
 
 pub invariant_of-self-2 : goal.invariant_of-self-2
@@ -95,17 +94,17 @@ invariant_of-self-2 c =
     let at = goal.at.invariant_of-self-2 c in
     let s = c.self.inside.entities.allocator in
     let i = c.self.invariant in
-    let all = entered at.After-number_others (stand at.After-set_rows) in
+    let all = entered at.After-number_others (stand at.After-enter_all) in
     let long = ap length (are_born at.After-deref) in
     let same = length_permutation s.taken (born s) (born-IsPermutation s) in
     record {
       world = risen at.After-number_others c.saturating_add-self-inside.result all;
       rows =
           rw (c.number_others.ensures.places, c.name_listed.ensures.places, all)
-          (placed at.After-set_rows _);
+          (placed at.After-enter_all _);
       -- there is room for each that waits still
       room =
-          rw (c.set_rows.ensures.allocator, c.in_ok-flush.ensures.ok)
+          rw (c.enter_all.ensures.allocator, c.in_ok-flush.ensures.ok)
           (room-after_flush s c.reserve_births.new.storage.spare c.number_others.new.storage.spare
           i.world.sound (omega (arith, c.reserve_births.ensures.grows, i.room))
           (omega (
@@ -119,8 +118,8 @@ invariant_of-self-2 c =
 pub returns-clause-ok : goal.returns-clause-ok
 returns-clause-ok c =
     let at = goal.at.returns-clause-ok c in
-    let all = entered at.After-number_others (stand at.After-set_rows) in
-    search (rules, all, c.set_rows.ensures.allocator, c.in_ok-flush.ensures.ok)
+    let all = entered at.After-number_others (stand at.After-enter_all) in
+    search (rules, all, c.enter_all.ensures.allocator, c.in_ok-flush.ensures.ok)
 
 pub returns-clause-world : goal.returns-clause-world
 returns-clause-world c = search (rules, risen, entered, stand)
