@@ -120,7 +120,7 @@ fn packed(birth: Birth) -> u128
     ensures system { birth.system < 2 ^ 32 }
     ensures ordinal { birth.ordinal < 2 ^ 32 }
 {
-    (u128::from(birth.frame) << 64) + (u128::from(birth.system) << 32) + u128::from(birth.ordinal)
+    ((birth.frame as u128) << 64) + ((birth.system as u128) << 32) + birth.ordinal as u128
 }
 
 fn handles(alloc: Global, births: &[(Birth, Handle)]) -> Result<Vec<Handle>, AllocError>
