@@ -266,10 +266,14 @@ pushed_all count many bytes new cs e packed are written =
     let old = unpacked_commands count bytes in
     let all : All IsCommand (old ++ cs) = All-append IsCommand old cs packed.each are in
     let whole : queue_bytes (old ++ cs) ≡ new = grind (arith, common_steps, flat_map-append) in
-    let long : length (old ++ cs) ≡ count + many = search (rules, length-append, length_of_commands) in
+    let long : length (old ++ cs) ≡ count + many = search
+    (rules, length-append, length_of_commands) in
     record {
-      packed = subst (λ n. ArePacked n new) long (subst (λ it. ArePacked (length (old ++ cs)) it) whole (are_packed (old ++ cs) all));
-      commands = subst (λ n. unpacked_commands n new ≡ old ++ cs) long (subst (λ it. unpacked_commands (length (old ++ cs)) it ≡ old ++ cs) whole (unpacked_commands-bytes (old ++ cs) all));
+      packed = subst (λ n. ArePacked n new) long
+          (subst (λ it. ArePacked (length (old ++ cs)) it) whole (are_packed (old ++ cs) all));
+      commands = subst (λ n. unpacked_commands n new ≡ old ++ cs) long
+          (subst (λ it. unpacked_commands (length (old ++ cs)) it ≡ old ++ cs) whole
+          (unpacked_commands-bytes (old ++ cs) all));
     }
 
 -- an insertion of the items for each handle
@@ -295,7 +299,8 @@ pub inserted_each : (count : ℕ) (bytes new : List ℕ) (items : Bundle) (rest 
     → PushedAll count (length hs) bytes new (inserts items hs)
 inserted_each count bytes new items rest hs packed is all e written =
     pushed_all count (length hs) bytes new (inserts items hs) (search (rules, length-map)) packed
-    (inserts_are items hs is all) (written ∙ ap (λ more. bytes ++ more) (each_written items rest hs e))
+    (inserts_are items hs is all)
+    (written ∙ ap (λ more. bytes ++ more) (each_written items rest hs e))
 
 -- room for all of some pieces of one length has room for one more than those before
 pub piece_fits : (i n piece : ℕ) → i < n → i * piece + piece ≤ n * piece

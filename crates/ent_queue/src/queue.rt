@@ -10,8 +10,10 @@ ghost use Rattle.ent_queue.specs.Packing.{queue_bytes};
 
 use crate::entries::Entries;
 use crate::kind::{INSERT, SPAWN};
-use crate::writing::{write_bundle, write_despawn, write_each, write_many, write_refused};
-use crate::writing::{write_remove, write_with_bundle};
+use crate::writing::{
+    write_bundle, write_despawn, write_each, write_many, write_refused, write_remove,
+    write_with_bundle,
+};
 use ent_alloc::{ReserveError as QueueFault, Source};
 use ent_handle::{ComponentId, Handle, Memory};
 use std::alloc::Global;

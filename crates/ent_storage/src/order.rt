@@ -1,8 +1,8 @@
 ghost use Rattle.std.specs.Prelude.{◌≡◌, ◌≢◌, ◌⊎◌, ◌<◌, IfOk, IfSome, OnErr, Some, map, length, true};
+ghost use Rattle.std.specs.Prelude.{◌^◌};
 ghost use Rattle.std.specs.List.Sorted.{IsPermutation, IsSorted};
 ghost use Rattle.std.specs.declared.cmp.Ordering.TheVariants.{Greater};
 ghost use Rattle.ent_handle.specs.Handle.{handle_cmp};
-ghost use Rattle.std.specs.Prelude.{◌^◌};
 ghost use Rattle.ent_storage.specs.BirthOrder.{IsInOrder, IsLeastOf, packed_birth, pair_cmp};
 
 use super::living::Resident;

@@ -6,7 +6,8 @@ abbrev pub invariant-loop-handle : goal.invariant-loop-handle
 invariant-loop-handle l = record {
   each : All IsHandle (take l.handle-index l.handles);
   items : l.bytes.items ≡ l.initial.bytes.items
-      ++ flat_map (λ (h : Handle). l.kind ∷ (handle_bytes h ++ l.rest)) (take l.handle-index l.handles);
+      ++ flat_map (λ (h : Handle). l.kind ∷ (handle_bytes h ++ l.rest))
+      (take l.handle-index l.handles);
   len : vec_len l.bytes ≡ vec_len l.initial.bytes + l.handle-index * (9 + length l.rest);
   capacity : vec_capacity l.initial.bytes ≤ vec_capacity l.bytes;
 }
