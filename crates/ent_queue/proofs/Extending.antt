@@ -8,7 +8,7 @@ use Rattle.ent_queue.proofs.Common.{Replying, Request, served_none, served_one, 
 use Rattle.ent_queue.proofs.Common.{Command, Spawn, SpawnMany, Refused, requests_of, refused_by}
 use Rattle.ent_queue.proofs.Common.{queued, as_list, returned, refusal_entered, Entry, Commands}
 use Rattle.ent_queue.proofs.Common.{Extends, IsReady, output_of, reserver_of, source_of, Issues}
-use Rattle.ent_queue.proofs.Common.{Logs, request_of}
+use Rattle.ent_queue.proofs.Common.{Logs, request_of, Insert, flat_map, map, sym}
 use Rattle.ent_alloc.specs.declared.reserve_error.ReserveError.TheVariants as fault
 use Rattle.ent_log.specs.declared.entry.Entry.TheVariants as entry
 
@@ -83,6 +83,12 @@ module _ {S R : Type 0} {serves : S → R → Type 0} {may : S → Replying R} w
       → Extends Issues serves may b c → Extends Issues serves may a c
   extends_then = then_extends Issues serves may issues_more
 
+-- an insertion reserves nothing
+pub inserts_request_nothing : (items : Bundle) (hs : List Handle)
+    → flat_map requests_of (map (λ h. Insert h items) hs) ≡ []
+inserts_request_nothing items [] = refl
+inserts_request_nothing items (h ∷ hs) = search (rules, inserts_request_nothing items hs)
+
 module _ {R : Type 0} (may : Replying R) (old new : List Command) (before after : R) where
   -- a command that reserves nothing, or no command
   pub called_none : {E : Type 0} (c : Command) (result : Result (Unit {0}) E) → requests_of c ≡ []
@@ -94,6 +100,21 @@ module _ {R : Type 0} (may : Replying R) (old new : List Command) (before after 
     served = served_none may before after same;
   }
   called_none c (Err why) none ok err same = record {
+    requests = [];
+    adds = rw err (issues_nothing old);
+    served = served_none may before after same;
+  }
+
+  -- commands that reserve nothing, or no commands
+  pub called_nones : {E : Type 0} (cs : List Command) (result : Result (Unit {0}) E)
+      → flat_map requests_of cs ≡ [] → OnOk result (new ≡ old ++ cs) → OnErr result (new ≡ old)
+      → after ≡ before → Called Issues may old new before after
+  called_nones cs (Ok it) none ok err same = record {
+    requests = [];
+    adds = record { added = cs; queue = ok; requests_are = sym none };
+    served = served_none may before after same;
+  }
+  called_nones cs (Err why) none ok err same = record {
     requests = [];
     adds = rw err (issues_nothing old);
     served = served_none may before after same;

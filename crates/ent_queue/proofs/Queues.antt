@@ -9,7 +9,8 @@ use Rattle.ent_queue.proofs.Common.{bundle_bytes, refusal_bytes, command_bytes, 
 use Rattle.ent_queue.proofs.Common.{number_4, unpacked_handle, unpacked_handles, unpacked_refusal}
 use Rattle.ent_queue.proofs.Common.{unpacked_command, after_first, unpacked_commands, ArePacked}
 use Rattle.ent_queue.proofs.Common.{BeginsWith, ◌≤◌, command_of_kind, ◌+◌, append-nil, Fits, Vec}
-use Rattle.ent_queue.proofs.Common.{w64, common_steps, Fits-of_lt, All-nil, All-push}
+use Rattle.ent_queue.proofs.Common.{w64, common_steps, Fits-of_lt, All-nil, All-push, All-cons}
+use Rattle.ent_queue.proofs.Common.{All-append, flat_map-append, length-map, map, subst, ◌∙◌}
 use Rattle.ent_queue.proofs.Parts.{number_4-bytes, number_8-bytes, drop-bytes_4, drop-bytes_8}
 use Rattle.ent_queue.proofs.Parts.{unpacked_handle-bytes, length-bytes_4, length-bytes_8}
 use Rattle.ent_queue.proofs.Parts.{length-handles, unpacked_handles-bytes, drop-handles}
@@ -252,3 +253,63 @@ pub many_written : (old : List ℕ) (hs : List Handle) (items : Bundle) (n : ℕ
     → (old ++ 1 ∷ (bytes_4 n ++ flat_map handle_bytes hs)) ++ bundle_bytes items ≡ old
     ++ command_bytes (SpawnMany hs items)
 many_written old hs items n e = grind (arith, common_steps)
+
+-- the same for several more
+pub record PushedAll (count many : ℕ) (bytes new : List ℕ) (cs : List Command) : Type 0 where
+  pub packed : ArePacked (count + many) new
+  pub commands : unpacked_commands (count + many) new ≡ unpacked_commands count bytes ++ cs
+
+pushed_all : (count many : ℕ) (bytes new : List ℕ) (cs : List Command) → many ≡ length cs
+    → ArePacked count bytes → All IsCommand cs → new ≡ bytes ++ queue_bytes cs
+    → PushedAll count many bytes new cs
+pushed_all count many bytes new cs e packed are written =
+    let old = unpacked_commands count bytes in
+    let all : All IsCommand (old ++ cs) = All-append IsCommand old cs packed.each are in
+    let whole : queue_bytes (old ++ cs) ≡ new = grind (arith, common_steps, flat_map-append) in
+    let long : length (old ++ cs) ≡ count + many = search
+    (rules, length-append, length_of_commands) in
+    record {
+      packed = subst (λ n. ArePacked n new) long
+          (subst (λ it. ArePacked (length (old ++ cs)) it) whole (are_packed (old ++ cs) all));
+      commands = subst (λ n. unpacked_commands n new ≡ old ++ cs) long
+          (subst (λ it. unpacked_commands (length (old ++ cs)) it ≡ old ++ cs) whole
+          (unpacked_commands-bytes (old ++ cs) all));
+    }
+
+-- an insertion of the items for each handle
+abbrev pub inserts : Bundle → List Handle → List Command
+inserts items hs = map (λ h. Insert h items) hs
+
+each_written : (items : Bundle) (rest : List ℕ) (hs : List Handle) → rest ≡ bundle_bytes items
+    → flat_map (λ h. 2 ∷ (handle_bytes h ++ rest)) hs ≡ queue_bytes (inserts items hs)
+each_written items rest [] e = refl
+each_written items rest (h ∷ hs) e = search (rules, each_written items rest hs e)
+
+inserts_are : (items : Bundle) (hs : List Handle) → IsBundle items → All IsHandle hs
+    → All IsCommand (inserts items hs)
+inserts_are items [] is all = All-nil IsCommand
+inserts_are items (h ∷ hs) is all =
+    All-cons IsCommand (Insert h items) _ (All-head IsHandle h hs all, is)
+    (inserts_are items hs is (All-tail IsHandle h hs all))
+
+-- what a queue is after them
+pub inserted_each : (count : ℕ) (bytes new : List ℕ) (items : Bundle) (rest : List ℕ)
+    (hs : List Handle) → ArePacked count bytes → IsBundle items → All IsHandle hs
+    → rest ≡ bundle_bytes items → new ≡ bytes ++ flat_map (λ h. 2 ∷ (handle_bytes h ++ rest)) hs
+    → PushedAll count (length hs) bytes new (inserts items hs)
+inserted_each count bytes new items rest hs packed is all e written =
+    pushed_all count (length hs) bytes new (inserts items hs) (search (rules, length-map)) packed
+    (inserts_are items hs is all)
+    (written ∙ ap (λ more. bytes ++ more) (each_written items rest hs e))
+
+-- room for all of some pieces of one length has room for one more than those before
+pub piece_fits : (i n piece : ℕ) → i < n → i * piece + piece ≤ n * piece
+piece_fits i zero piece below = absurd (omega arith)
+piece_fits zero (suc n) piece below = omega arith
+piece_fits (suc i) (suc n) piece below =
+    let fits = piece_fits i n piece (omega (arith, below)) in omega (arith, fits)
+
+-- so that they can be counted
+pub each_fits : {Z : Type 0} (count many : ℕ) (bytes : Vec ℕ Z)
+    → ArePacked (count + many) bytes.items → Fits w64 (count + many)
+each_fits count many bytes packed = search (rules, count_le_bytes, Fits-of_lt)

@@ -1,6 +1,6 @@
 //! The calls of a system that fills a queue.
 ghost use Rattle.std.specs.Prelude.{◌≡◌, ◌++◌, ◌∷◌, [], length, IfOk, IfErr, IsErrOf, OnOk, OnErr};
-ghost use Rattle.std.specs.Prelude.{Result, List};
+ghost use Rattle.std.specs.Prelude.{Result, List, map};
 ghost use Rattle.ent_handle.specs.Handle.{Handle as HandleValue};
 ghost use Rattle.ent_alloc.specs.declared.refused.Refused.{Refused as Refusal};
 ghost use Rattle.ent_alloc.specs.Sequential.{listed_alone};
@@ -231,6 +231,27 @@ impl<S: Source> Commands<'_, CommandQueue, S> {
         ensures err { OnErr result (output_of self.new ≡ output_of self.old) }
     {
         CommandQueue::insert(&mut self.output, handle, bundle.items())
+    }
+
+    /// Gives each of the entities the components, by a command for each handle in their order. It
+    /// takes less time than as many calls of `insert`, if there are more than a few handles.
+    ///
+    /// # Errors
+    ///
+    /// `Memory`. Nothing has changed then.
+    pub fn insert_each<const INLINE: usize>(
+        &mut self,
+        handles: &[Handle],
+        bundle: &Bundle<INLINE>,
+    ) -> Result<(), Memory>
+        requires { IsReady S.serves self.old }
+        ensures extends { Extends Issues S.serves S.may_reply self.old self.new }
+        ensures reserver { reserver_of self.new ≡ reserver_of self.old }
+        ensures ok { OnOk result (output_of self.new
+            ≡ output_of self.old ++ map (λ handle. Insert handle bundle.now) handles.now) }
+        ensures err { OnErr result (output_of self.new ≡ output_of self.old) }
+    {
+        CommandQueue::insert_each(&mut self.output, self.alloc, handles, bundle.items())
     }
 
     /// Gives the entity these components, in place of those that it has under the same numbers.

@@ -1,5 +1,5 @@
 ghost use Rattle.std.specs.Prelude.{◌≡◌, ◌↔◌, ◌++◌, ◌∷◌, [], length, IsTrue, OnOk, OnErr};
-ghost use Rattle.std.specs.Prelude.{IfOk, IfErr, IsErrOf, Result, List, All};
+ghost use Rattle.std.specs.Prelude.{IfOk, IfErr, IsErrOf, Result, List, All, map};
 ghost use Rattle.ent_handle.specs.Handle.{Handle as HandleValue};
 ghost use Rattle.ent_alloc.specs.declared.refused.Refused.{Refused as Refusal};
 ghost use Rattle.ent_alloc.specs.Sequential.{listed_alone};
@@ -11,7 +11,8 @@ ghost use Rattle.ent_queue.specs.Packing.{queue_bytes};
 use crate::entries::Entries;
 use crate::kind::{INSERT, SPAWN};
 use crate::writing::{
-    write_bundle, write_despawn, write_many, write_refused, write_remove, write_with_bundle,
+    write_bundle, write_despawn, write_each, write_many, write_refused, write_remove,
+    write_with_bundle,
 };
 use ent_alloc::{ReserveError as QueueFault, Source};
 use ent_handle::{ComponentId, Handle, Memory};
@@ -198,6 +199,29 @@ impl CommandQueue {
         self.bytes.reserve(11 + 9 * items.len())?;
         write_with_bundle(&mut self.bytes, INSERT, handle, items);
         self.count += 1;
+        Ok(())
+    }
+
+    /// An insertion for each handle. The bundle is packed once, and room for all is made first.
+    pub(crate) fn insert_each(
+        &mut self,
+        alloc: Global,
+        handles: &[Handle],
+        items: &[(ComponentId, i64)],
+    ) -> Result<(), Memory>
+        requires { IsBundle items.now }
+        ensures ok { OnOk result (self.new
+            ≡ self.old ++ map (λ handle. Insert handle items.now) handles.now) }
+        ensures err { OnErr result (self.new ≡ self.old) }
+    {
+        let mut bundle = Vec::with_capacity(alloc, 2 + 9 * items.len())?;
+        write_bundle(&mut bundle, items);
+        let Some(room) = handles.len().checked_mul(11 + 9 * items.len()) else {
+            return Err(Memory);
+        };
+        self.bytes.reserve(room)?;
+        write_each(&mut self.bytes, INSERT, handles, &bundle);
+        self.count += handles.len();
         Ok(())
     }
 

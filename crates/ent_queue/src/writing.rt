@@ -116,6 +116,20 @@ pub(crate) fn write_with_bundle(
     write_bundle(bytes, items);
 }
 
+/// For each handle the byte for the kind, the handle, and then the same bytes.
+pub(crate) fn write_each(bytes: &mut Vec<u8>, kind: u8, handles: &[Handle], rest: &[u8])
+    requires { vec_len bytes.old + length handles.now * (9 + length rest.now)
+        ≤ vec_capacity bytes.old }
+    ensures each { All IsHandle handles.now }
+    ensures items { bytes.new.items ≡ bytes.old.items
+        ++ flat_map (λ handle. kind ∷ (handle_bytes handle ++ rest.now)) handles.now }
+{
+    for handle in handles {
+        write_u8_u64(bytes, kind, handle.to_bits());
+        let _ = bytes.extend_from_slice(rest);
+    }
+}
+
 pub(crate) fn write_remove(bytes: &mut Vec<u8>, handle: Handle, id: ComponentId)
     requires { vec_len bytes.old + 10 ≤ vec_capacity bytes.old }
     ensures handle { IsHandle handle }

@@ -1,8 +1,8 @@
 ghost use Rattle.std.specs.Prelude.{◌≡◌, ◌≢◌, ◌⊎◌, ◌<◌, IfOk, IfSome, OnErr, Some, map, length, true};
+ghost use Rattle.std.specs.Prelude.{◌^◌};
 ghost use Rattle.std.specs.List.Sorted.{IsPermutation, IsSorted};
 ghost use Rattle.std.specs.declared.cmp.Ordering.TheVariants.{Greater};
 ghost use Rattle.ent_handle.specs.Handle.{handle_cmp};
-ghost use Rattle.std.specs.Prelude.{◌^◌};
 ghost use Rattle.ent_storage.specs.BirthOrder.{IsInOrder, IsLeastOf, packed_birth, pair_cmp};
 
 use super::living::Resident;
@@ -120,7 +120,7 @@ fn packed(birth: Birth) -> u128
     ensures system { birth.system < 2 ^ 32 }
     ensures ordinal { birth.ordinal < 2 ^ 32 }
 {
-    (u128::from(birth.frame) << 64) + (u128::from(birth.system) << 32) + u128::from(birth.ordinal)
+    ((birth.frame as u128) << 64) + ((birth.system as u128) << 32) + birth.ordinal as u128
 }
 
 fn handles(alloc: Global, births: &[(Birth, Handle)]) -> Result<Vec<Handle>, AllocError>

@@ -7,7 +7,7 @@ use Rattle.spawnrun_lib.proofs.Common.{unbound, IssuesAll, MayIssue, StopsAmong,
 use Rattle.spawnrun_lib.proofs.Common.{HasIssued, common_steps, set, eqb-suc-zero, eqb-zero-suc}
 use Rattle.spawnrun_lib.proofs.Common.{eqb-suc-suc, bound, map, Result, OnOk, OnErr, Memory, Target}
 use Rattle.spawnrun_lib.proofs.Common.{IsTargeted, StopsOnEach, Stops, HasIssuedOn, HasStoppedOn}
-use Rattle.spawnrun_lib.proofs.Common.{HasStopped, HasStoppedAmong}
+use Rattle.spawnrun_lib.proofs.Common.{HasStopped, HasStoppedAmong, sym}
 use Rattle.std.specs.Prelude.{Ok, Err}
 use Rattle.ent_script.specs.declared.target.Target.TheVariants as target
 
@@ -98,6 +98,20 @@ stopped_on view names on command before after hs (Err why) targeted stopped = re
 -- what holds anyway holds of an error
 pub on_error : (result : Result (Unit {0}) Memory) (P : Type 0) → P → OnErr result P
 on_error it P holds = search rules
+
+-- memory ran out before the first of the handles
+pub none_issued : (hs : List Handle) (command : Handle → Command) (before after : List Command)
+    (result : Result (Unit {0}) Memory) → 0 < length hs → OnErr result (after ≡ before)
+    → OnErr result (HasStoppedAmong hs command before after)
+none_issued [] command before after result some err = absurd (omega arith)
+none_issued (h ∷ hs) command before after (Ok it) some err = tt
+none_issued (h ∷ hs) command before after (Err why) some err = record {
+  done = [];
+  missing = h;
+  others = hs;
+  all = refl;
+  queue = err ∙ sym (append-nil before);
+}
 
 -- the operation is a change of its target
 pub stopped_in : (view : View) (lists : List (List Handle)) (op : Operation) (on : Target)

@@ -14,6 +14,10 @@ use ent_queue::{CommandQueue, Commands};
 use ent_script::{Bundle, Target};
 use ent_world::View;
 
+/// To how many handles a bundle goes one by one. It is packed anew for each, which takes less time
+/// than a list of its bytes.
+const FEW: usize = 8;
+
 /// What an operation does to each entity of its target.
 #[derive(Clone, Copy)]
 pub(crate) enum Change<'a> {
@@ -57,6 +61,25 @@ impl Change<'_> {
 
     /// Issues the change for each of the handles, in order.
     fn on_each<S: Source>(
+        self,
+        handles: &[Handle],
+        commands: &mut Commands<'_, CommandQueue, S>,
+    ) -> Result<(), Memory>
+        requires { IsReady S.serves commands.old }
+        ensures extends { Extends Issues S.serves S.may_reply commands.old commands.new }
+        ensures ok { OnOk result (output_of commands.new
+            ≡ output_of commands.old ++ map (command_on self.entry) handles.now) }
+        ensures stopped { OnErr result (HasStoppedAmong handles.now (command_on self.entry)
+            (output_of commands.old) (output_of commands.new)) }
+    {
+        match self {
+            Change::Insert(bundle) if handles.len() > FEW => commands.insert_each(handles, bundle),
+            _ => self.one_by_one(handles, commands),
+        }
+    }
+
+    /// Issues the change for one handle after the other.
+    fn one_by_one<S: Source>(
         self,
         handles: &[Handle],
         commands: &mut Commands<'_, CommandQueue, S>,

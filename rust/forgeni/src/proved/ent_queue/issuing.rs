@@ -380,3 +380,27 @@ impl<S: Source> SystemCommands<'_, IssuedCommands, S> {
         self.output.despawn(handle)
     }
 }
+
+impl<S: Source> SystemCommands<'_, IssuedCommands, S> {
+    /// Gives each of the entities the components, by a command for each handle in their order. It
+    /// takes less time than as many calls of `insert`, if there are more than a few handles.
+    ///
+    /// # Errors
+    ///
+    /// `Memory`. Nothing has changed then.
+    #[inline]
+    pub(crate) fn insert_each<const INLINE: usize>(
+        &mut self,
+        handles: &[Handle],
+        bundle: &InlineBundle<INLINE>,
+    ) -> Result<(), OutOfMemory>
+        // requires { IsReady S.serves self.old }
+        // ensures extends { Extends Issues S.serves S.may_reply self.old self.new }
+        // ensures reserver { reserver_of self.new ≡ reserver_of self.old }
+        // ensures ok { OnOk result (output_of self.new
+        //     ≡ output_of self.old ++ map (λ handle. Insert handle bundle.now) handles.now) }
+        // ensures err { OnErr result (output_of self.new ≡ output_of self.old) }
+    {
+        IssuedCommands::insert_each(&mut self.output, handles, bundle.items())
+    }
+}

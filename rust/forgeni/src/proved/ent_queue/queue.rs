@@ -4,9 +4,8 @@ use alloc::vec::Vec;
 use crate::kit::vec::FallibleVec;
 use crate::commands::entries::Entries;
 use crate::commands::kind::{INSERT, SPAWN};
-use crate::commands::writing::{
-    write_bundle, write_despawn, write_many, write_refused, write_remove, write_with_bundle,
-};
+use crate::commands::writing::{write_bundle, write_despawn, write_each, write_many, write_refused};
+use crate::commands::writing::{write_remove, write_with_bundle};
 use crate::allocator::{ReserveError, Source};
 use crate::handles::{ComponentId, Handle, OutOfMemory};
 
@@ -194,6 +193,29 @@ impl IssuedCommands {
         self.bytes.reserve_fallibly(11 + 9 * items.len())?;
         write_with_bundle(&mut self.bytes, INSERT, handle, items);
         self.count += 1;
+        Ok(())
+    }
+
+    /// An insertion for each handle. The bundle is packed once, and room for all is made first.
+    #[inline]
+    pub(super) fn insert_each(
+        &mut self,
+        handles: &[Handle],
+        items: &[(ComponentId, i64)],
+    ) -> Result<(), OutOfMemory>
+        // requires { IsBundle items.now }
+        // ensures ok { OnOk result (self.new
+        //     ≡ self.old ++ map (λ handle. Insert handle items.now) handles.now) }
+        // ensures err { OnErr result (self.new ≡ self.old) }
+    {
+        let mut bundle = Vec::with_capacity_fallibly(2 + 9 * items.len())?;
+        write_bundle(&mut bundle, items);
+        let Some(room) = handles.len().checked_mul(11 + 9 * items.len()) else {
+            return Err(OutOfMemory);
+        };
+        self.bytes.reserve_fallibly(room)?;
+        write_each(&mut self.bytes, INSERT, handles, &bundle);
+        self.count += handles.len();
         Ok(())
     }
 

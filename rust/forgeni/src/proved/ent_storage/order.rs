@@ -48,10 +48,16 @@ fn are_rising(residents: &[Resident]) -> bool
     // ensures { result ≡ true → IsSorted pair_cmp
     //     (map (λ resident. (resident.birth, resident.handle)) residents.now) }
 {
+    if residents.is_empty() {
+        return true;
+    }
+    let mut last = packed(residents[0].birth);
     for i in 1..residents.len() {
-        if residents[i].birth <= residents[i - 1].birth {
+        let birth = packed(residents[i].birth);
+        if birth <= last {
             return false;
         }
+        last = birth;
     }
     true
 }
@@ -98,10 +104,16 @@ pub fn handles_in_order(
 fn rise(births: &[(Birth, Handle)]) -> bool
     // ensures { result ≡ true → IsSorted pair_cmp births.now }
 {
+    if births.is_empty() {
+        return true;
+    }
+    let mut last = packed(births[0].0);
     for i in 1..births.len() {
-        if births[i].0 <= births[i - 1].0 {
+        let birth = packed(births[i].0);
+        if birth <= last {
             return false;
         }
+        last = birth;
     }
     true
 }
@@ -118,10 +130,14 @@ fn sort_births(births: &mut Vec<(Birth, Handle)>)
     let _ = births.sort_by_key_fallibly(|pair| packed(pair.0));
 }
 
-// One number that has the order of the births: it is compared at once.
+/// One number that has the order of the births: it is compared at once.
 #[inline]
-fn packed(birth: Birth) -> u128 {
-    (birth.frame as u128) << 64 | (birth.system as u128) << 32 | birth.ordinal as u128
+fn packed(birth: Birth) -> u128
+    // ensures number { result ≡ packed_birth birth }
+    // ensures system { birth.system < 2 ^ 32 }
+    // ensures ordinal { birth.ordinal < 2 ^ 32 }
+{
+    ((birth.frame as u128) << 64) + ((birth.system as u128) << 32) + birth.ordinal as u128
 }
 
 #[inline]

@@ -8,6 +8,10 @@ use crate::commands::{IssuedCommands, SystemCommands};
 use crate::scripts::{Bundle, Target};
 use crate::worlds::View;
 
+/// To how many handles a bundle goes one by one. It is packed anew for each, which takes less time
+/// than a list of its bytes.
+const FEW: usize = 8;
+
 /// What an operation does to each entity of its target.
 #[derive(Clone, Copy)]
 pub(super) enum Change<'a> {
@@ -53,6 +57,26 @@ impl Change<'_> {
     /// Issues the change for each of the handles, in order.
     #[inline]
     fn on_each<S: Source>(
+        self,
+        handles: &[Handle],
+        commands: &mut SystemCommands<'_, IssuedCommands, S>,
+    ) -> Result<(), OutOfMemory>
+        // requires { IsReady S.serves commands.old }
+        // ensures extends { Extends Issues S.serves S.may_reply commands.old commands.new }
+        // ensures ok { OnOk result (output_of commands.new
+        //     ≡ output_of commands.old ++ map (command_on self.entry) handles.now) }
+        // ensures stopped { OnErr result (HasStoppedAmong handles.now (command_on self.entry)
+        //     (output_of commands.old) (output_of commands.new)) }
+    {
+        match self {
+            Change::Insert(bundle) if handles.len() > FEW => commands.insert_each(handles, bundle),
+            _ => self.one_by_one(handles, commands),
+        }
+    }
+
+    /// Issues the change for one handle after the other.
+    #[inline]
+    fn one_by_one<S: Source>(
         self,
         handles: &[Handle],
         commands: &mut SystemCommands<'_, IssuedCommands, S>,

@@ -1,19 +1,8 @@
-use Rattle.ent_queue.proofs.Extending.{extends_then}
-use Rattle.spawnrun_lib.proofs.Common.{rules, arith, append_assoc, common_steps, map-append}
-use Rattle.spawnrun_lib.proofs.Common.{take_more, drop_more, take-append-drop}
-use Rattle.spawnrun_lib.proofs.SystemRunning.{on_error}
+use Rattle.spawnrun_lib.proofs.Common.{rules, arith}
+use Rattle.spawnrun_lib.proofs.SystemRunning.{none_issued}
 use Rattle.spawnrun_lib.proofs.change.Change.on_each.Goals as goal
 
-pub loop-handle-preserved : goal.loop-handle-preserved
-loop-handle-preserved g c =
-    grind (arith, common_steps, take_more, extends_then, append_assoc, map-append)
-
-pub returns-in_err-on_one-clause-stopped : goal.returns-in_err-on_one-clause-stopped
-returns-in_err-on_one-clause-stopped g c =
-    search (
-      rules,
-      on_error,
-      drop_more,
-      take-append-drop c.loop-handle.handle-index c.args.handles.now,
-      c.loop-handle.invariant.queue,
-    )
+pub returns-in-Insert-clause-stopped : goal.returns-in-Insert-clause-stopped
+returns-in-Insert-clause-stopped g c =
+    none_issued c.args.handles.now _ _ _ c.insert_each.result (search (rules, arith))
+    c.insert_each.ensures.err

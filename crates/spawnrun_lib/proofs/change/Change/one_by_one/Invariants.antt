@@ -1,7 +1,7 @@
 use Rattle.ent_queue.specs.Commands.{Extends, output_of}
 use Rattle.ent_queue.specs.Issuing.{Issues}
 use Rattle.spawnrun_lib.proofs.Common.{◌≡◌, ◌++◌, map, take, command_on}
-use Rattle.spawnrun_lib.proofs.change.Change.on_each.Given as goal
+use Rattle.spawnrun_lib.proofs.change.Change.one_by_one.Given as goal
 
 -- the commands for the handles so far
 abbrev pub invariant-loop-handle : goal.invariant-loop-handle
