@@ -302,7 +302,7 @@ impl Storage {
     /// that much room already, it doesn't allocate. Each slot takes twelve bytes.
     ///
     /// It is for a storage whose first births may be in the greatest slots, as with blocks. A
-    /// [`World`](forgeni::World) does it itself.
+    /// [`World`](forgeni::World) has no index.
     ///
     /// ```
     /// use forgeni::{Birth, Entities, Storage};

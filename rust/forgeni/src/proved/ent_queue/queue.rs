@@ -4,8 +4,10 @@ use alloc::vec::Vec;
 use crate::kit::vec::FallibleVec;
 use crate::commands::entries::Entries;
 use crate::commands::kind::{INSERT, SPAWN};
-use crate::commands::writing::{write_bundle, write_despawn, write_each, write_many, write_refused};
-use crate::commands::writing::{write_remove, write_with_bundle};
+use crate::commands::writing::{
+    write_bundle, write_despawn, write_each, write_many, write_refused, write_remove,
+    write_with_bundle,
+};
 use crate::allocator::{ReserveError, Source};
 use crate::handles::{ComponentId, Handle, OutOfMemory};
 
