@@ -36,7 +36,12 @@ impl Labels {
     }
 
     /// Appends a component and its value.
-    pub(crate) fn append(&self, out: &mut Vec<u8>, names: &[String], item: (ComponentId, i64)) -> Result<(), Memory>
+    pub(crate) fn append(
+        &self,
+        out: &mut Vec<u8>,
+        names: &[String],
+        item: (ComponentId, i64),
+    ) -> Result<(), Memory>
         requires { AreLabels (map string_bytes names.now) self.now.pieces }
         ensures ok { OnOk result (out.new.items
             ≡ out.old.items ++ item_text (map string_bytes names.now) item) }

@@ -29,8 +29,12 @@ fn append_birth(out: &mut Vec<u8>, birth: Birth, head: &mut Head) -> Result<(), 
     head.text().append_to(out)
 }
 
-fn append_items(out: &mut Vec<u8>, names: &[String],
-    labels: &Labels, items: Items<'_>) -> Result<(), Memory>
+fn append_items(
+    out: &mut Vec<u8>,
+    names: &[String],
+    labels: &Labels,
+    items: Items<'_>,
+) -> Result<(), Memory>
     requires { AreLabels (map string_bytes names.now) labels.now.pieces }
     ensures ok { OnOk result (out.new.items
         ≡ out.old.items ++ flat_map (item_text (map string_bytes names.now)) items.entry) }
