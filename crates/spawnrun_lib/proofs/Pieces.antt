@@ -22,7 +22,7 @@ cut : (xs ys : List ℕ) (x n : ℕ) → 0 < n → n ≤ length xs → take n xs
     → take (n - 1) xs ≡ ys
 cut xs ys x n some within e =
     let same = same_from_push (take (n - 1) xs) ys (get_or xs (n - 1) x) x
-        (sym (take_more xs (n - 1) x (omega arith)) ∙ ap (λ k. take k xs) (one_less n some) ∙ e) in
+    (sym (take_more xs (n - 1) x (omega arith)) ∙ ap (λ k. take k xs) (one_less n some) ∙ e) in
     same.0
 
 last_of_one : (n : ℕ) → n < 10 → decimal n ≡ (48 + n % 10) ∷ []
@@ -35,13 +35,13 @@ last : (pre bytes : List ℕ) (len m n : ℕ) → 0 < len → len ≤ length byt
 last pre bytes len m n some within e same m_fits n_fits = elim (cases_lt m 10) [
   | inl small ↦
       let before = cut bytes pre (48 + m) len some within
-          (e ∙ ap (λ d. pre ++ d) (decimal_digit m small)) in
+      (e ∙ ap (λ d. pre ++ d) (decimal_digit m small)) in
       ap (λ l. l ++ (48 + n % 10) ∷ []) before
       ∙ ap (λ d. pre ++ d) (sym (last_of_one n (omega arith)))
   | inr large ↦
       let before = cut bytes (pre ++ decimal (m / 10)) (48 + m % 10) len some within
-          (e ∙ ap (λ d. pre ++ d) (decimal_step m large m_fits)
-          ∙ sym (append_assoc pre (decimal (m / 10)) ((48 + m % 10) ∷ []))) in
+      (e ∙ ap (λ d. pre ++ d) (decimal_step m large m_fits)
+      ∙ sym (append_assoc pre (decimal (m / 10)) ((48 + m % 10) ∷ []))) in
       ap (λ l. l ++ (48 + n % 10) ∷ []) before
       ∙ append_assoc pre (decimal (m / 10)) ((48 + n % 10) ∷ [])
       ∙ ap (λ d. pre ++ d) (ap (λ k. decimal k ++ (48 + n % 10) ∷ []) same
