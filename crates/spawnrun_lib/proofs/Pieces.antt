@@ -1,6 +1,6 @@
 -- Texts in rooms of fixed size, and births that differ in the last digit.
 use Rattle.spawnrun_lib.proofs.Common.{◌≡◌, ℕ, ◌+◌, ◌-◌, ◌<◌, ◌≤◌, ◌/◌, ◌%◌, ◌^◌, List, [], ◌∷◌}
-use Rattle.spawnrun_lib.proofs.Common.{◌++◌, ◌∙◌, zero, suc, inl, inr, ap, append_assoc, arith, Birth}
+use Rattle.spawnrun_lib.proofs.Common.{◌++◌, ◌∙◌, zero, suc, inl, inr, refl, ap, append_assoc, arith, Birth}
 use Rattle.spawnrun_lib.proofs.Common.{cases_lt, decimal, get_or, length, length-append, codes}
 use Rattle.spawnrun_lib.proofs.Common.{length-take-le, rules, set, subst, sym, take, take_more}
 use Rattle.std.proofs.lemmas.Fmt.{decimal_digit, decimal_step}
@@ -73,6 +73,13 @@ turned bytes len old new some within e alike old_fits new_fits =
 pub some_birth : (bytes : List ℕ) (len : ℕ) (b : Birth) → take len bytes ≡ birth_text b → 0 < len
 some_birth bytes zero b e = omega (arith, simp length-append at (ap length e))
 some_birth bytes (suc k) b e = omega arith
+
+-- ---- pieces behind a text
+
+pub behind : (xs ys : List ℕ) (k n : ℕ) → k ≡ length xs + n → take k (xs ++ ys) ≡ xs ++ take n ys
+behind [] ys k n is = ap (λ m. take m ys) (omega (is, arith))
+behind (x ∷ xs) ys zero n is = absurd (omega (is, arith))
+behind (x ∷ xs) ys (suc k) n is = ap (λ l. x ∷ l) (behind xs ys k n (omega (is, arith)))
 
 -- ---- labels
 

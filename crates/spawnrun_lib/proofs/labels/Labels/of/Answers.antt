@@ -4,6 +4,3 @@ use Rattle.spawnrun_lib.proofs.labels.Labels.of.Goals as goal
 
 pub loop-place-init : goal.loop-place-init
 loop-place-init c = search (rules, no_labels)
-
-pub loop-place-preserved : goal.loop-place-preserved
-loop-place-preserved c = search (rules, more_labels)
