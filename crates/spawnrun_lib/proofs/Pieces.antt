@@ -1,12 +1,13 @@
 -- Texts in rooms of fixed size, and births that differ in the last digit.
 use Rattle.spawnrun_lib.proofs.Common.{◌≡◌, ℕ, ◌+◌, ◌-◌, ◌<◌, ◌≤◌, ◌/◌, ◌%◌, ◌^◌, List, [], ◌∷◌}
-use Rattle.spawnrun_lib.proofs.Common.{◌++◌, ◌∙◌, zero, suc, inl, inr, refl, ap, append_assoc, arith, Birth}
+use Rattle.spawnrun_lib.proofs.Common.{◌++◌, ◌∙◌, zero, suc, inl, inr, ap, append_assoc, arith, Birth}
 use Rattle.spawnrun_lib.proofs.Common.{cases_lt, decimal, get_or, length, length-append, codes}
 use Rattle.spawnrun_lib.proofs.Common.{length-take-le, rules, set, subst, sym, take, take_more}
 use Rattle.std.proofs.lemmas.Fmt.{decimal_digit, decimal_step}
 use Rattle.std.proofs.lemmas.List.{get_or-replicate, get_or-set_other, get_or-set_same}
 use Rattle.std.proofs.lemmas.List.{length-replicate, length-set, same_from_push}
-use Rattle.std.proofs.Common.{replicate}
+use Rattle.std.proofs.Common.{replicate, ℤ, pos, negsuc, ◌≤ℤ◌, unsigned_abs}
+use Rattle.std.specs.Fmt.{signed_decimal}
 use Rattle.std.proofs.lemmas.Bool.{cases_eq}
 use Rattle.ent_handle.specs.declared.component.ComponentId.{ComponentId}
 use Rattle.spawnrun_lib.specs.Heads.{AreAlike}
@@ -74,12 +75,12 @@ pub some_birth : (bytes : List ℕ) (len : ℕ) (b : Birth) → take len bytes �
 some_birth bytes zero b e = omega (arith, simp length-append at (ap length e))
 some_birth bytes (suc k) b e = omega arith
 
--- ---- pieces behind a text
+-- ---- a value of one digit
 
-pub behind : (xs ys : List ℕ) (k n : ℕ) → k ≡ length xs + n → take k (xs ++ ys) ≡ xs ++ take n ys
-behind [] ys k n is = ap (λ m. take m ys) (omega (is, arith))
-behind (x ∷ xs) ys zero n is = absurd (omega (is, arith))
-behind (x ∷ xs) ys (suc k) n is = ap (λ l. x ∷ l) (behind xs ys k n (omega (is, arith)))
+pub one_digit : (v : ℤ) → pos 0 ≤ℤ v → unsigned_abs v < 10
+    → signed_decimal v ≡ (48 + unsigned_abs v) ∷ []
+one_digit (pos m) positive small = decimal_digit m small
+one_digit (negsuc m) positive small = absurd (omega (positive, arith))
 
 -- ---- labels
 
