@@ -4,6 +4,7 @@ pub mod SystemRunning
 pub mod Rolls
 pub mod QueuesAlone
 pub mod Parts
+pub mod Pieces
 pub mod NextFrame
 pub mod OneTextInBlocks
 pub mod GivenOnce

@@ -1,13 +1,17 @@
--- The beginning of the lines of one system's entities. Only private contracts and proofs use this.
-use Rattle.std.specs.Prelude.{◌≡◌, ◌≤◌, ℕ, List, ◌++◌, take, codes}
-use Rattle.std.specs.Fmt.{decimal}
+-- The beginning of the lines of the living. Only private contracts and proofs use this.
+use Rattle.std.specs.Prelude.{◌≡◌, ◌≤◌, ◌/◌}
+use Rattle.ent_handle.specs.declared.birth.Birth.{Birth}
+use Rattle.spawnrun_lib.specs.Pieces.{piece_text}
+use Rattle.spawnrun_lib.specs.WorldText.{birth_text}
 use Rattle.spawnrun_lib.specs.declared.head.Head.{Head}
 
--- a frame and a system, a dot after each
-abbrev pub head_text : ℕ → ℕ → List ℕ
-head_text frame system = decimal frame ++ codes "." ++ decimal system ++ codes "."
-
--- the bytes are those of its frame and its system
+-- the text is that of its birth
 pub record IsHead (head : Head) : Type 0 where
-  pub within : head.len ≤ 32
-  pub text : take head.len head.bytes ≡ head_text head.frame head.system
+  pub within : head.text.len ≤ 48
+  pub text : piece_text head.text ≡ birth_text head.birth
+
+-- the texts of the births differ in the last digit at most
+pub record AreAlike (a b : Birth) : Type 0 where
+  pub frame : a.frame ≡ b.frame
+  pub system : a.system ≡ b.system
+  pub tens : a.ordinal / 10 ≡ b.ordinal / 10

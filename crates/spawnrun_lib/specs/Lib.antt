@@ -8,6 +8,7 @@ pub mod WorldText
 pub mod Report
 pub mod ReportInBlocks
 pub mod Given
+pub mod Pieces
 pub mod Heads
 pub mod Course
 pub mod CourseInBlocks

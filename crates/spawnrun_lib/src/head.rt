@@ -1,78 +1,61 @@
-//! The beginning of the lines of all entities that one system of a frame has spawned.
-ghost use Rattle.std.specs.Prelude.{◌≡◌, ◌+◌, ◌≤◌, ◌++◌, length, take};
-ghost use Rattle.spawnrun_lib.specs.Heads.{IsHead};
+//! The beginning of an entity's line: its birth.
+ghost use Rattle.std.specs.Prelude.{◌≡◌, IsTrue};
+ghost use Rattle.spawnrun_lib.specs.Heads.{IsHead, AreAlike};
 
+use crate::piece::Piece;
 use ent_handle::Birth;
 use itoa::Buffer;
 
-/// A frame has at most 20 digits, a system 10, and there is a dot after each.
-const LONGEST: usize = 32;
-
-/// The frame and the system, a dot after each: it is written once for all of their entities.
+/// A birth and its text. Most often that of the next line differs in the last digit alone.
 #[derive(Drop)]
 pub(crate) struct Head {
-    frame: u64,
-    system: u32,
-    bytes: [u8; LONGEST],
-    len: usize,
+    birth: Birth,
+    text: Piece,
 }
 
 impl Head {
     /// The beginning of the line of an entity with this birth.
     pub(crate) fn of(birth: Birth) -> Self
         ensures head { IsHead result }
-        ensures frame { result.frame ≡ birth.frame }
-        ensures system { result.system ≡ birth.system }
+        ensures birth { result.birth ≡ birth }
     {
-        let mut bytes = [0; LONGEST];
-        let len = put(&mut bytes, 0, Buffer::new().format(birth.frame).as_bytes());
-        let len = put(&mut bytes, len, b".");
-        let len = put(
-            &mut bytes,
-            len,
-            Buffer::new().format(birth.system).as_bytes(),
-        );
-        let len = put(&mut bytes, len, b".");
-        Head {
-            frame: birth.frame,
-            system: birth.system,
-            bytes,
-            len,
-        }
+        let mut text = Piece::new();
+        text.put(Buffer::new().format(birth.frame).as_bytes());
+        text.put(b".");
+        text.put(Buffer::new().format(birth.system).as_bytes());
+        text.put(b".");
+        text.put(Buffer::new().format(birth.ordinal).as_bytes());
+        Head { birth, text }
     }
 
-    /// Makes it the beginning of the line of an entity with this birth, if it isn't yet.
+    /// Makes it the beginning of the line of an entity with this birth.
     pub(crate) fn turn_to(&mut self, birth: Birth)
         requires { IsHead self.old }
         ensures head { IsHead self.new }
-        ensures frame { self.new.frame ≡ birth.frame }
-        ensures system { self.new.system ≡ birth.system }
+        ensures birth { self.new.birth ≡ birth }
     {
-        if self.frame == birth.frame && self.system == birth.system {
+        if !self.is_alike(birth) {
+            *self = Head::of(birth);
             return;
         }
-        *self = Head::of(birth);
+        self.text.set_last(b'0' + (birth.ordinal % 10) as u8);
+        self.birth = birth;
     }
 
-    /// The bytes.
-    pub(crate) fn text(&self) -> &[u8]
-        requires { IsHead self.now }
-        ensures { result.now ≡ take self.now.len self.now.bytes }
+    /// Whether at most the last digit of that birth differs.
+    fn is_alike(&self, birth: Birth) -> bool
+        ensures { IsTrue result → AreAlike self.now.birth birth }
     {
-        &self.bytes[..self.len]
+        self.birth.frame == birth.frame
+            && self.birth.system == birth.system
+            && self.birth.ordinal / 10 == birth.ordinal / 10
     }
-}
 
-/// Writes the text there, and returns where it ends.
-fn put(bytes: &mut [u8; LONGEST], at: usize, text: &[u8]) -> usize
-    requires { at + length text.now ≤ 32 }
-    ensures end { result ≡ at + length text.now }
-    ensures text { take result bytes.new ≡ take at bytes.old ++ text.now }
-{
-    let mut end = at;
-    for byte in text {
-        bytes[end] = *byte;
-        end += 1;
+    /// The text.
+    pub(crate) fn text(&self) -> &Piece
+        requires { IsHead self.now }
+        ensures { result.now ≡ self.now.text }
+    {
+        &self.text
     }
-    end
 }

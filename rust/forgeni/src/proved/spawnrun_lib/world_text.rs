@@ -2,14 +2,15 @@
 
 use alloc::vec::Vec;
 use crate::kit::programs::string::String;
-use crate::spawnrun_lib::bytes::{append, append_labelled, append_number, append_shown};
+use crate::spawnrun_lib::bytes::{append, append_labelled, append_shown};
 use crate::spawnrun_lib::head::Head;
+use crate::spawnrun_lib::labels::Labels;
 use crate::spawnrun_lib::show::Show;
-use crate::handles::{Birth, ComponentId, Handle, OutOfMemory};
+use crate::handles::{Birth, Handle, OutOfMemory};
 use crate::components::Items;
 use crate::worlds::World;
 
-/// Appends a birth, which begins with the head, and leaves that of its line.
+/// Appends a birth, and leaves the head of its line.
 #[inline]
 fn append_birth(out: &mut Vec<u8>, birth: Birth, head: &mut Head) -> Result<(), OutOfMemory>
     // requires { IsHead head.old }
@@ -21,42 +22,13 @@ fn append_birth(out: &mut Vec<u8>, birth: Birth, head: &mut Head) -> Result<(), 
     // ensures capacity { vec_capacity out.old ≤ vec_capacity out.new }
 {
     head.turn_to(birth);
-    append(out, head.text())?;
-    append_number(out, birth.ordinal)
-}
-
-/// Appends a space and the name of a component, if it has one.
-#[inline]
-fn append_name(out: &mut Vec<u8>, names: &[String], id: ComponentId) -> Result<(), OutOfMemory>
-    // ensures ok { OnOk result (out.new.items
-    //     ≡ out.old.items ++ codes " " ++ component_name (map string_bytes names.now) id) }
-    // ensures kept { OnErr result (take (vec_len out.old) out.new.items ≡ out.old.items) }
-    // ensures full { OnErr result (vec_capacity out.old
-    //     < vec_len out.old + length (codes " " ++ component_name (map string_bytes names.now) id)) }
-    // ensures capacity { vec_capacity out.old ≤ vec_capacity out.new }
-{
-    append(out, b" ")?;
-    match names.get(id.0 as usize) {
-        Some(name) => append(out, name.as_bytes()),
-        None => Ok(()),
-    }
+    head.text().append_to(out)
 }
 
 #[inline]
-fn append_item(out: &mut Vec<u8>, names: &[String], item: (ComponentId, i64)) -> Result<(), OutOfMemory>
-    // ensures ok { OnOk result (out.new.items
-    //     ≡ out.old.items ++ item_text (map string_bytes names.now) item) }
-    // ensures kept { OnErr result (take (vec_len out.old) out.new.items ≡ out.old.items) }
-    // ensures full { OnErr result (vec_capacity out.old
-    //     < vec_len out.old + length (item_text (map string_bytes names.now) item)) }
-    // ensures capacity { vec_capacity out.old ≤ vec_capacity out.new }
-{
-    append_name(out, names, item.0)?;
-    append_labelled(out, b"=", item.1)
-}
-
-#[inline]
-fn append_items(out: &mut Vec<u8>, names: &[String], items: Items<'_>) -> Result<(), OutOfMemory>
+fn append_items(out: &mut Vec<u8>, names: &[String],
+    labels: &Labels, items: Items<'_>) -> Result<(), OutOfMemory>
+    // requires { AreLabels (map string_bytes names.now) labels.now.pieces }
     // ensures ok { OnOk result (out.new.items
     //     ≡ out.old.items ++ flat_map (item_text (map string_bytes names.now)) items.entry) }
     // ensures kept { OnErr result (take (vec_len out.old) out.new.items ≡ out.old.items) }
@@ -65,7 +37,7 @@ fn append_items(out: &mut Vec<u8>, names: &[String], items: Items<'_>) -> Result
     // ensures capacity { vec_capacity out.old ≤ vec_capacity out.new }
 {
     for item in items {
-        append_item(out, names, item)?;
+        labels.append(out, names, item)?;
     }
     Ok(())
 }
@@ -74,12 +46,14 @@ fn append_items(out: &mut Vec<u8>, names: &[String], items: Items<'_>) -> Result
 fn append_line(
     out: &mut Vec<u8>,
     names: &[String],
+    labels: &Labels,
     show: Show,
     named: (Handle, Birth),
     items: Items<'_>,
     head: &mut Head,
 ) -> Result<(), OutOfMemory>
-    // requires { IsHead head.old }
+    // requires labels { AreLabels (map string_bytes names.now) labels.now.pieces }
+    // requires head { IsHead head.old }
     // ensures head { IsHead head.new }
     // ensures ok { OnOk result (out.new.items
     //     ≡ out.old.items ++ entity_line (map string_bytes names.now) show named.0 named.1
@@ -92,7 +66,7 @@ fn append_line(
     let (handle, birth) = named;
     append_birth(out, birth, head)?;
     append_shown(out, show, handle)?;
-    append_items(out, names, items)?;
+    append_items(out, names, labels, items)?;
     append(out, b"\n")
 }
 
@@ -101,12 +75,14 @@ fn append_line(
 fn append_entity(
     out: &mut Vec<u8>,
     names: &[String],
+    labels: &Labels,
     show: Show,
     world: &World,
     handle: Handle,
     head: &mut Head,
 ) -> Result<(), OutOfMemory>
-    // requires { IsHead head.old }
+    // requires labels { AreLabels (map string_bytes names.now) labels.now.pieces }
+    // requires head { IsHead head.old }
     // ensures head { IsHead head.new }
     // ensures ok { OnOk result (out.new.items
     //     ≡ out.old.items ++ line_in (map string_bytes names.now) show world.now.entities handle) }
@@ -121,17 +97,19 @@ fn append_entity(
     let Some(items) = world.items(handle) else {
         return Ok(());
     };
-    append_line(out, names, show, (handle, birth), items, head)
+    append_line(out, names, labels, show, (handle, birth), items, head)
 }
 
 #[inline]
 fn append_entities(
     out: &mut Vec<u8>,
     names: &[String],
+    labels: &Labels,
     show: Show,
     world: &World,
     handles: &[Handle],
 ) -> Result<(), OutOfMemory>
+    // requires { AreLabels (map string_bytes names.now) labels.now.pieces }
     // ensures ok { OnOk result (out.new.items ≡ out.old.items
     //     ++ flat_map (line_in (map string_bytes names.now) show world.now.entities) handles.now) }
     // ensures kept { OnErr result (take (vec_len out.old) out.new.items ≡ out.old.items) }
@@ -145,7 +123,7 @@ fn append_entities(
         ordinal: 0,
     });
     for handle in handles {
-        append_entity(out, names, show, world, *handle, &mut head)?;
+        append_entity(out, names, labels, show, world, *handle, &mut head)?;
     }
     Ok(())
 }
@@ -180,7 +158,8 @@ fn append_world(
     // ensures capacity { vec_capacity out.old ≤ vec_capacity out.new }
 {
     let handles = world.by_birth()?;
-    append_entities(out, names, show, world, &handles)?;
+    let labels = Labels::of(names);
+    append_entities(out, names, &labels, show, world, &handles)?;
     append_alive(out, world.len())
 }
 

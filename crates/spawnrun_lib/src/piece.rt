@@ -1,0 +1,112 @@
+//! A short text that a list takes with one test for room: all of the piece is copied, and what lies
+//! behind the text is given back.
+ghost use Rattle.std.specs.Prelude.{◌≡◌, ◌==◌, ◌+◌, ◌-◌, ◌<◌, ◌≤◌, ◌++◌, ◌∷◌, [], length};
+ghost use Rattle.std.specs.Prelude.{OnOk, OnErr, take, vec_len, vec_capacity};
+ghost use Rattle.std.specs.Fmt.{signed_decimal};
+ghost use Rattle.spawnrun_lib.specs.Pieces.{piece_text};
+
+use crate::bytes::append;
+use ent_handle::Memory;
+use itoa::Buffer;
+
+/// How many bytes a piece has. A birth takes at most 42 of them.
+const ROOM: usize = 48;
+
+/// Room for a text, which begins with its first byte.
+#[derive(Clone, Copy)]
+pub(crate) struct Piece {
+    bytes: [u8; ROOM],
+    len: usize,
+}
+
+impl Piece {
+    pub(crate) fn new() -> Self
+        ensures { result.len ≡ 0 }
+    {
+        Piece {
+            bytes: [0; ROOM],
+            len: 0,
+        }
+    }
+
+    pub(crate) fn is_empty(&self) -> bool
+        ensures { result ≡ (self.now.len == 0) }
+    {
+        self.len == 0
+    }
+
+    /// Writes the text behind what is there.
+    pub(crate) fn put(&mut self, text: &[u8])
+        requires { self.old.len + length text.now ≤ 48 }
+        ensures len { self.new.len ≡ self.old.len + length text.now }
+        ensures text { piece_text self.new ≡ piece_text self.old ++ text.now }
+    {
+        for byte in text {
+            self.put_byte(*byte);
+        }
+    }
+
+    /// Writes the byte behind what is there.
+    fn put_byte(&mut self, byte: u8)
+        requires { self.old.len < 48 }
+        ensures len { self.new.len ≡ self.old.len + 1 }
+        ensures text { piece_text self.new ≡ piece_text self.old ++ byte ∷ [] }
+    {
+        self.bytes[self.len] = byte;
+        self.len += 1;
+    }
+
+    /// Writes that byte in place of the last one.
+    pub(crate) fn set_last(&mut self, byte: u8)
+        requires some { 0 < self.old.len }
+        requires within { self.old.len ≤ 48 }
+        ensures len { self.new.len ≡ self.old.len }
+        ensures text { piece_text self.new
+            ≡ take (self.old.len - 1) self.old.bytes ++ byte ∷ [] }
+    {
+        self.bytes[self.len - 1] = byte;
+    }
+
+    /// Appends the text.
+    pub(crate) fn append_to(&self, out: &mut Vec<u8>) -> Result<(), Memory>
+        requires { self.now.len ≤ 48 }
+        ensures ok { OnOk result (out.new.items ≡ out.old.items ++ piece_text self.now) }
+        ensures err { OnErr result (out.new.items ≡ out.old.items) }
+        ensures full { OnErr result (vec_capacity out.old
+            < vec_len out.old + length (piece_text self.now)) }
+        ensures capacity { vec_capacity out.old ≤ vec_capacity out.new }
+    {
+        if out.extend_from_slice(&self.bytes).is_err() {
+            return append(out, &self.bytes[..self.len]);
+        }
+        out.truncate(out.len() - (ROOM - self.len));
+        Ok(())
+    }
+
+    /// Appends the text and the decimal of the number.
+    pub(crate) fn append_value(&self, out: &mut Vec<u8>, value: i64) -> Result<(), Memory>
+        requires { self.now.len ≤ 48 }
+        ensures ok { OnOk result (out.new.items
+            ≡ out.old.items ++ piece_text self.now ++ signed_decimal value) }
+        ensures kept { OnErr result (take (vec_len out.old) out.new.items ≡ out.old.items) }
+        ensures full { OnErr result (vec_capacity out.old
+            < vec_len out.old + length (piece_text self.now ++ signed_decimal value)) }
+        ensures capacity { vec_capacity out.old ≤ vec_capacity out.new }
+    {
+        let size = value.unsigned_abs();
+        if 0 <= value && size < 10 && self.len < ROOM {
+            let mut whole = *self;
+            whole.put_byte(b'0' + size as u8);
+            return whole.append_to(out);
+        }
+        let mut buffer = Buffer::new();
+        let number = buffer.format(value).as_bytes();
+        if self.len + number.len() > ROOM {
+            append(out, &self.bytes[..self.len])?;
+            return append(out, number);
+        }
+        let mut whole = *self;
+        whole.put(number);
+        whole.append_to(out)
+    }
+}

@@ -1,0 +1,121 @@
+// Made of crates/spawnrun_lib/src/piece.rt by rust/erase. It isn't edited by hand.
+
+//! A short text that a list takes with one test for room: all of the piece is copied, and what lies
+//! behind the text is given back.
+
+use alloc::vec::Vec;
+use crate::kit::vec::FallibleVec;
+use crate::spawnrun_lib::bytes::append;
+use crate::handles::OutOfMemory;
+use crate::kit::itoa::Buffer;
+
+/// How many bytes a piece has. A birth takes at most 42 of them.
+const ROOM: usize = 48;
+
+/// Room for a text, which begins with its first byte.
+#[derive(Clone, Copy)]
+pub(super) struct Piece {
+    bytes: [u8; ROOM],
+    len: usize,
+}
+
+impl Piece {
+    #[inline]
+    pub(super) fn new() -> Self
+        // ensures { result.len ≡ 0 }
+    {
+        Piece {
+            bytes: [0; ROOM],
+            len: 0,
+        }
+    }
+
+    #[inline]
+    pub(super) fn is_empty(&self) -> bool
+        // ensures { result ≡ (self.now.len == 0) }
+    {
+        self.len == 0
+    }
+
+    /// Writes the text behind what is there.
+    #[inline]
+    pub(super) fn put(&mut self, text: &[u8])
+        // requires { self.old.len + length text.now ≤ 48 }
+        // ensures len { self.new.len ≡ self.old.len + length text.now }
+        // ensures text { piece_text self.new ≡ piece_text self.old ++ text.now }
+    {
+        for byte in text {
+            self.bytes[self.len] = *byte;
+            self.len += 1;
+        }
+    }
+
+    /// Writes that byte in place of the last one.
+    #[inline]
+    pub(super) fn set_last(&mut self, byte: u8)
+        // requires some { 0 < self.old.len }
+        // requires within { self.old.len ≤ 48 }
+        // ensures len { self.new.len ≡ self.old.len }
+        // ensures text { piece_text self.new
+        //     ≡ take (self.old.len - 1) self.old.bytes ++ byte ∷ [] }
+    {
+        self.bytes[self.len - 1] = byte;
+    }
+
+    /// Appends the text.
+    #[inline]
+    pub(super) fn append_to(&self, out: &mut Vec<u8>) -> Result<(), OutOfMemory>
+        // requires { self.now.len ≤ 48 }
+        // ensures ok { OnOk result (out.new.items ≡ out.old.items ++ piece_text self.now) }
+        // ensures err { OnErr result (out.new.items ≡ out.old.items) }
+        // ensures full { OnErr result (vec_capacity out.old
+        //     < vec_len out.old + length (piece_text self.now)) }
+        // ensures capacity { vec_capacity out.old ≤ vec_capacity out.new }
+    {
+        if out.extend_from_slice_fallibly(&self.bytes).is_err() {
+            return append(out, &self.bytes[..self.len]);
+        }
+        out.truncate(out.len() - (ROOM - self.len));
+        Ok(())
+    }
+
+    /// Appends the text and the decimal of the number.
+    #[inline]
+    pub(super) fn append_value(&self, out: &mut Vec<u8>, value: i64) -> Result<(), OutOfMemory>
+        // requires { self.now.len ≤ 48 }
+        // ensures ok { OnOk result (out.new.items
+        //     ≡ out.old.items ++ piece_text self.now ++ signed_decimal value) }
+        // ensures kept { OnErr result (take (vec_len out.old) out.new.items ≡ out.old.items) }
+        // ensures full { OnErr result (vec_capacity out.old
+        //     < vec_len out.old + length (piece_text self.now ++ signed_decimal value)) }
+        // ensures capacity { vec_capacity out.old ≤ vec_capacity out.new }
+    {
+        let mut buffer = Buffer::new();
+        let number = buffer.format(value).as_bytes();
+        if self.len + number.len() > ROOM || out.extend_from_slice_fallibly(&self.bytes).is_err() {
+            append(out, &self.bytes[..self.len])?;
+            return append(out, number);
+        }
+        let end = out.len() - (ROOM - self.len);
+        let end = write_at(out, end, number);
+        out.truncate(end);
+        Ok(())
+    }
+}
+
+/// Writes the text in place of what stands there, and returns where it ends.
+#[inline]
+fn write_at(out: &mut Vec<u8>, at: usize, text: &[u8]) -> usize
+    // requires { at + length text.now ≤ vec_len out.old }
+    // ensures end { result ≡ at + length text.now }
+    // ensures text { take result out.new.items ≡ take at out.old.items ++ text.now }
+    // ensures len { vec_len out.new ≡ vec_len out.old }
+    // ensures capacity { vec_capacity out.new ≡ vec_capacity out.old }
+{
+    let mut end = at;
+    for byte in text {
+        out[end] = *byte;
+        end += 1;
+    }
+    end
+}
