@@ -117,7 +117,7 @@ METHODS = set(
     "overflowing_add pop position push push_reserved remove reserve reserve_exact resize retain reverse saturating_add saturating_mul "
     "saturating_sub shrink_to_fit size_hint sort_by_cached_key sort_by_key sort_unstable split_at split_at_mut split_first "
     "split_first_chunk split_last split_seat swap_remove take then "
-    "to_le_bytes truncate unwrap unwrap_or word write_str write_u64".split()
+    "to_le_bytes truncate unsigned_abs unwrap unwrap_or word write_str write_u64".split()
 )
 # Methods of a trait of these crates that another type or trait has too. Each call can mean no other
 # method: `run` is that of `System`, which `Worker` isn't, and `take` is called on a parameter `S:

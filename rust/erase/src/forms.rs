@@ -866,6 +866,7 @@ const METHODS: &[&str] = &[
     "then",
     "to_le_bytes",
     "truncate",
+    "unsigned_abs",
     "unwrap",
     "unwrap_or",
     "word",

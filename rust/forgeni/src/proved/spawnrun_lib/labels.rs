@@ -37,7 +37,12 @@ impl Labels {
 
     /// Appends a component and its value.
     #[inline]
-    pub(super) fn append(&self, out: &mut Vec<u8>, names: &[String], item: (ComponentId, i64)) -> Result<(), OutOfMemory>
+    pub(super) fn append(
+        &self,
+        out: &mut Vec<u8>,
+        names: &[String],
+        item: (ComponentId, i64),
+    ) -> Result<(), OutOfMemory>
         // requires { AreLabels (map string_bytes names.now) self.now.pieces }
         // ensures ok { OnOk result (out.new.items
         //     ≡ out.old.items ++ item_text (map string_bytes names.now) item) }

@@ -45,9 +45,19 @@ impl Piece {
         // ensures text { piece_text self.new ≡ piece_text self.old ++ text.now }
     {
         for byte in text {
-            self.bytes[self.len] = *byte;
-            self.len += 1;
+            self.put_byte(*byte);
         }
+    }
+
+    /// Writes the byte behind what is there.
+    #[inline]
+    fn put_byte(&mut self, byte: u8)
+        // requires { self.old.len < 48 }
+        // ensures len { self.new.len ≡ self.old.len + 1 }
+        // ensures text { piece_text self.new ≡ piece_text self.old ++ byte ∷ [] }
+    {
+        self.bytes[self.len] = byte;
+        self.len += 1;
     }
 
     /// Writes that byte in place of the last one.
@@ -90,32 +100,20 @@ impl Piece {
         //     < vec_len out.old + length (piece_text self.now ++ signed_decimal value)) }
         // ensures capacity { vec_capacity out.old ≤ vec_capacity out.new }
     {
+        let size = value.unsigned_abs();
+        if 0 <= value && size < 10 && self.len < ROOM {
+            let mut whole = *self;
+            whole.put_byte(b'0' + size as u8);
+            return whole.append_to(out);
+        }
         let mut buffer = Buffer::new();
         let number = buffer.format(value).as_bytes();
-        if self.len + number.len() > ROOM || out.extend_from_slice_fallibly(&self.bytes).is_err() {
+        if self.len + number.len() > ROOM {
             append(out, &self.bytes[..self.len])?;
             return append(out, number);
         }
-        let end = out.len() - (ROOM - self.len);
-        let end = write_at(out, end, number);
-        out.truncate(end);
-        Ok(())
+        let mut whole = *self;
+        whole.put(number);
+        whole.append_to(out)
     }
-}
-
-/// Writes the text in place of what stands there, and returns where it ends.
-#[inline]
-fn write_at(out: &mut Vec<u8>, at: usize, text: &[u8]) -> usize
-    // requires { at + length text.now ≤ vec_len out.old }
-    // ensures end { result ≡ at + length text.now }
-    // ensures text { take result out.new.items ≡ take at out.old.items ++ text.now }
-    // ensures len { vec_len out.new ≡ vec_len out.old }
-    // ensures capacity { vec_capacity out.new ≡ vec_capacity out.old }
-{
-    let mut end = at;
-    for byte in text {
-        out[end] = *byte;
-        end += 1;
-    }
-    end
 }

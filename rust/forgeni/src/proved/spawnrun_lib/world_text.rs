@@ -26,8 +26,12 @@ fn append_birth(out: &mut Vec<u8>, birth: Birth, head: &mut Head) -> Result<(), 
 }
 
 #[inline]
-fn append_items(out: &mut Vec<u8>, names: &[String],
-    labels: &Labels, items: Items<'_>) -> Result<(), OutOfMemory>
+fn append_items(
+    out: &mut Vec<u8>,
+    names: &[String],
+    labels: &Labels,
+    items: Items<'_>,
+) -> Result<(), OutOfMemory>
     // requires { AreLabels (map string_bytes names.now) labels.now.pieces }
     // ensures ok { OnOk result (out.new.items
     //     ≡ out.old.items ++ flat_map (item_text (map string_bytes names.now)) items.entry) }
