@@ -29,6 +29,7 @@ impl Head {
     }
 
     /// Makes it the beginning of the line of an entity with this birth.
+    #[inline(always)]
     pub(crate) fn turn_to(&mut self, birth: Birth)
         requires { IsHead self.old }
         ensures head { IsHead self.new }
@@ -43,6 +44,7 @@ impl Head {
     }
 
     /// Whether at most the last digit of that birth differs.
+    #[inline(always)]
     fn is_alike(&self, birth: Birth) -> bool
         ensures { IsTrue result → AreAlike self.now.birth birth }
     {

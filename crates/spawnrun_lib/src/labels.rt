@@ -36,6 +36,7 @@ impl Labels {
     }
 
     /// Appends a component and its value.
+    #[inline(always)]
     pub(crate) fn append(
         &self,
         out: &mut Vec<u8>,

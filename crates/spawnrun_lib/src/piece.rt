@@ -47,6 +47,7 @@ impl Piece {
     }
 
     /// Writes the byte behind what is there.
+    #[inline(always)]
     fn put_byte(&mut self, byte: u8)
         requires { self.old.len < 48 }
         ensures len { self.new.len ≡ self.old.len + 1 }
@@ -57,6 +58,7 @@ impl Piece {
     }
 
     /// Writes that byte in place of the last one.
+    #[inline(always)]
     pub(crate) fn set_last(&mut self, byte: u8)
         requires some { 0 < self.old.len }
         requires within { self.old.len ≤ 48 }
@@ -68,6 +70,7 @@ impl Piece {
     }
 
     /// Appends the text.
+    #[inline(always)]
     pub(crate) fn append_to(&self, out: &mut Vec<u8>) -> Result<(), Memory>
         requires { self.now.len ≤ 48 }
         ensures ok { OnOk result (out.new.items ≡ out.old.items ++ piece_text self.now) }
@@ -84,6 +87,7 @@ impl Piece {
     }
 
     /// Appends the text and the decimal of the number.
+    #[inline(always)]
     pub(crate) fn append_value(&self, out: &mut Vec<u8>, value: i64) -> Result<(), Memory>
         requires { self.now.len ≤ 48 }
         ensures ok { OnOk result (out.new.items

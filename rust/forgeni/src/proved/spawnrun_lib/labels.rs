@@ -36,7 +36,7 @@ impl Labels {
     }
 
     /// Appends a component and its value.
-    #[inline]
+    #[inline(always)]
     pub(super) fn append(
         &self,
         out: &mut Vec<u8>,

@@ -50,7 +50,7 @@ impl Piece {
     }
 
     /// Writes the byte behind what is there.
-    #[inline]
+    #[inline(always)]
     fn put_byte(&mut self, byte: u8)
         // requires { self.old.len < 48 }
         // ensures len { self.new.len ≡ self.old.len + 1 }
@@ -61,7 +61,7 @@ impl Piece {
     }
 
     /// Writes that byte in place of the last one.
-    #[inline]
+    #[inline(always)]
     pub(super) fn set_last(&mut self, byte: u8)
         // requires some { 0 < self.old.len }
         // requires within { self.old.len ≤ 48 }
@@ -73,7 +73,7 @@ impl Piece {
     }
 
     /// Appends the text.
-    #[inline]
+    #[inline(always)]
     pub(super) fn append_to(&self, out: &mut Vec<u8>) -> Result<(), OutOfMemory>
         // requires { self.now.len ≤ 48 }
         // ensures ok { OnOk result (out.new.items ≡ out.old.items ++ piece_text self.now) }
@@ -90,7 +90,7 @@ impl Piece {
     }
 
     /// Appends the text and the decimal of the number.
-    #[inline]
+    #[inline(always)]
     pub(super) fn append_value(&self, out: &mut Vec<u8>, value: i64) -> Result<(), OutOfMemory>
         // requires { self.now.len ≤ 48 }
         // ensures ok { OnOk result (out.new.items
