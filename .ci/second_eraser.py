@@ -181,7 +181,7 @@ LIST_CALLS = {
 }
 LISTS |= {
     "capacity": "living",
-    "push": "living log",
+    "push": "living log storage",
     "reserve": "] blocks index living self shared storage",
 }
 LISTS |= {
