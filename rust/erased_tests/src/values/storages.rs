@@ -1,6 +1,6 @@
 //! Entities as bytes: a worked image, each change of it, and one of many entities.
 
-use crate::components::{Storage, StorageImageFault};
+use crate::components::{Rows, StorageImageFault};
 use crate::handles::write_word;
 use crate::handles::{Birth, ComponentId, Handle};
 
@@ -19,13 +19,13 @@ fn handles() -> [Handle; 2] {
     [(0, 1), (2, 7)].map(|(index, generation)| Handle::new(index, generation).expect("a handle"))
 }
 
-fn image(storage: &Storage, handles: &[Handle]) -> Vec<u8> {
-    let width = storage.width();
+/// The image of the entities, each at the place of its handle.
+fn image(rows: &Rows, handles: &[Handle]) -> Vec<u8> {
+    let width = rows.width();
     let mut out = Vec::with_capacity(4 + handles.len() * (16 + 9 * width as usize));
     write_word(&mut out, width);
-    for handle in handles {
-        let place = storage.place(*handle).expect("an entity");
-        storage.write_entity(place, *handle, width, &mut out);
+    for (place, handle) in handles.iter().enumerate() {
+        rows.write_entity(place, *handle, width, &mut out);
     }
     out
 }
@@ -33,34 +33,29 @@ fn image(storage: &Storage, handles: &[Handle]) -> Vec<u8> {
 #[test]
 fn worked_image() {
     let [first, second] = handles();
-    let storage = Storage::read_image(&handles(), 2, &IMAGE).expect("two entities");
-    let birth = |frame, system, ordinal| {
-        Some(Birth {
-            frame,
-            system,
-            ordinal,
-        })
+    let rows = Rows::read_image(&handles(), 2, &IMAGE).expect("two entities");
+    let birth = |frame, system, ordinal| Birth {
+        frame,
+        system,
+        ordinal,
     };
-    assert_eq!(storage.birth(first), birth(1, 2, 3));
-    assert_eq!(storage.birth(second), birth(258, u32::MAX, 0));
-    assert!(storage
-        .items(first)
-        .expect("the first")
-        .eq([(ComponentId(1), -2)]));
-    assert_eq!(storage.items(second).expect("the second").count(), 0);
-    assert_eq!(image(&storage, &handles()), IMAGE);
+    assert_eq!(rows.birth_at(0, first), birth(1, 2, 3));
+    assert_eq!(rows.birth_at(1, second), birth(258, u32::MAX, 0));
+    assert!(rows.items_at(0, first).eq([(ComponentId(1), -2)]));
+    assert_eq!(rows.items_at(1, second).count(), 0);
+    assert_eq!(image(&rows, &handles()), IMAGE);
 }
 
 #[test]
 fn each_cut_is_refused() {
     for end in 0..IMAGE.len() {
         assert!(
-            Storage::read_image(&handles(), 2, &IMAGE[..end]).is_err(),
+            Rows::read_image(&handles(), 2, &IMAGE[..end]).is_err(),
             "{end}"
         );
     }
     let longer = [&IMAGE[..], &[0]].concat();
-    let refused = Storage::read_image(&handles(), 2, &longer).map(|_| ());
+    let refused = Rows::read_image(&handles(), 2, &longer).map(|_| ());
     assert_eq!(refused, Err(StorageImageFault::Length));
 }
 
@@ -72,8 +67,8 @@ fn each_change_is_refused_or_another_image() {
         for byte in (0..=255).filter(|byte| *byte != IMAGE[at]) {
             let mut bytes = IMAGE;
             bytes[at] = byte;
-            if let Ok(storage) = Storage::read_image(&handles(), 2, &bytes) {
-                assert_eq!(image(&storage, &handles()), bytes, "{at} {byte}");
+            if let Ok(rows) = Rows::read_image(&handles(), 2, &bytes) {
+                assert_eq!(image(&rows, &handles()), bytes, "{at} {byte}");
                 read += 1;
             }
         }
@@ -86,10 +81,7 @@ fn each_change_is_refused_or_another_image() {
 fn width_that_no_entity_has_is_refused() {
     for width in [0, 1, 3, 256, 257, u32::MAX] {
         let bytes = [&width.to_le_bytes()[..], &IMAGE[4..]].concat();
-        assert!(
-            Storage::read_image(&handles(), 2, &bytes).is_err(),
-            "{width}"
-        );
+        assert!(Rows::read_image(&handles(), 2, &bytes).is_err(), "{width}");
     }
 }
 
@@ -98,27 +90,31 @@ fn many_entities() {
     let handles: Vec<Handle> = (0..100_000)
         .map(|index| Handle::new(3 * index, 1 + index % 5).expect("a handle"))
         .collect();
-    let mut storage = Storage::new();
-    for (index, handle) in (0..).zip(&handles) {
+    let mut rows = Rows::new();
+    rows.reserve(handles.len())
+        .expect("memory for the entities");
+    for (place, handle) in handles.iter().enumerate() {
         let birth = Birth {
             frame: 1,
             system: 0,
-            ordinal: index,
+            ordinal: place as u32,
         };
-        storage.born(*handle, birth).expect("a new entity");
-        let items = [(ComponentId((index % 7) as u8), i64::from(index) - 50_000)];
-        storage
-            .insert(*handle, &items)
+        rows.push(*handle, birth);
+        let items = [(ComponentId((place % 7) as u8), place as i64 - 50_000)];
+        rows.insert_at(place, *handle, &items)
             .expect("memory for a component");
     }
-    let bytes = image(&storage, &handles);
+    let bytes = image(&rows, &handles);
     assert_eq!(bytes.len(), 4 + 100_000 * (16 + 7 + 8));
-    let again = Storage::read_image(&handles, 100_000, &bytes).expect("the same entities");
+    let again = Rows::read_image(&handles, 100_000, &bytes).expect("the same entities");
     assert_eq!(again.len(), 100_000);
-    for handle in &handles {
-        assert_eq!(again.birth(*handle), storage.birth(*handle));
-        let items = storage.items(*handle).expect("an entity");
-        assert!(again.items(*handle).expect("an entity").eq(items));
+    for (place, handle) in handles.iter().enumerate() {
+        assert_eq!(
+            again.birth_at(place, *handle),
+            rows.birth_at(place, *handle)
+        );
+        let items = rows.items_at(place, *handle);
+        assert!(again.items_at(place, *handle).eq(items));
     }
     assert_eq!(image(&again, &handles), bytes);
 }
