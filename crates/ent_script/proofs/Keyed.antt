@@ -85,6 +85,13 @@ pub apart : (name other k : List ℕ) → bytes_eq k name ≡ true → bytes_eq 
     → bytes_eq k other ≡ false
 apart name other k e differ = search (rules, bytes_eq-Decides)
 
+-- what was under another name is there still
+pub under_other : (here k : List ℕ) (d : Data) (ms : Members) → bytes_eq k here ≡ true
+    → (name : List ℕ) (f : Option Part) → bytes_eq here name ≡ false → IsUnder name f ms
+    → IsUnder name f (put k d ms)
+under_other here k d ms e name f other is =
+    under_before name k d ms f is (apart here name k e other)
+
 -- ---- what an operation is
 
 module _ (f : Fields) (ms : Members) (at : AreFields f ms) where

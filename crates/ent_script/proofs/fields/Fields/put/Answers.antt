@@ -1,20 +1,21 @@
 use Rattle.ent_script.proofs.Common.{rules, refl, bytes_eq, codes, true, false, ◌≡◌}
-use Rattle.ent_script.proofs.Keyed.{apart, under_before, under_here, kinds_here, no_kinds}
+use Rattle.ent_script.proofs.Keyed.{under_before, under_here, under_other, kinds_here, no_kinds}
 use Rattle.ent_script.proofs.fields.Fields.put.Goals as goal
 
 pub returns-then-eq : goal.returns-then-eq
 returns-then-eq c d ms seen at =
     let k = c.args.key.now in
     let e : bytes_eq k (codes "spawn") ≡ true = search (rules, c.if-eq.ensures) in
+    let other = under_other (codes "spawn") k d ms e in
     record {
       spawn = under_here (codes "spawn") k d ms _ seen e;
-      spawn_many = under_before (codes "spawn_many") k d ms _ at.spawn_many (apart (codes "spawn") _ k e refl);
-      insert = under_before (codes "insert") k d ms _ at.insert (apart (codes "spawn") _ k e refl);
-      remove = under_before (codes "remove") k d ms _ at.remove (apart (codes "spawn") _ k e refl);
-      despawn = under_before (codes "despawn") k d ms _ at.despawn (apart (codes "spawn") _ k e refl);
-      «with» = under_before (codes "with") k d ms _ at.«with» (apart (codes "spawn") _ k e refl);
-      on = under_before (codes "on") k d ms _ at.on (apart (codes "spawn") _ k e refl);
-      binds = under_before (codes "as") k d ms _ at.binds (apart (codes "spawn") _ k e refl);
+      spawn_many = other (codes "spawn_many") _ refl at.spawn_many;
+      insert = other (codes "insert") _ refl at.insert;
+      remove = other (codes "remove") _ refl at.remove;
+      despawn = other (codes "despawn") _ refl at.despawn;
+      «with» = other (codes "with") _ refl at.«with»;
+      on = other (codes "on") _ refl at.on;
+      binds = other (codes "as") _ refl at.binds;
       kinds = c.with-self.ensures k d ms at.kinds (kinds_here (codes "spawn") k d _ e record {
         spawn = refl;
         spawn_many = refl;
@@ -28,14 +29,15 @@ pub returns-then-eq-2 : goal.returns-then-eq-2
 returns-then-eq-2 c d ms seen at =
     let k = c.args.key.now in
     let e : bytes_eq k (codes "as") ≡ true = search (rules, c.if-eq-2.ensures) in
+    let other = under_other (codes "as") k d ms e in
     record {
-      spawn = under_before (codes "spawn") k d ms _ at.spawn (apart (codes "as") _ k e refl);
-      spawn_many = under_before (codes "spawn_many") k d ms _ at.spawn_many (apart (codes "as") _ k e refl);
-      insert = under_before (codes "insert") k d ms _ at.insert (apart (codes "as") _ k e refl);
-      remove = under_before (codes "remove") k d ms _ at.remove (apart (codes "as") _ k e refl);
-      despawn = under_before (codes "despawn") k d ms _ at.despawn (apart (codes "as") _ k e refl);
-      «with» = under_before (codes "with") k d ms _ at.«with» (apart (codes "as") _ k e refl);
-      on = under_before (codes "on") k d ms _ at.on (apart (codes "as") _ k e refl);
+      spawn = other (codes "spawn") _ refl at.spawn;
+      spawn_many = other (codes "spawn_many") _ refl at.spawn_many;
+      insert = other (codes "insert") _ refl at.insert;
+      remove = other (codes "remove") _ refl at.remove;
+      despawn = other (codes "despawn") _ refl at.despawn;
+      «with» = other (codes "with") _ refl at.«with»;
+      on = other (codes "on") _ refl at.on;
       binds = under_here (codes "as") k d ms _ seen e;
       kinds = c.with-self-then-eq-2.ensures k d ms at.kinds (kinds_here (codes "as") k d _ e record {
         spawn = refl;
@@ -50,15 +52,16 @@ pub returns-then-eq-3 : goal.returns-then-eq-3
 returns-then-eq-3 c d ms seen at =
     let k = c.args.key.now in
     let e : bytes_eq k (codes "insert") ≡ true = search (rules, c.if-eq-3.ensures) in
+    let other = under_other (codes "insert") k d ms e in
     record {
-      spawn = under_before (codes "spawn") k d ms _ at.spawn (apart (codes "insert") _ k e refl);
-      spawn_many = under_before (codes "spawn_many") k d ms _ at.spawn_many (apart (codes "insert") _ k e refl);
+      spawn = other (codes "spawn") _ refl at.spawn;
+      spawn_many = other (codes "spawn_many") _ refl at.spawn_many;
       insert = under_here (codes "insert") k d ms _ seen e;
-      remove = under_before (codes "remove") k d ms _ at.remove (apart (codes "insert") _ k e refl);
-      despawn = under_before (codes "despawn") k d ms _ at.despawn (apart (codes "insert") _ k e refl);
-      «with» = under_before (codes "with") k d ms _ at.«with» (apart (codes "insert") _ k e refl);
-      on = under_before (codes "on") k d ms _ at.on (apart (codes "insert") _ k e refl);
-      binds = under_before (codes "as") k d ms _ at.binds (apart (codes "insert") _ k e refl);
+      remove = other (codes "remove") _ refl at.remove;
+      despawn = other (codes "despawn") _ refl at.despawn;
+      «with» = other (codes "with") _ refl at.«with»;
+      on = other (codes "on") _ refl at.on;
+      binds = other (codes "as") _ refl at.binds;
       kinds = c.with-self-then-eq-3.ensures k d ms at.kinds (kinds_here (codes "insert") k d _ e record {
         spawn = refl;
         spawn_many = refl;
@@ -72,15 +75,16 @@ pub returns-then-eq-4 : goal.returns-then-eq-4
 returns-then-eq-4 c d ms seen at =
     let k = c.args.key.now in
     let e : bytes_eq k (codes "on") ≡ true = search (rules, c.if-eq-4.ensures) in
+    let other = under_other (codes "on") k d ms e in
     record {
-      spawn = under_before (codes "spawn") k d ms _ at.spawn (apart (codes "on") _ k e refl);
-      spawn_many = under_before (codes "spawn_many") k d ms _ at.spawn_many (apart (codes "on") _ k e refl);
-      insert = under_before (codes "insert") k d ms _ at.insert (apart (codes "on") _ k e refl);
-      remove = under_before (codes "remove") k d ms _ at.remove (apart (codes "on") _ k e refl);
-      despawn = under_before (codes "despawn") k d ms _ at.despawn (apart (codes "on") _ k e refl);
-      «with» = under_before (codes "with") k d ms _ at.«with» (apart (codes "on") _ k e refl);
+      spawn = other (codes "spawn") _ refl at.spawn;
+      spawn_many = other (codes "spawn_many") _ refl at.spawn_many;
+      insert = other (codes "insert") _ refl at.insert;
+      remove = other (codes "remove") _ refl at.remove;
+      despawn = other (codes "despawn") _ refl at.despawn;
+      «with» = other (codes "with") _ refl at.«with»;
       on = under_here (codes "on") k d ms _ seen e;
-      binds = under_before (codes "as") k d ms _ at.binds (apart (codes "on") _ k e refl);
+      binds = other (codes "as") _ refl at.binds;
       kinds = c.with-self-then-eq-4.ensures k d ms at.kinds (kinds_here (codes "on") k d _ e record {
         spawn = refl;
         spawn_many = refl;
@@ -94,15 +98,16 @@ pub returns-then-eq-5 : goal.returns-then-eq-5
 returns-then-eq-5 c d ms seen at =
     let k = c.args.key.now in
     let e : bytes_eq k (codes "remove") ≡ true = search (rules, c.if-eq-5.ensures) in
+    let other = under_other (codes "remove") k d ms e in
     record {
-      spawn = under_before (codes "spawn") k d ms _ at.spawn (apart (codes "remove") _ k e refl);
-      spawn_many = under_before (codes "spawn_many") k d ms _ at.spawn_many (apart (codes "remove") _ k e refl);
-      insert = under_before (codes "insert") k d ms _ at.insert (apart (codes "remove") _ k e refl);
+      spawn = other (codes "spawn") _ refl at.spawn;
+      spawn_many = other (codes "spawn_many") _ refl at.spawn_many;
+      insert = other (codes "insert") _ refl at.insert;
       remove = under_here (codes "remove") k d ms _ seen e;
-      despawn = under_before (codes "despawn") k d ms _ at.despawn (apart (codes "remove") _ k e refl);
-      «with» = under_before (codes "with") k d ms _ at.«with» (apart (codes "remove") _ k e refl);
-      on = under_before (codes "on") k d ms _ at.on (apart (codes "remove") _ k e refl);
-      binds = under_before (codes "as") k d ms _ at.binds (apart (codes "remove") _ k e refl);
+      despawn = other (codes "despawn") _ refl at.despawn;
+      «with» = other (codes "with") _ refl at.«with»;
+      on = other (codes "on") _ refl at.on;
+      binds = other (codes "as") _ refl at.binds;
       kinds = c.with-self-then-eq-5.ensures k d ms at.kinds (kinds_here (codes "remove") k d _ e record {
         spawn = refl;
         spawn_many = refl;
@@ -116,15 +121,16 @@ pub returns-then-eq-6 : goal.returns-then-eq-6
 returns-then-eq-6 c d ms seen at =
     let k = c.args.key.now in
     let e : bytes_eq k (codes "despawn") ≡ true = search (rules, c.if-eq-6.ensures) in
+    let other = under_other (codes "despawn") k d ms e in
     record {
-      spawn = under_before (codes "spawn") k d ms _ at.spawn (apart (codes "despawn") _ k e refl);
-      spawn_many = under_before (codes "spawn_many") k d ms _ at.spawn_many (apart (codes "despawn") _ k e refl);
-      insert = under_before (codes "insert") k d ms _ at.insert (apart (codes "despawn") _ k e refl);
-      remove = under_before (codes "remove") k d ms _ at.remove (apart (codes "despawn") _ k e refl);
+      spawn = other (codes "spawn") _ refl at.spawn;
+      spawn_many = other (codes "spawn_many") _ refl at.spawn_many;
+      insert = other (codes "insert") _ refl at.insert;
+      remove = other (codes "remove") _ refl at.remove;
       despawn = under_here (codes "despawn") k d ms _ seen e;
-      «with» = under_before (codes "with") k d ms _ at.«with» (apart (codes "despawn") _ k e refl);
-      on = under_before (codes "on") k d ms _ at.on (apart (codes "despawn") _ k e refl);
-      binds = under_before (codes "as") k d ms _ at.binds (apart (codes "despawn") _ k e refl);
+      «with» = other (codes "with") _ refl at.«with»;
+      on = other (codes "on") _ refl at.on;
+      binds = other (codes "as") _ refl at.binds;
       kinds = c.with-self-then-eq-6.ensures k d ms at.kinds (kinds_here (codes "despawn") k d _ e record {
         spawn = refl;
         spawn_many = refl;
@@ -138,15 +144,16 @@ pub returns-then-eq-7 : goal.returns-then-eq-7
 returns-then-eq-7 c d ms seen at =
     let k = c.args.key.now in
     let e : bytes_eq k (codes "spawn_many") ≡ true = search (rules, c.if-eq-7.ensures) in
+    let other = under_other (codes "spawn_many") k d ms e in
     record {
-      spawn = under_before (codes "spawn") k d ms _ at.spawn (apart (codes "spawn_many") _ k e refl);
+      spawn = other (codes "spawn") _ refl at.spawn;
       spawn_many = under_here (codes "spawn_many") k d ms _ seen e;
-      insert = under_before (codes "insert") k d ms _ at.insert (apart (codes "spawn_many") _ k e refl);
-      remove = under_before (codes "remove") k d ms _ at.remove (apart (codes "spawn_many") _ k e refl);
-      despawn = under_before (codes "despawn") k d ms _ at.despawn (apart (codes "spawn_many") _ k e refl);
-      «with» = under_before (codes "with") k d ms _ at.«with» (apart (codes "spawn_many") _ k e refl);
-      on = under_before (codes "on") k d ms _ at.on (apart (codes "spawn_many") _ k e refl);
-      binds = under_before (codes "as") k d ms _ at.binds (apart (codes "spawn_many") _ k e refl);
+      insert = other (codes "insert") _ refl at.insert;
+      remove = other (codes "remove") _ refl at.remove;
+      despawn = other (codes "despawn") _ refl at.despawn;
+      «with» = other (codes "with") _ refl at.«with»;
+      on = other (codes "on") _ refl at.on;
+      binds = other (codes "as") _ refl at.binds;
       kinds = c.with-self-then-eq-7.ensures k d ms at.kinds (kinds_here (codes "spawn_many") k d _ e record {
         spawn = refl;
         spawn_many = refl;
@@ -160,15 +167,16 @@ pub returns-then-eq-8 : goal.returns-then-eq-8
 returns-then-eq-8 c d ms seen at =
     let k = c.args.key.now in
     let e : bytes_eq k (codes "with") ≡ true = search (rules, c.if-eq-8.ensures) in
+    let other = under_other (codes "with") k d ms e in
     record {
-      spawn = under_before (codes "spawn") k d ms _ at.spawn (apart (codes "with") _ k e refl);
-      spawn_many = under_before (codes "spawn_many") k d ms _ at.spawn_many (apart (codes "with") _ k e refl);
-      insert = under_before (codes "insert") k d ms _ at.insert (apart (codes "with") _ k e refl);
-      remove = under_before (codes "remove") k d ms _ at.remove (apart (codes "with") _ k e refl);
-      despawn = under_before (codes "despawn") k d ms _ at.despawn (apart (codes "with") _ k e refl);
+      spawn = other (codes "spawn") _ refl at.spawn;
+      spawn_many = other (codes "spawn_many") _ refl at.spawn_many;
+      insert = other (codes "insert") _ refl at.insert;
+      remove = other (codes "remove") _ refl at.remove;
+      despawn = other (codes "despawn") _ refl at.despawn;
       «with» = under_here (codes "with") k d ms _ seen e;
-      on = under_before (codes "on") k d ms _ at.on (apart (codes "with") _ k e refl);
-      binds = under_before (codes "as") k d ms _ at.binds (apart (codes "with") _ k e refl);
+      on = other (codes "on") _ refl at.on;
+      binds = other (codes "as") _ refl at.binds;
       kinds = c.with-self-then-eq-8.ensures k d ms at.kinds (kinds_here (codes "with") k d _ e record {
         spawn = refl;
         spawn_many = refl;
