@@ -1,4 +1,4 @@
-//! The values of components, with what stands in front of them.
+//! Writes a component as ` name=value`.
 ghost use Rattle.std.specs.Prelude.{◌≡◌, ◌+◌, ◌<◌, ◌≤◌, ◌++◌, length, map, take, string_bytes};
 ghost use Rattle.std.specs.Prelude.{OnOk, OnErr, vec_len, vec_capacity, codes};
 ghost use Rattle.spawnrun_lib.specs.Pieces.{AreLabels, IsLabel};
@@ -14,7 +14,7 @@ const COMPONENTS: usize = 256;
 /// The longest name that has a label.
 const LONGEST_NAME: usize = 46;
 
-/// The labels of components: a space, the name and `=`.
+/// For each component the text before its value: a space, the name and `=`.
 #[derive(Drop)]
 pub(crate) struct Labels {
     pieces: [Piece; COMPONENTS],

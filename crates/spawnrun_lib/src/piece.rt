@@ -1,5 +1,5 @@
-//! A short text that a list takes with one test for room: all of the piece is copied, and what lies
-//! behind the text is given back.
+//! A short text that is appended with one test for room: the whole array is copied, and the list is
+//! then truncated to the text.
 ghost use Rattle.std.specs.Prelude.{◌≡◌, ◌==◌, ◌+◌, ◌-◌, ◌<◌, ◌≤◌, ◌++◌, ◌∷◌, [], length};
 ghost use Rattle.std.specs.Prelude.{OnOk, OnErr, take, vec_len, vec_capacity};
 ghost use Rattle.std.specs.Fmt.{signed_decimal};
@@ -12,7 +12,7 @@ use itoa::Buffer;
 /// How many bytes a piece has. A birth takes at most 42 of them.
 const ROOM: usize = 48;
 
-/// Room for a text, which begins with its first byte.
+/// A text of at most 48 bytes.
 #[derive(Clone, Copy)]
 pub(crate) struct Piece {
     bytes: [u8; ROOM],
@@ -35,7 +35,7 @@ impl Piece {
         self.len == 0
     }
 
-    /// Writes the text behind what is there.
+    /// Adds the bytes at the end of the text.
     pub(crate) fn put(&mut self, text: &[u8])
         requires { self.old.len + length text.now ≤ 48 }
         ensures len { self.new.len ≡ self.old.len + length text.now }
@@ -46,7 +46,7 @@ impl Piece {
         }
     }
 
-    /// Writes the byte behind what is there.
+    /// Adds the byte at the end of the text.
     #[inline(always)]
     fn put_byte(&mut self, byte: u8)
         requires { self.old.len < 48 }
@@ -57,7 +57,7 @@ impl Piece {
         self.len += 1;
     }
 
-    /// Writes that byte in place of the last one.
+    /// Replaces the last byte.
     #[inline(always)]
     pub(crate) fn set_last(&mut self, byte: u8)
         requires some { 0 < self.old.len }

@@ -1,6 +1,6 @@
 // Made of crates/spawnrun_lib/src/labels.rt by rust/erase. It isn't edited by hand.
 
-//! The values of components, with what stands in front of them.
+//! Writes a component as ` name=value`.
 
 use alloc::vec::Vec;
 use crate::kit::programs::string::String;
@@ -14,7 +14,7 @@ const COMPONENTS: usize = 256;
 /// The longest name that has a label.
 const LONGEST_NAME: usize = 46;
 
-/// The labels of components: a space, the name and `=`.
+/// For each component the text before its value: a space, the name and `=`.
 pub(super) struct Labels {
     pieces: [Piece; COMPONENTS],
 }

@@ -1,7 +1,7 @@
 // Made of crates/spawnrun_lib/src/piece.rt by rust/erase. It isn't edited by hand.
 
-//! A short text that a list takes with one test for room: all of the piece is copied, and what lies
-//! behind the text is given back.
+//! A short text that is appended with one test for room: the whole array is copied, and the list is
+//! then truncated to the text.
 
 use alloc::vec::Vec;
 use crate::kit::vec::FallibleVec;
@@ -12,7 +12,7 @@ use crate::kit::itoa::Buffer;
 /// How many bytes a piece has. A birth takes at most 42 of them.
 const ROOM: usize = 48;
 
-/// Room for a text, which begins with its first byte.
+/// A text of at most 48 bytes.
 #[derive(Clone, Copy)]
 pub(super) struct Piece {
     bytes: [u8; ROOM],
@@ -37,7 +37,7 @@ impl Piece {
         self.len == 0
     }
 
-    /// Writes the text behind what is there.
+    /// Adds the bytes at the end of the text.
     #[inline]
     pub(super) fn put(&mut self, text: &[u8])
         // requires { self.old.len + length text.now ≤ 48 }
@@ -49,7 +49,7 @@ impl Piece {
         }
     }
 
-    /// Writes the byte behind what is there.
+    /// Adds the byte at the end of the text.
     #[inline(always)]
     fn put_byte(&mut self, byte: u8)
         // requires { self.old.len < 48 }
@@ -60,7 +60,7 @@ impl Piece {
         self.len += 1;
     }
 
-    /// Writes that byte in place of the last one.
+    /// Replaces the last byte.
     #[inline(always)]
     pub(super) fn set_last(&mut self, byte: u8)
         // requires some { 0 < self.old.len }
