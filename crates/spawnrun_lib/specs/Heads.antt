@@ -10,7 +10,7 @@ pub record IsHead (head : Head) : Type 0 where
   pub within : head.text.len ≤ 48
   pub text : piece_text head.text ≡ birth_text head.birth
 
--- the texts of the births differ in the last digit at most
+-- the births differ in the last digit of their ordinals at most
 pub record AreAlike (a b : Birth) : Type 0 where
   pub frame : a.frame ≡ b.frame
   pub system : a.system ≡ b.system

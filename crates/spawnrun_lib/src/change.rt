@@ -14,8 +14,8 @@ use ent_queue::{CommandQueue, Commands};
 use ent_script::{Bundle, Target};
 use ent_world::View;
 
-/// To how many handles a bundle goes one by one. It is packed anew for each, which takes less time
-/// than a list of its bytes.
+/// Up to this many handles get an insert each. To pack the bundle for each of so few takes less time
+/// than to make a list of its bytes first.
 const FEW: usize = 8;
 
 /// What an operation does to each entity of its target.

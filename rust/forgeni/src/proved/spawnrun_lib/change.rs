@@ -8,8 +8,8 @@ use crate::commands::{IssuedCommands, SystemCommands};
 use crate::scripts::{Bundle, Target};
 use crate::worlds::View;
 
-/// To how many handles a bundle goes one by one. It is packed anew for each, which takes less time
-/// than a list of its bytes.
+/// Up to this many handles get an insert each. To pack the bundle for each of so few takes less time
+/// than to make a list of its bytes first.
 const FEW: usize = 8;
 
 /// What an operation does to each entity of its target.
