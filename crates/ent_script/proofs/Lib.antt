@@ -12,6 +12,7 @@ pub mod Tops
 pub mod Listing
 pub mod Puts
 pub mod Keyed
+pub mod Shares
 pub mod Whole
 pub mod Ranges
 pub mod Common

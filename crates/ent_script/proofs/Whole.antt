@@ -2,6 +2,7 @@
 use Rattle.ent_script.proofs.Common.{rules, ◌≡◌, ℕ, List, map, Option, Some, None, option_map}
 use Rattle.ent_script.proofs.Common.{option_and_then, codes, Result, Data, get, view, Value, cut}
 use Rattle.ent_script.proofs.Common.{at_most, ◌>>=◌, numbered, component_at, component_names}
+use Rattle.ent_script.proofs.Common.{Share, frames_in, script_in}
 use Rattle.ent_script.proofs.Common.{heading_of, in_script, script_of, Script, frames_of, Heading}
 use Rattle.ent_script.proofs.Common.{Operation, ReadFault, Ok, Err, ReadsAs, ReadsList}
 use Rattle.ent_script.specs.declared.cause.ScriptCause.TheVariants as script_cause
@@ -36,6 +37,16 @@ pub script_is : (d : Data) (heading : Heading) (names : Names)
     >>= λ frames. all_of heading names frames)
 unfolding script_of
 script_is d heading names a b = search (rules)
+
+-- what the workers of a share make of it
+pub share_is : (share : Share) (d : Data) (heading : Heading) (names : Names)
+    → in_script (heading_of d) ≡ Ok heading
+    → in_script (component_names (get (codes "components") d)) ≡ Ok names
+    → script_in share d
+    ≡ (frames_in share heading.format names (get (codes "frames") d)
+    >>= λ frames. all_of heading names frames)
+unfolding script_in
+share_is share d heading names a b = search (rules)
 
 pub names_refused : (d : Data) (heading : Heading) (e : ReadFault)
     → in_script (heading_of d) ≡ Ok heading

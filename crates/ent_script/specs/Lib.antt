@@ -13,3 +13,4 @@ pub mod Front
 pub mod Part
 pub mod Fields
 pub mod Sizes
+pub mod Shares

@@ -32,4 +32,11 @@ impl Frame {
     {
         &self.systems
     }
+
+    /// The systems. It doesn't allocate.
+    pub(crate) fn into_systems(self) -> Vec<System>
+        ensures { result.items ≡ self }
+    {
+        self.systems
+    }
 }

@@ -6,11 +6,12 @@ ghost use Rattle.serde_json.specs.Read.{of_json, of_items, converted};
 ghost use Rattle.ent_script.specs.Fields.{AreFields, of_fields};
 ghost use Rattle.ent_script.specs.Names.{with_part};
 ghost use Rattle.ent_script.specs.Reading.{operation_of, bound_name, at_operation};
-ghost use Rattle.ent_script.specs.Reading.{system_of, frame_of};
+ghost use Rattle.ent_script.specs.Reading.{system_of};
 ghost use Rattle.ent_script.specs.Reading.{births_before};
 ghost use Rattle.ent_script.specs.Reading.{ReadsPart, ReadsAs};
 ghost use Rattle.ent_script.specs.declared.read_fault.ReadFault.TheVariants as fault;
-ghost use Rattle.ent_script.specs.Streaming.{Streams, StreamsList, frames_of};
+ghost use Rattle.ent_script.specs.Shares.{system_in, frame_in, frames_in};
+ghost use Rattle.ent_script.specs.Streaming.{Streams, StreamsList};
 ghost use Rattle.ent_script.specs.Passing.{after_value, after_items};
 ghost use Rattle.ent_script.specs.Sizes.{most_components};
 
@@ -24,7 +25,9 @@ use crate::names::Names;
 use crate::operation::Operation;
 use crate::part_fault::PartFault;
 use crate::parts::{binding, bundle, bundle_or_none, count, removed, target};
+use crate::passing::pass_value;
 use crate::read_fault::ReadFault;
+use crate::share::Share;
 use crate::sizes::{FRAMES, OPERATIONS, SYSTEMS};
 use crate::streaming::{begins_array, begins_object, fault_of_array};
 use crate::system::System;
@@ -245,11 +248,39 @@ fn system(
     operations(alloc, format, components, frame, number, reader, depth - 1)
 }
 
+/// The system that comes next, if the share has it. It passes over others, and then returns one
+/// without operations.
+fn system_in(
+    alloc: Global,
+    format: Format,
+    components: &Names<'_>,
+    share: Share,
+    frame: usize,
+    number: usize,
+    reader: &mut Reader<'_>,
+    depth: usize,
+) -> Result<System, ReadFault>
+    requires { length components.now ≤ most_components }
+    ensures value { (d : Data) (rest : List SpecToken)
+        → converted of_json (value depth reader.old) ≡ Some (d, rest)
+        → Streams result reader.new (system_in share format components.now frame number d) rest }
+    ensures passes { OnOk result (after_value depth reader.old ≡ Some reader.new) }
+    ensures shorter { OnOk result (length reader.new < length reader.old) }
+    ensures no_longer { length reader.new ≤ length reader.old }
+{
+    if share.has(frame, number) {
+        return system(alloc, format, components, frame, number, reader, depth);
+    }
+    pass_value(reader, depth)?;
+    Ok(System::new(Vec::new(alloc)))
+}
+
 /// The systems of a frame, of which the bracket was taken.
 fn systems(
     alloc: Global,
     format: Format,
     components: &Names<'_>,
+    share: Share,
     frame: usize,
     reader: &mut Reader<'_>,
     depth: usize,
@@ -257,7 +288,8 @@ fn systems(
     requires { length components.now ≤ most_components }
     ensures value { (n : ℕ) (ds : Items) (rest : List SpecToken)
         → converted of_items (items (value depth) n reader.old) ≡ Some (ds, rest)
-        → Streams result reader.new (frame_of format components.now frame (array ds)) rest }
+        → Streams result reader.new (frame_in share format components.now frame
+        (array ds)) rest }
     ensures passes { OnOk result (after_items depth reader.old ≡ Some reader.new) }
     ensures shorter { OnOk result (length reader.new ≤ length reader.old) }
     ensures no_longer { length reader.new ≤ length reader.old }
@@ -269,7 +301,9 @@ fn systems(
         if number == SYSTEMS {
             return Err(fault_of_array(reader, depth, 0, limit, limit));
         }
-        match system(alloc, format, components, frame, number, reader, depth) {
+        match system_in(
+            alloc, format, components, share, frame, number, reader, depth,
+        ) {
             Ok(system) => systems.push(system)?,
             Err(fault) => {
                 return Err(fault_of_array(reader, depth, SYSTEMS - 1 - number, fault, limit));
@@ -286,6 +320,7 @@ fn frame(
     alloc: Global,
     format: Format,
     components: &Names<'_>,
+    share: Share,
     number: usize,
     reader: &mut Reader<'_>,
     depth: usize,
@@ -293,7 +328,7 @@ fn frame(
     requires { length components.now ≤ most_components }
     ensures value { (d : Data) (rest : List SpecToken)
         → converted of_json (value depth reader.old) ≡ Some (d, rest)
-        → Streams result reader.new (frame_of format components.now number d) rest }
+        → Streams result reader.new (frame_in share format components.now number d) rest }
     ensures passes { OnOk result (after_value depth reader.old ≡ Some reader.new) }
     ensures shorter { OnOk result (length reader.new < length reader.old) }
     ensures no_longer { length reader.new ≤ length reader.old }
@@ -301,7 +336,7 @@ fn frame(
     if !begins_array(reader, depth)? {
         return Err(ReadFault::Frame { frame: number });
     }
-    systems(alloc, format, components, number, reader, depth - 1)
+    systems(alloc, format, components, share, number, reader, depth - 1)
 }
 
 /// The frames of a script with these components, of which the bracket was taken.
@@ -309,13 +344,15 @@ fn frames_inside(
     alloc: Global,
     format: Format,
     components: &Names<'_>,
+    share: Share,
     reader: &mut Reader<'_>,
     depth: usize,
 ) -> Result<Vec<Frame>, ReadFault>
     requires { length components.now ≤ most_components }
     ensures value { (n : ℕ) (ds : Items) (rest : List SpecToken)
         → converted of_items (items (value depth) n reader.old) ≡ Some (ds, rest)
-        → StreamsList result reader.new (frames_of format components.now (Some (array ds))) rest }
+        → StreamsList result reader.new (frames_in share format components.now
+        (Some (array ds))) rest }
     ensures passes { OnOk result (after_items depth reader.old ≡ Some reader.new) }
     ensures shorter { OnOk result (length reader.new ≤ length reader.old) }
     ensures no_longer { length reader.new ≤ length reader.old }
@@ -327,7 +364,7 @@ fn frames_inside(
         if number == FRAMES {
             return Err(fault_of_array(reader, depth, 0, limit, limit));
         }
-        match frame(alloc, format, components, number, reader, depth) {
+        match frame(alloc, format, components, share, number, reader, depth) {
             Ok(frame) => frames.push(frame)?,
             Err(fault) => {
                 return Err(fault_of_array(reader, depth, FRAMES - 1 - number, fault, limit));
@@ -343,13 +380,14 @@ pub(crate) fn frames(
     alloc: Global,
     format: Format,
     components: &Names<'_>,
+    share: Share,
     reader: &mut Reader<'_>,
     depth: usize,
 ) -> Result<Vec<Frame>, ReadFault>
     requires { length components.now ≤ most_components }
     ensures value { (d : Data) (rest : List SpecToken)
         → converted of_json (value depth reader.old) ≡ Some (d, rest)
-        → StreamsList result reader.new (frames_of format components.now (Some d)) rest }
+        → StreamsList result reader.new (frames_in share format components.now (Some d)) rest }
     ensures passes { OnOk result (after_value depth reader.old ≡ Some reader.new) }
     ensures shorter { OnOk result (length reader.new < length reader.old) }
     ensures no_longer { length reader.new ≤ length reader.old }
@@ -357,5 +395,5 @@ pub(crate) fn frames(
     if !begins_array(reader, depth)? {
         return Err(ReadFault::Script(ScriptCause::Frames));
     }
-    frames_inside(alloc, format, components, reader, depth - 1)
+    frames_inside(alloc, format, components, share, reader, depth - 1)
 }

@@ -1,16 +1,17 @@
 //! Scripts whose frames come last, as most do. Such a text is read once.
 //!
 //! An error other than `Memory` says nothing about the text, which is then read twice.
-ghost use Rattle.std.specs.Prelude.{◌≡◌, ◌∷◌, [], ℕ, ◌<◌, ◌≤◌, List, length, codes, Some, None, Ok};
+ghost use Rattle.std.specs.Prelude.{◌≡◌, [], ◌<◌, ◌≤◌, List, length, codes, Some, None, Ok};
 ghost use Rattle.std.specs.Prelude.{IfOk, IfSome, OnOk};
 ghost use Rattle.json.specs.Json.{value, members, read_key};
 ghost use Rattle.json.specs.Token.{Token as SpecToken};
-ghost use Rattle.serde_json.specs.Data.{Data, Items, Members, array, object, no_members, put};
+ghost use Rattle.serde_json.specs.Data.{Items, Members, array, object, no_members, put};
 ghost use Rattle.serde_json.specs.Find.{get_member};
-ghost use Rattle.serde_json.specs.Read.{of_json, of_members, converted, read};
+ghost use Rattle.serde_json.specs.Read.{of_json, of_members, converted};
 ghost use Rattle.serde_json.specs.View.{members_view};
 ghost use Rattle.ent_script.specs.Front.{IsFront};
-ghost use Rattle.ent_script.specs.Reading.{heading_of, in_script, script_of};
+ghost use Rattle.ent_script.specs.Reading.{heading_of, in_script};
+ghost use Rattle.ent_script.specs.Shares.{Makes, script_in};
 ghost use Rattle.ent_script.specs.Sizes.{most_components};
 ghost use Rattle.ent_script.specs.Top.{heads};
 
@@ -21,6 +22,7 @@ use crate::front::Front;
 use crate::read_fault::ReadFault;
 use crate::reading::{DEPTH, different_names, heading, opens, owned};
 use crate::script::Script;
+use crate::share::Share;
 use crate::sizes::COMPONENTS;
 use crate::streaming::read_elements;
 use json::{Reader, Scratch};
@@ -44,6 +46,7 @@ fn end(reader: &mut Reader<'_>) -> Result<(), ReadFault>
 fn script_behind(
     alloc: Global,
     front: Front,
+    share: Share,
     reader: &mut Reader<'_>,
     depth: usize,
 ) -> Result<Script, ReadFault>
@@ -54,12 +57,12 @@ fn script_behind(
         × (read_key rest ≡ Some (None, []))
         × ((ms : Members) → IsFront front (object ms)
         → get_member (codes "frames") ms ≡ Some (array ds)
-        → script_of (object ms) ≡ Ok script)) }
+        → script_in share (object ms) ≡ Ok script)) }
 {
     let heading = front.heading;
     let values = front.components.ok_or(ScriptCause::Components)?;
     let components = different_names(alloc, &values)?;
-    let frames = frames(alloc, heading.format, &components, reader, depth)?;
+    let frames = frames(alloc, heading.format, &components, share, reader, depth)?;
     end(reader)?;
     let names = owned(alloc, components.as_slice())?;
     Ok(Script::new(heading.limits, names, frames))
@@ -89,18 +92,23 @@ fn front_of(
 }
 
 /// The script of an object of which the brace was taken, if its frames come last.
-fn script_inside(alloc: Global, reader: &mut Reader<'_>, depth: usize) -> Result<Script, ReadFault>
+fn script_inside(
+    alloc: Global,
+    share: Share,
+    reader: &mut Reader<'_>,
+    depth: usize,
+) -> Result<Script, ReadFault>
     ensures { IfOk result (λ script. (ms : Members)
         × (converted (λ ms. of_members ms no_members)
         (members (value depth) (length reader.old) reader.old) ≡ Some (ms, []))
-        × (script_of (object ms) ≡ Ok script)) }
+        × (script_in share (object ms) ≡ Ok script)) }
 {
     let mut found = Map::new(alloc);
     let mut components = None;
     'members: while let Some(name) = reader.next_key()? {
         if name == "frames" {
             let front = front_of(alloc, found, components)?;
-            return script_behind(alloc, front, reader, depth);
+            return script_behind(alloc, front, share, reader, depth);
         }
         let key = String::from_str(alloc, name)?;
         if name == "components" {
@@ -115,18 +123,18 @@ fn script_inside(alloc: Global, reader: &mut Reader<'_>, depth: usize) -> Result
     Err(ReadFault::Script(ScriptCause::Frames))
 }
 
-/// The script that a text means, if its frames come last.
+/// What the workers of a share make of a text, if its frames come last.
 pub(crate) fn script_in_order(
     alloc: Global,
     text: &str,
     scratch: &mut Scratch,
+    share: Share,
 ) -> Result<Script, ReadFault>
-    ensures { IfOk result (λ script. (d : Data) × (read text.now ≡ Some d)
-        × (script_of d ≡ Ok script)) }
+    ensures { IfOk result (Makes share text.now) }
 {
     let mut reader = Reader::new(text, scratch)?;
     if !opens(&mut reader) {
         return Err(ReadFault::Script(ScriptCause::Top));
     }
-    script_inside(alloc, &mut reader, DEPTH - 1)
+    script_inside(alloc, share, &mut reader, DEPTH - 1)
 }

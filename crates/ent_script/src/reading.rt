@@ -1,4 +1,4 @@
-ghost use Rattle.std.specs.Prelude.{◌≡◌, ◌≤◌, length, map, option_map, IfOk, IfErr};
+ghost use Rattle.std.specs.Prelude.{◌≡◌, ◌<◌, ◌≤◌, length, map, option_map, IfOk, IfErr};
 ghost use Rattle.std.specs.Prelude.{string_bytes, ◌∷◌, ℕ, List, Some, Ok, false, codes};
 ghost use Rattle.std.specs.Prelude.{IfSome};
 ghost use Rattle.std.specs.Bool.{MatchBool};
@@ -20,22 +20,24 @@ ghost use Rattle.ent_script.specs.Reading.{ReadsAs, ReadsList};
 ghost use Rattle.ent_script.specs.Sizes.{most_components};
 
 use crate::cause::ScriptCause;
+use crate::divided::script_of_share;
 use crate::elements::{are_keys_among, members, name, whole_within};
 use crate::format::Format;
 use crate::frame::Frame;
 use crate::frames::frames;
 use crate::front::Front;
 use crate::heading::Heading;
-use crate::in_order::script_in_order;
 use crate::names::Names;
 use crate::passing::pass_value;
 use crate::read_fault::ReadFault;
 use crate::script::Script;
+use crate::share::Share;
 use crate::top::read_top;
 use ent_alloc::Limits;
 use json::{Reader, Scratch, Token};
 use serde_json::Value;
 use std::alloc::Global;
+use std::thread::Threads;
 
 /// The whole number in this range that a part is, or this one if the part is absent.
 fn number_or(part: Option<&Value>, absent: u32, low: u32, high: u32) -> Option<u32>
@@ -176,7 +178,7 @@ fn frames_inside(
     'members: while let Some(key) = reader.next_key()? {
         if key == "frames" {
             found = Err(ReadFault::Script(ScriptCause::Frames));
-            found = frames(alloc, format, components, reader, depth);
+            found = frames(alloc, format, components, Share::all(1), reader, depth);
             if ran_out(&found) {
                 return Err(ReadFault::Memory);
             }
@@ -226,29 +228,44 @@ fn script_in(
     Ok(Script::new(heading.limits, names, frames))
 }
 
-/// The script that a JSON text means.
+/// How much text each of several workers reads at least, in bytes. To start a thread takes as long
+/// as to read a third of it, or less.
+const WORTH: usize = 65_536;
+
+/// The script that a JSON text means, read by 1 to 64 workers.
 ///
 /// It takes time linear in the text, and logarithmic time for each look-up of a name. A script whose
-/// frames come last is read once. Any other text is read again from the start, twice. No more than
-/// one operation is kept at a time as a value.
+/// frames come last is read once, by as many workers as the length of the text is worth: each passes
+/// over the systems of the others. Any other text is read by one worker, again from the start, twice.
+/// No more than one operation of each worker is kept at a time as a value.
 ///
 /// # Errors
 ///
 /// `Json` if `serde_json` reads no value from the text; `Script`, `Frame`, `System` or `Operation`
 /// with the first test that the value fails. `Memory` if memory ran out.
-pub fn read_script(alloc: Global, text: &[u8]) -> Result<Script, ReadFault>
+pub fn read_script<R>(
+    rt: &R,
+    alloc: Global,
+    text: &[u8],
+    workers: usize,
+) -> Result<Script, ReadFault>
+where
+    R: Threads + Sync,
+    requires some { 0 < workers }
+    requires few { workers ≤ 64 }
     ensures exact { ReadsAs result (script_of_text text.now) }
     ensures ranges { IfOk result IsScript }
 {
     let Ok(checked) = simdutf8::basic::from_utf8(text) else {
         return Err(ReadFault::Json);
     };
-    let mut scratch = Scratch::new(alloc);
-    match script_in_order(alloc, checked, &mut scratch) {
+    let readers = (text.len() / WORTH).min(workers - 1) + 1;
+    match script_of_share(rt, alloc, checked, Share::all(readers)) {
         Ok(script) => return Ok(script),
         Err(ReadFault::Memory) => return Err(ReadFault::Memory),
         Err(_) => (),
     }
+    let mut scratch = Scratch::new(alloc);
     let front = front_in(alloc, checked, &mut scratch)?;
     script_in(alloc, front, checked, &mut scratch)
 }

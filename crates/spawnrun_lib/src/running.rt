@@ -38,7 +38,7 @@ where
     requires few { workers ≤ 64 }
     ensures { IfOk result (IsProductOf (Runs workers show) MeansNone input.items) }
 {
-    match read_script(alloc, &input) {
+    match read_script(rt, alloc, &input, workers) {
         Ok(script) => {
             // The text is given back before the frames run.
             drop(input);
@@ -70,7 +70,7 @@ where
     requires few { workers ≤ 64 }
     ensures { IfOk result (IsProductOf (RunsInBlocks size show) MeansNone input.items) }
 {
-    match read_script(alloc, &input) {
+    match read_script(rt, alloc, &input, workers) {
         Ok(script) => {
             // The text is given back before the frames run.
             drop(input);

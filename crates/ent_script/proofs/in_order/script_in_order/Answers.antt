@@ -6,4 +6,8 @@ pub returns : goal.returns
 returns c =
     let begun : tokens c.args.text.now ≡ Token.begin_object ∷ c.opens.new.reader = search rules in
     if_ok c.script_inside.result c.script_inside.ensures (λ script is.
-    (object is.0, search (rules, begun, is.1, value-begin_object, converted-object), is.2))
+    record {
+      value = object is.0;
+      is_read = search (rules, begun, is.1, value-begin_object, converted-object);
+      means = is.2;
+    })

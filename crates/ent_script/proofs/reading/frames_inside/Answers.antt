@@ -4,6 +4,8 @@ use Rattle.ent_script.proofs.Finding.{next_member, last_member, no_key, member_o
 use Rattle.ent_script.proofs.Finding.{member_not_over}
 use Rattle.ent_script.proofs.Listing.{streamed_list}
 use Rattle.ent_script.proofs.Puts.{found_here, found_before}
+use Rattle.ent_script.proofs.Shares.{whole_frames}
+use Rattle.ent_script.proofs.Common.{ap, rules, Share}
 use Rattle.ent_script.proofs.reading.frames_inside.Goals as goal
 
 pub members-init : goal.members-init
@@ -19,8 +21,11 @@ members-preserved-else-ran_out c n ms rest e =
     let at = c.members.invariant n ms rest e in
     let named : read_key c.members.reader ≡ Some (Some k, c.next_key.new.self) = grind arith in
     let next = next_member (value c.args.depth) at.0 k _ _ rest at.1 ms named at.2 in
+    let whole = whole_frames c.all.result (ap Share.first c.all.ensures)
+    (search (rules, c.all.ensures)) (search (rules, arith, c.all.ensures)) c.args.format
+    c.args.components.now (Some next.0) in
     let read = streamed_list _ _ _ _ (sym c.ran_out.ensures ∙ c.if-ran_out.false)
-    (c.frames-found.ensures.value next.0 next.1 next.2) in
+    (rw whole at (c.frames-found.ensures.value next.0 next.1 next.2)) in
     let here = found_here (codes "frames") k next.0 at.1 (sym c.if-eq.ensures) in
     (at.0 - 1, put k next.0 at.1, rw read.1 next.3, rw here read.0)
 

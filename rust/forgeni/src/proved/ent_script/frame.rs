@@ -30,4 +30,12 @@ impl Frame {
     pub fn systems(&self) -> &[System] {
         &self.systems
     }
+
+    /// The systems. It doesn't allocate.
+    #[inline]
+    pub(super) fn into_systems(self) -> Vec<System>
+        // ensures { result.items ≡ self }
+    {
+        self.systems
+    }
 }

@@ -12,7 +12,9 @@ use crate::scripts::names::Names;
 use crate::scripts::operation::Operation;
 use crate::scripts::part_fault::PartFault;
 use crate::scripts::parts::{binding, bundle, bundle_or_none, count, removed, target};
+use crate::scripts::passing::pass_value;
 use crate::scripts::read_fault::ReadFault;
+use crate::scripts::share::Share;
 use crate::scripts::sizes::{FRAMES, OPERATIONS, SYSTEMS};
 use crate::scripts::streaming::{begins_array, begins_object, fault_of_array};
 use crate::scripts::system::System;
@@ -230,11 +232,39 @@ fn system(
     operations(format, components, frame, number, reader, depth - 1)
 }
 
+/// The system that comes next, if the share has it. It passes over others, and then returns one
+/// without operations.
+#[inline]
+fn system_in(
+    format: Format,
+    components: &Names<'_>,
+    share: Share,
+    frame: usize,
+    number: usize,
+    reader: &mut Reader<'_>,
+    depth: usize,
+) -> Result<System, ReadFault>
+    // requires { length components.now ≤ most_components }
+    // ensures value { (d : Data) (rest : List SpecToken)
+    //     → converted of_json (value depth reader.old) ≡ Some (d, rest)
+    //     → Streams result reader.new (system_in share format components.now frame number d) rest }
+    // ensures passes { OnOk result (after_value depth reader.old ≡ Some reader.new) }
+    // ensures shorter { OnOk result (length reader.new < length reader.old) }
+    // ensures no_longer { length reader.new ≤ length reader.old }
+{
+    if share.has(frame, number) {
+        return system(format, components, frame, number, reader, depth);
+    }
+    pass_value(reader, depth)?;
+    Ok(System::new(Vec::new()))
+}
+
 /// The systems of a frame, of which the bracket was taken.
 #[inline]
 fn systems(
     format: Format,
     components: &Names<'_>,
+    share: Share,
     frame: usize,
     reader: &mut Reader<'_>,
     depth: usize,
@@ -242,7 +272,8 @@ fn systems(
     // requires { length components.now ≤ most_components }
     // ensures value { (n : ℕ) (ds : Items) (rest : List SpecToken)
     //     → converted of_items (items (value depth) n reader.old) ≡ Some (ds, rest)
-    //     → Streams result reader.new (frame_of format components.now frame (array ds)) rest }
+    //     → Streams result reader.new (frame_in share format components.now frame
+    //     (array ds)) rest }
     // ensures passes { OnOk result (after_items depth reader.old ≡ Some reader.new) }
     // ensures shorter { OnOk result (length reader.new ≤ length reader.old) }
     // ensures no_longer { length reader.new ≤ length reader.old }
@@ -254,7 +285,7 @@ fn systems(
         if number == SYSTEMS {
             return Err(fault_of_array(reader, depth, 0, limit, limit));
         }
-        match system(format, components, frame, number, reader, depth) {
+        match system_in(format, components, share, frame, number, reader, depth) {
             Ok(system) => systems.push_fallibly(system)?,
             Err(fault) => {
                 return Err(fault_of_array(reader, depth, SYSTEMS - 1 - number, fault, limit));
@@ -270,6 +301,7 @@ fn systems(
 fn frame(
     format: Format,
     components: &Names<'_>,
+    share: Share,
     number: usize,
     reader: &mut Reader<'_>,
     depth: usize,
@@ -277,7 +309,7 @@ fn frame(
     // requires { length components.now ≤ most_components }
     // ensures value { (d : Data) (rest : List SpecToken)
     //     → converted of_json (value depth reader.old) ≡ Some (d, rest)
-    //     → Streams result reader.new (frame_of format components.now number d) rest }
+    //     → Streams result reader.new (frame_in share format components.now number d) rest }
     // ensures passes { OnOk result (after_value depth reader.old ≡ Some reader.new) }
     // ensures shorter { OnOk result (length reader.new < length reader.old) }
     // ensures no_longer { length reader.new ≤ length reader.old }
@@ -285,7 +317,7 @@ fn frame(
     if !begins_array(reader, depth)? {
         return Err(ReadFault::Frame { frame: number });
     }
-    systems(format, components, number, reader, depth - 1)
+    systems(format, components, share, number, reader, depth - 1)
 }
 
 /// The frames of a script with these components, of which the bracket was taken.
@@ -293,13 +325,15 @@ fn frame(
 fn frames_inside(
     format: Format,
     components: &Names<'_>,
+    share: Share,
     reader: &mut Reader<'_>,
     depth: usize,
 ) -> Result<Vec<Frame>, ReadFault>
     // requires { length components.now ≤ most_components }
     // ensures value { (n : ℕ) (ds : Items) (rest : List SpecToken)
     //     → converted of_items (items (value depth) n reader.old) ≡ Some (ds, rest)
-    //     → StreamsList result reader.new (frames_of format components.now (Some (array ds))) rest }
+    //     → StreamsList result reader.new (frames_in share format components.now
+    //     (Some (array ds))) rest }
     // ensures passes { OnOk result (after_items depth reader.old ≡ Some reader.new) }
     // ensures shorter { OnOk result (length reader.new ≤ length reader.old) }
     // ensures no_longer { length reader.new ≤ length reader.old }
@@ -311,7 +345,7 @@ fn frames_inside(
         if number == FRAMES {
             return Err(fault_of_array(reader, depth, 0, limit, limit));
         }
-        match frame(format, components, number, reader, depth) {
+        match frame(format, components, share, number, reader, depth) {
             Ok(frame) => frames.push_fallibly(frame)?,
             Err(fault) => {
                 return Err(fault_of_array(reader, depth, FRAMES - 1 - number, fault, limit));
@@ -327,13 +361,14 @@ fn frames_inside(
 pub(super) fn frames(
     format: Format,
     components: &Names<'_>,
+    share: Share,
     reader: &mut Reader<'_>,
     depth: usize,
 ) -> Result<Vec<Frame>, ReadFault>
     // requires { length components.now ≤ most_components }
     // ensures value { (d : Data) (rest : List SpecToken)
     //     → converted of_json (value depth reader.old) ≡ Some (d, rest)
-    //     → StreamsList result reader.new (frames_of format components.now (Some d)) rest }
+    //     → StreamsList result reader.new (frames_in share format components.now (Some d)) rest }
     // ensures passes { OnOk result (after_value depth reader.old ≡ Some reader.new) }
     // ensures shorter { OnOk result (length reader.new < length reader.old) }
     // ensures no_longer { length reader.new ≤ length reader.old }
@@ -341,5 +376,5 @@ pub(super) fn frames(
     if !begins_array(reader, depth)? {
         return Err(ReadFault::Script(ScriptCause::Frames));
     }
-    frames_inside(format, components, reader, depth - 1)
+    frames_inside(format, components, share, reader, depth - 1)
 }

@@ -13,6 +13,7 @@ use crate::scripts::front::Front;
 use crate::scripts::read_fault::ReadFault;
 use crate::scripts::reading::{DEPTH, different_names, heading, opens, owned};
 use crate::scripts::script::Script;
+use crate::scripts::share::Share;
 use crate::scripts::sizes::COMPONENTS;
 use crate::scripts::streaming::read_elements;
 use crate::kit::programs::json::{Reader, Scratch};
@@ -36,6 +37,7 @@ fn end(reader: &mut Reader<'_>) -> Result<(), ReadFault>
 #[inline]
 fn script_behind(
     front: Front,
+    share: Share,
     reader: &mut Reader<'_>,
     depth: usize,
 ) -> Result<Script, ReadFault>
@@ -46,12 +48,12 @@ fn script_behind(
     //     × (read_key rest ≡ Some (None, []))
     //     × ((ms : Members) → IsFront front (object ms)
     //     → get_member (codes "frames") ms ≡ Some (array ds)
-    //     → script_of (object ms) ≡ Ok script)) }
+    //     → script_in share (object ms) ≡ Ok script)) }
 {
     let heading = front.heading;
     let values = front.components.ok_or(ScriptCause::Components)?;
     let components = different_names(&values)?;
-    let frames = frames(heading.format, &components, reader, depth)?;
+    let frames = frames(heading.format, &components, share, reader, depth)?;
     end(reader)?;
     let names = owned(components.as_slice())?;
     Ok(Script::new(heading.limits, names, frames))
@@ -82,18 +84,22 @@ fn front_of(
 
 /// The script of an object of which the brace was taken, if its frames come last.
 #[inline]
-fn script_inside(reader: &mut Reader<'_>, depth: usize) -> Result<Script, ReadFault>
+fn script_inside(
+    share: Share,
+    reader: &mut Reader<'_>,
+    depth: usize,
+) -> Result<Script, ReadFault>
     // ensures { IfOk result (λ script. (ms : Members)
     //     × (converted (λ ms. of_members ms no_members)
     //     (members (value depth) (length reader.old) reader.old) ≡ Some (ms, []))
-    //     × (script_of (object ms) ≡ Ok script)) }
+    //     × (script_in share (object ms) ≡ Ok script)) }
 {
     let mut found = Map::new();
     let mut components = None;
     'members: while let Some(name) = reader.next_key()? {
         if name == "frames" {
             let front = front_of(found, components)?;
-            return script_behind(front, reader, depth);
+            return script_behind(front, share, reader, depth);
         }
         let key = String::from_str(name)?;
         if name == "components" {
@@ -108,18 +114,19 @@ fn script_inside(reader: &mut Reader<'_>, depth: usize) -> Result<Script, ReadFa
     Err(ReadFault::Script(ScriptCause::Frames))
 }
 
-/// The script that a text means, if its frames come last.
+/// What the workers of a share make of a text, if its frames come last.
 #[inline]
 pub(super) fn script_in_order(
     text: &str,
     scratch: &mut Scratch,
+    share: Share,
 ) -> Result<Script, ReadFault>
     // ensures { IfOk result (λ script. (d : Data) × (read text.now ≡ Some d)
-    //     × (script_of d ≡ Ok script)) }
+    //     × (script_in share d ≡ Ok script)) }
 {
     let mut reader = Reader::new(text, scratch)?;
     if !opens(&mut reader) {
         return Err(ReadFault::Script(ScriptCause::Top));
     }
-    script_inside(&mut reader, DEPTH - 1)
+    script_inside(share, &mut reader, DEPTH - 1)
 }

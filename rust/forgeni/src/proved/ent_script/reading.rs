@@ -4,21 +4,23 @@ use alloc::vec::Vec;
 use crate::kit::programs::string::String;
 use crate::kit::vec::FallibleVec;
 use crate::scripts::cause::ScriptCause;
+use crate::scripts::divided::script_of_share;
 use crate::scripts::elements::{are_keys_among, members, name, whole_within};
 use crate::scripts::format::Format;
 use crate::scripts::frame::Frame;
 use crate::scripts::frames::frames;
 use crate::scripts::front::Front;
 use crate::scripts::heading::Heading;
-use crate::scripts::in_order::script_in_order;
 use crate::scripts::names::Names;
 use crate::scripts::passing::pass_value;
 use crate::scripts::read_fault::ReadFault;
 use crate::scripts::script::Script;
+use crate::scripts::share::Share;
 use crate::scripts::top::read_top;
 use crate::allocator::Limits;
 use crate::kit::programs::json::{Reader, Scratch, Token};
 use crate::kit::programs::serde_json::Value;
+use crate::kit::thread::Join;
 
 /// The whole number in this range that a part is, or this one if the part is absent.
 #[inline]
@@ -166,7 +168,7 @@ fn frames_inside(
     'members: while let Some(key) = reader.next_key()? {
         if key == "frames" {
             found = Err(ReadFault::Script(ScriptCause::Frames));
-            found = frames(format, components, reader, depth);
+            found = frames(format, components, Share::all(1), reader, depth);
             if ran_out(&found) {
                 return Err(ReadFault::Memory);
             }
@@ -215,36 +217,44 @@ fn script_in(
     Ok(Script::new(heading.limits, names, frames))
 }
 
-/// The script that a JSON text means.
+/// How much text each of several workers reads at least, in bytes. To start a thread takes as long
+/// as to read a third of it, or less.
+const WORTH: usize = 65_536;
+
+/// The script that a JSON text means, read by 1 to 64 workers.
 ///
 /// It takes time linear in the text, and logarithmic time for each look-up of a name. A script whose
-/// frames come last is read once. Any other text is read again from the start, twice. No more than
-/// one operation is kept at a time as a value.
+/// frames come last is read once, by as many workers as the length of the text is worth: each passes
+/// over the systems of the others. Any other text is read by one worker, again from the start, twice.
+/// No more than one operation of each worker is kept at a time as a value.
 ///
 /// # Errors
 ///
 /// `Json` if `serde_json` reads no value from the text; `Script`, `Frame`, `System` or `Operation`
 /// with the first test that the value fails. `Memory` if memory ran out.
-///
-/// <details><summary>Contract</summary>
-///
-/// <code style="display: block; tab-size: 4; white-space: pre-wrap">// In the words of [contracts](crate::contracts):
-/// ensures exact { ReadsAs result (script_of_text text.now) }
-/// ensures ranges { IfOk result IsScript }
-/// </code>
-///
-/// </details>
 #[inline]
-pub fn read_script(text: &[u8]) -> Result<Script, ReadFault> {
+pub(crate) fn read_script<R>(
+    rt: &R,
+    text: &[u8],
+    workers: usize,
+) -> Result<Script, ReadFault>
+where
+    R: Join + Sync,
+    // requires some { 0 < workers }
+    // requires few { workers ≤ 64 }
+    // ensures exact { ReadsAs result (script_of_text text.now) }
+    // ensures ranges { IfOk result IsScript }
+{
     let Ok(checked) = crate::kit::programs::simdutf8::basic::from_utf8(text) else {
         return Err(ReadFault::Json);
     };
-    let mut scratch = Scratch::new();
-    match script_in_order(checked, &mut scratch) {
+    let readers = (text.len() / WORTH).min(workers - 1) + 1;
+    match script_of_share(rt, checked, Share::all(readers)) {
         Ok(script) => return Ok(script),
         Err(ReadFault::Memory) => return Err(ReadFault::Memory),
         Err(_) => (),
     }
+    let mut scratch = Scratch::new();
     let front = front_in(checked, &mut scratch)?;
     script_in(front, checked, &mut scratch)
 }

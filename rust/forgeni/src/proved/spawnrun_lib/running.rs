@@ -35,7 +35,7 @@ where
     // requires few { workers ≤ 64 }
     // ensures { IfOk result (IsProductOf (Runs workers show) MeansNone input.items) }
 {
-    match read_script(&input) {
+    match read_script(rt, &input, workers) {
         Ok(script) => {
             // The text is given back before the frames run.
             drop(input);
@@ -67,7 +67,7 @@ where
     // requires few { workers ≤ 64 }
     // ensures { IfOk result (IsProductOf (RunsInBlocks size show) MeansNone input.items) }
 {
-    match read_script(&input) {
+    match read_script(rt, &input, workers) {
         Ok(script) => {
             // The text is given back before the frames run.
             drop(input);

@@ -80,9 +80,9 @@ pub struct Reader<'a> {
 
 impl<'a> Reader<'a> {
     /// The contract: a reader of all tokens of the text, or an `Err` if the scratch can't grow to
-    /// the length of the text.
+    /// the length of the text. A text without a backslash needs none.
     pub fn new(text: &'a str, scratch: &'a mut Scratch) -> Result<Self, AllocError> {
-        if scratch.text.len() < text.len() {
+        if scratch.text.len() < text.len() && text.as_bytes().contains(&b'\\') {
             scratch.text.resize_fallibly(text.len(), 0)?;
         }
         let mut reader = Reader {

@@ -1,0 +1,44 @@
+// Made of crates/ent_script/src/divided.rt by rust/erase. It isn't edited by hand.
+
+//! A text that several workers read side by side. Each of them reads the whole of it, but makes
+//! only the systems of its share.
+
+use crate::scripts::in_order::script_in_order;
+use crate::scripts::merging::merged;
+use crate::scripts::read_fault::ReadFault;
+use crate::scripts::script::Script;
+use crate::scripts::share::Share;
+use crate::kit::programs::json::Scratch;
+use crate::kit::thread::{Join, join_mut};
+
+/// What the workers of a share make of a text, if its frames come last. Each of them needs as much
+/// room as the text.
+#[inline]
+pub(super) fn script_of_share<R>(
+    rt: &R,
+    text: &str,
+    share: Share,
+) -> Result<Script, ReadFault>
+where
+    R: Join + Sync,
+    // ensures { IfOk result (λ script. (d : Data) × (read text.now ≡ Some d)
+    //     × (script_in share d ≡ Ok script)) }
+{
+    if share.count() < 2 {
+        let mut scratch = Scratch::new();
+        return script_in_order(text, &mut scratch, share);
+    }
+    let (low, high) = share.halves();
+    let mut one = || -> Result<Script, ReadFault>
+        // requires { IsSync R.row }
+        // ensures { IfOk result (λ script. (d : Data) × (read text.entry.now ≡ Some d)
+        //     × (script_in low.entry d ≡ Ok script)) }
+    { script_of_share(rt, text, low) };
+    let mut other = || -> Result<Script, ReadFault>
+        // requires { IsSync R.row }
+        // ensures { IfOk result (λ script. (d : Data) × (read text.entry.now ≡ Some d)
+        //     × (script_in high.entry d ≡ Ok script)) }
+    { script_of_share(rt, text, high) };
+    let (first, second) = join_mut(rt, &mut one, &mut other);
+    Ok(merged(first?, second?)?)
+}

@@ -1,0 +1,68 @@
+// Made of crates/ent_script/src/merging.rt by rust/erase. It isn't edited by hand.
+
+//! Scripts of two shares, put together.
+
+use alloc::vec::Vec;
+use crate::kit::vec::FallibleVec;
+use crate::scripts::frame::Frame;
+use crate::scripts::script::Script;
+use crate::scripts::system::System;
+use crate::handles::OutOfMemory;
+
+/// The script with the frames of both. The limits and the components are those of the first one.
+#[inline]
+pub(super) fn merged(first: Script, second: Script) -> Result<Script, OutOfMemory>
+    // ensures { IfOk result (λ script.
+    //     script ≡ record first { frames = both (both nonempty) first.frames second.frames }) }
+{
+    let (limits, components, frames) = first.into_parts();
+    let (_, _, others) = second.into_parts();
+    Ok(Script::new(limits, components, both_frames(frames, others)?))
+}
+
+#[inline]
+fn both_frames(
+    frames: Vec<Frame>,
+    others: Vec<Frame>,
+) -> Result<Vec<Frame>, OutOfMemory>
+    // ensures { IfOk result (λ all. all.items ≡ both (both nonempty) frames.items others.items) }
+{
+    let mut all = Vec::with_capacity_fallibly(frames.len())?;
+    let mut others = others.into_iter();
+    for frame in frames {
+        let frame = match others.next() {
+            Some(other) => both_systems(frame.into_systems(), other.into_systems())?,
+            None => frame,
+        };
+        all.push_reserved(frame);
+    }
+    Ok(all)
+}
+
+#[inline]
+fn both_systems(systems: Vec<System>, others: Vec<System>) -> Result<Frame, OutOfMemory>
+    // ensures { IfOk result (λ frame. frame ≡ both nonempty systems.items others.items) }
+{
+    let mut all = Vec::with_capacity_fallibly(systems.len())?;
+    let mut others = others.into_iter();
+    for system in systems {
+        let system = match others.next() {
+            Some(other) => nonempty(system, other),
+            None => system,
+        };
+        all.push_reserved(system);
+    }
+    Ok(Frame::new(all))
+}
+
+/// The one that has operations.
+#[inline]
+fn nonempty(system: System, other: System) -> System
+    // ensures { result ≡ nonempty system other }
+{
+    if system.operations().is_empty() {
+        other
+    } else {
+        system
+    }
+}
