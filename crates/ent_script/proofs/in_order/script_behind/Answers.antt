@@ -40,6 +40,6 @@ returns c =
           let same = same_names (goal.at.returns c).After-deref (object ms) said in
           let whole =
           share_is c.args.share (object ms) c.args.front.heading c.in_ok-components.components
-              said.heading in
+          said.heading in
           search (rules, same, whole, found, frames, is),
     )
