@@ -15,7 +15,7 @@ use crate::world::World;
 use ent_alloc::{Entities, Phased, Refused, Reserved, Source};
 use ent_blocks::{Deals, Ended, InBlocks};
 use ent_handle::{HandedBack, Handle, Memory};
-use ent_world::{View, WorldRest};
+use ent_world::{Dealt, View, WorldRest};
 use std::alloc::Global;
 use std::marker::Model;
 
@@ -37,28 +37,24 @@ use std::marker::Model;
 /// ```
 #[derive(Drop)]
 pub struct InWorld<S: Deals> {
-    pub(crate) source: S,
-    pub(crate) rest: WorldRest,
+    pub(crate) dealt: Dealt<S>,
     pub(crate) of_world: u64,
     pub(crate) spawned: u32,
 }
 
 impl<S: Deals> Model for InWorld<S> {
     ghost use Rattle.ent_total.specs.InWorld.{InWorld, in_world_code};
-    ghost use Rattle.ent_world.specs.InBlocks.{BelongTogether};
 
     ghost Value = { InWorld S };
 
     ghost coded = { in_world_code S.code };
 
     ghost view = { λ w. record {
-      source = w.source;
-      rest = w.rest;
+      source = w.dealt.source;
+      rest = w.dealt.rest;
       of_world = w.of_world;
       spawned = w.spawned;
     } };
-
-    ghost invariant = { λ w. BelongTogether (S.start w.source) (S.rows w.source) w.rest };
 }
 
 impl<S: Deals> Source for InWorld<S> {
@@ -75,25 +71,25 @@ impl<S: Deals> Source for InWorld<S> {
     ghost rows = { λ w. S.rows w.source };
 
     fn was_alive(&self, handle: Handle) -> bool {
-        self.source.was_alive(handle)
+        self.dealt.source().was_alive(handle)
     }
 
     fn had_row(&self, handle: Handle) -> Option<u32> {
-        self.source.had_row(handle)
+        self.dealt.source().had_row(handle)
     }
 
     fn may_serve(&self, reserver: &S::Reserver, n: u32) -> bool {
-        self.source.may_serve(reserver, n)
+        self.dealt.source().may_serve(reserver, n)
     }
 
     #[inline(always)]
     fn serve_one(&self, reserver: &mut S::Reserver) -> Result<Handle, Refused> {
-        self.source.serve_one(reserver)
+        self.dealt.source().serve_one(reserver)
     }
 
     #[inline(always)]
     fn serve_many(&self, reserver: &mut S::Reserver, n: u32) -> Result<Reserved<'_>, Refused> {
-        self.source.serve_many(reserver, n)
+        self.dealt.source().serve_many(reserver, n)
     }
 }
 
@@ -114,15 +110,15 @@ impl<S: Deals> Phased for InWorld<S> {
         IsEndOf w end (λ closed. S.closes_lost w.source reservers closed) S.ended };
 
     fn callers(&self) -> usize {
-        self.source.callers()
+        self.dealt.source().callers()
     }
 
     fn as_opened(&self) -> &Entities {
-        self.source.as_opened()
+        self.dealt.source().as_opened()
     }
 
     fn may_take(&self, reservers: &[S::Reserver]) -> bool {
-        self.source.may_take(reservers)
+        self.dealt.source().may_take(reservers)
     }
 
     fn end_with_all(self, reservers: Vec<S::Reserver>) -> EndedWorld
@@ -133,11 +129,11 @@ impl<S: Deals> Phased for InWorld<S> {
             S.ended }
     {
         let InWorld {
-            source,
-            rest,
+            dealt,
             of_world,
             spawned,
         } = self;
+        let (source, rest) = dealt.into_parts();
         EndedWorld {
             ended: S::into_ended(source.end_with_all(reservers)),
             rest,
@@ -153,11 +149,11 @@ impl<S: Deals> Phased for InWorld<S> {
             S.ended }
     {
         let InWorld {
-            source,
-            rest,
+            dealt,
             of_world,
             spawned,
         } = self;
+        let (source, rest) = dealt.into_parts();
         EndedWorld {
             ended: S::into_ended(source.end_with_some(reservers)),
             rest,
@@ -194,7 +190,7 @@ impl<S: Deals> InWorld<S> {
     pub(crate) fn view(&self) -> View<'_>
         ensures { result ≡ view_in self.now }
     {
-        self.rest.view(self.source.as_opened())
+        self.dealt.view()
     }
 }
 
@@ -262,12 +258,12 @@ pub fn open_in<J: Numbering, S: Deals>(
         number: of_world,
         spawned,
     } = world;
-    let (entities, rest) = world.apart();
-    let (source, callers) = match S::deal(alloc, entities, sizes) {
+    let (dealt, callers) = match world.deal(sizes) {
         Ok(made) => made,
-        Err((entities, _)) => {
+        Err(back) => {
+            let (world, _) = back.into_parts();
             let world = World {
-                world: rest.with(entities),
+                world,
                 number: of_world,
                 spawned,
             };
@@ -275,8 +271,7 @@ pub fn open_in<J: Numbering, S: Deals>(
         }
     };
     let source = InWorld {
-        source,
-        rest,
+        dealt,
         of_world,
         spawned,
     };

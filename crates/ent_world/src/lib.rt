@@ -5,6 +5,7 @@
 mod applying;
 mod births;
 mod cloning;
+mod dealt;
 mod fault;
 mod image;
 mod image_fault;
@@ -17,6 +18,7 @@ mod view;
 mod world;
 mod world_rest;
 
+pub use dealt::Dealt;
 pub use fault::{Fault, FaultKind, SyncFault, SyncReport};
 pub use image_fault::WorldImageFault;
 pub use open_world::OpenWorld;

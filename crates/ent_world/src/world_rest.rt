@@ -34,7 +34,7 @@ impl Model for WorldRest {
 
 impl World {
     /// Takes the world apart: its allocator, and the rest.
-    pub fn apart(self) -> (Entities, WorldRest)
+    pub(crate) fn apart(self) -> (Entities, WorldRest)
         ensures world { world_with result.0.allocator result.1 ≡ self }
         ensures parts { BelongTogether result.0.allocator result.0.rows result.1 }
     {
@@ -55,7 +55,7 @@ impl World {
 
 impl WorldRest {
     /// The world as it was when its phase was opened, with the allocator as it was then.
-    pub fn view<'a>(&'a self, entities: &'a Entities) -> View<'a>
+    pub(crate) fn view<'a>(&'a self, entities: &'a Entities) -> View<'a>
         requires { AreRows entities.now.rows self.now.store.places self.now.store.entities }
         ensures phase { result.phase ≡ self.now.phase }
         ensures entities { result.entities ≡ self.now.store.entities }

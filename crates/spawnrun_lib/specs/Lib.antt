@@ -4,6 +4,7 @@ pub mod Parts
 pub mod IssuedAlone
 pub mod FrameAlone
 pub mod FrameText
+pub mod Texts
 pub mod WorldText
 pub mod Report
 pub mod ReportInBlocks

@@ -64,5 +64,5 @@ refusal_of r = record { line = r.line.items; wants = r.wants.now; found = inline
 -- an output that an input gives, or a refusal of it
 abbrev pub IsProductOf : (List ℕ → List ℕ → Type 0) → (List ℕ → Refusal → Type 0)
     → List ℕ → Product → Type 0
-IsProductOf Gives Fails input (product.Output text) = Gives input text.items
+IsProductOf Gives Fails input (product.Output text) = Gives input text
 IsProductOf Gives Fails input (product.Refusal r) = Fails input (refusal_of r)

@@ -5,6 +5,7 @@ ghost use Rattle.std.specs.Io.KnownBytes.{Appends};
 
 use crate::product::Refusal;
 use crate::status::Status;
+use crate::text::Text;
 use cli::{Failed, Sink};
 
 /// Writes a text, and ends with the status.
@@ -21,6 +22,25 @@ pub(crate) fn write<O: Sink>(output: &mut O, text: &[u8], status: Status) -> Sta
         Ok(()) => status,
         Err(Failed) => Status::Device,
     }
+}
+
+/// Writes a text part by part, and ends with the status.
+pub(crate) fn write_text<O: Sink>(output: &mut O, text: &Text, status: Status) -> Status
+    requires { status ≢ Status.Device }
+    ensures ends { (result ≡ status) ⊎ (result ≡ Status.Device) }
+    ensures written { result ≡ status
+        → Appends (O.written output.old) (O.written output.new) text.now }
+    ensures failed { result ≡ Status.Device
+        → O.failures output.new ≡ O.failures output.old + 1 }
+    ensures unfailed { result ≢ Status.Device → O.failures output.new ≡ O.failures output.old }
+{
+    let parts = text.parts();
+    for part in parts {
+        if output.put(part).is_err() {
+            return Status::Device;
+        }
+    }
+    status
 }
 
 /// Writes the line that refuses an input. If the line went out, the error stream gets what the

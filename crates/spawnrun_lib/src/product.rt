@@ -1,5 +1,6 @@
 //! What is made of an input: an output, or a refusal. And how long an input may be.
 use crate::found::Found;
+use crate::text::Text;
 
 /// The longest input that the program reads, in bytes.
 pub const INPUT_LIMIT: usize = 67_108_864;
@@ -8,7 +9,7 @@ pub const INPUT_LIMIT: usize = 67_108_864;
 #[derive(Drop)]
 pub(crate) enum Product {
     /// The input is accepted, and this is the output.
-    Output(Vec<u8>),
+    Output(Text),
     /// It is refused.
     Refusal(Refusal),
 }

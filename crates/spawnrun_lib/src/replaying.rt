@@ -7,6 +7,7 @@ ghost use Rattle.spawnrun_lib.specs.Work.{IsProductOf};
 use crate::product::{Product, Refusal};
 use crate::progress::Progress;
 use crate::schedule::schedule_found;
+use crate::text::Text;
 use crate::wants::line_wants;
 use ent_alloc::Limits;
 use ent_handle::Memory;
@@ -36,7 +37,7 @@ pub(crate) fn replay<P: Progress>(
         Ok(events) => {
             let text = outcome_text(alloc, limits, &events, progress);
             progress.end();
-            Ok(Product::Output(text?))
+            Ok(Product::Output(Text::one(alloc, text?)?))
         }
         Err(ReadFault::Line { line, cause }) => Ok(Product::Refusal(Refusal {
             line: refused_line(alloc, line, cause)?,

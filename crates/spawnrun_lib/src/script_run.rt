@@ -12,7 +12,8 @@ use crate::frame;
 use crate::frame_text::write_frame;
 use crate::progress::Progress;
 use crate::show::Show;
-use crate::world_text::write_world;
+use crate::text::Text;
+use crate::world_parts::world_behind;
 use ent_handle::Memory;
 use ent_script::{Frame, Script};
 use ent_world::World;
@@ -60,19 +61,18 @@ fn report<R, P: Progress>(
     workers: usize,
     show: Show,
     progress: &mut P,
-) -> Result<Vec<u8>, Memory>
+) -> Result<Text, Memory>
 where
     R: Threads + Sync,
     requires ranges { IsScript script }
     requires some { 0 < workers }
     requires few { workers ≤ 64 }
-    ensures { IfOk result (λ text. IsReport script workers show text.items) }
+    ensures { IfOk result (λ text. IsReport script workers show text) }
 {
     let (limits, components, frames) = script.into_parts();
     let mut world = World::new(alloc, limits);
-    let mut text = run_frames(rt, alloc, &mut world, frames, workers, show, progress)?;
-    write_world(&world, &components, show, &mut text)?;
-    Ok(text)
+    let text = run_frames(rt, alloc, &mut world, frames, workers, show, progress)?;
+    world_behind(rt, alloc, text, &world, &components, show, workers)
 }
 
 /// Runs a script over a world that begins empty, on 1 to 64 workers, and returns the report: the
@@ -97,33 +97,33 @@ pub fn run_script<R, P: Progress>(
     workers: usize,
     show: Show,
     progress: &mut P,
-) -> Result<Vec<u8>, Memory>
+) -> Result<Text, Memory>
 where
     R: Threads + Sync,
     requires ranges { IsScript script }
     requires some { 0 < workers }
     requires few { workers ≤ 64 }
-    ensures report { IfOk result (λ text. IsReport script workers show text.items) }
+    ensures report { IfOk result (λ text. IsReport script workers show text) }
 
     // The others are laws of the definitions: they follow from `report` and `ranges`, so a body
     // that meets `report` meets them. One worker has no other report.
     ensures only { workers ≡ 1 → IfOk result (λ text. (other : List ℕ)
-        → IsReport script workers show other → text.items ≡ other) }
+        → IsReport script workers show other → text ≡ other) }
 
     // However the frames went, and whatever the limits are.
     ensures given_once { IfOk result (λ text. (executions : List Execution)
-        → IsReportOf script workers show executions text.items
+        → IsReportOf script workers show executions text
         → AreGivenOnce (handles_in_run executions)) }
 
     // A script that names no handle has one text by births, however many workers run it, if no line
     // of the text tells of a refused request.
     ensures same { show ≡ Show.Births → IsWithoutHandles script → IfOk result (λ text.
-        TellsNoRefusal text.items → text.items ≡ text_alone script) }
+        TellsNoRefusal text → text ≡ text_alone script) }
 
     // And in any case, if all its operations request no more handles than it has slots: then no
     // request is refused.
     ensures enough { show ≡ Show.Births → IsWithoutHandles script → HasEnoughSlots script
-        → IfOk result (λ text. text.items ≡ text_alone script) }
+        → IfOk result (λ text. text ≡ text_alone script) }
 {
     let report = report(rt, alloc, script, workers, show, progress);
     progress.end();

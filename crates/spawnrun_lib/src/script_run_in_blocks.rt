@@ -10,7 +10,8 @@ use crate::frame_text::write_frame;
 use crate::frame_workers::frame_workers;
 use crate::progress::Progress;
 use crate::show::Show;
-use crate::world_text::write_world;
+use crate::text::Text;
+use crate::world_parts::world_behind;
 use ent_handle::Memory;
 use ent_script::{Frame, Script};
 use ent_world::World;
@@ -66,19 +67,18 @@ fn report<R, P: Progress>(
     workers: usize,
     show: Show,
     progress: &mut P,
-) -> Result<Vec<u8>, Memory>
+) -> Result<Text, Memory>
 where
     R: Threads + Sync,
     requires ranges { IsScript script }
     requires some { 0 < workers }
     requires few { workers ≤ 64 }
-    ensures { IfOk result (λ text. IsTextInBlocks script size show text.items) }
+    ensures { IfOk result (λ text. IsTextInBlocks script size show text) }
 {
     let (limits, components, frames) = script.into_parts();
     let world = World::new(alloc, limits);
-    let (world, mut text) = run_frames(rt, alloc, world, frames, size, workers, show, progress)?;
-    write_world(&world, &components, show, &mut text)?;
-    Ok(text)
+    let (world, text) = run_frames(rt, alloc, world, frames, size, workers, show, progress)?;
+    world_behind(rt, alloc, text, &world, &components, show, workers)
 }
 
 /// Runs a script over a world that begins empty, on 1 to 64 workers, and returns the report: the
@@ -104,17 +104,17 @@ pub fn run_script_in_blocks<R, P: Progress>(
     workers: usize,
     show: Show,
     progress: &mut P,
-) -> Result<Vec<u8>, Memory>
+) -> Result<Text, Memory>
 where
     R: Threads + Sync,
     requires ranges { IsScript script }
     requires some { 0 < workers }
     requires few { workers ≤ 64 }
-    ensures text { IfOk result (λ text. IsTextInBlocks script size show text.items) }
+    ensures text { IfOk result (λ text. IsTextInBlocks script size show text) }
 
     // The script and the size have one text: this one. It is a law of the definition.
     ensures only { IfOk result (λ text. (other : List ℕ)
-        → IsTextInBlocks script size show other → text.items ≡ other) }
+        → IsTextInBlocks script size show other → text ≡ other) }
 {
     let report = report(rt, alloc, script, size, workers, show, progress);
     progress.end();

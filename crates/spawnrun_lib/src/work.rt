@@ -8,7 +8,7 @@ ghost use Rattle.spawnrun_lib.specs.Work.{Accepts, HasAdvised, HasDone, HasRefus
 ghost use Rattle.spawnrun_lib.specs.Work.{Refuses, input_limit, refusal_of, size_line};
 
 use crate::found::Found;
-use crate::output::{refuse, write};
+use crate::output::{refuse, write_text};
 use crate::product::{INPUT_LIMIT, Product, Refusal};
 use crate::progress::Progress;
 use crate::replaying::replay;
@@ -75,7 +75,7 @@ where
         → TakesAtMost (I.remaining input.old) (I.remaining input.new) (input_limit + 1) }
 {
     match product_of(rt, alloc, task, input, progress) {
-        Ok(Product::Output(text)) => write(output, &text, Status::Done),
+        Ok(Product::Output(text)) => write_text(output, &text, Status::Done),
         Ok(Product::Refusal(refusal)) => refuse(output, errors, &refusal),
         Err(status) => status,
     }

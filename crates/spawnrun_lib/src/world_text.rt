@@ -1,5 +1,5 @@
 ghost use Rattle.std.specs.Prelude.{◌≡◌, ◌≢◌, ◌⊎◌, ◌+◌, ◌<◌, ◌≤◌, ◌++◌, ℕ, List, length, map, take};
-ghost use Rattle.std.specs.Prelude.{OnOk, OnErr, vec_len, vec_capacity, codes, string_bytes};
+ghost use Rattle.std.specs.Prelude.{OnOk, OnErr, vec_len, vec_capacity, string_bytes};
 ghost use Rattle.std.specs.FinMap as finite;
 ghost use Rattle.std.specs.List.{flat_map};
 ghost use Rattle.spawnrun_lib.specs.Heads.{IsHead};
@@ -105,7 +105,7 @@ fn append_entity(
     append_line(out, names, labels, show, (handle, birth), items, head)
 }
 
-fn append_entities(
+pub(crate) fn append_entities(
     out: &mut Vec<u8>,
     names: &[String],
     labels: &Labels,
@@ -132,7 +132,7 @@ fn append_entities(
     Ok(())
 }
 
-fn append_alive(out: &mut Vec<u8>, count: usize) -> Result<(), Memory>
+pub(crate) fn append_alive(out: &mut Vec<u8>, count: usize) -> Result<(), Memory>
     ensures ok { OnOk result (out.new.items ≡ out.old.items ++ alive_line count) }
     ensures kept { OnErr result (take (vec_len out.old) out.new.items ≡ out.old.items) }
     ensures full { OnErr result (vec_capacity out.old

@@ -21,24 +21,39 @@ pub(super) fn script_of_share<R>(
 ) -> Result<Script, ReadFault>
 where
     R: Join + Sync,
-    // ensures { IfOk result (λ script. (d : Data) × (read text.now ≡ Some d)
-    //     × (script_in share d ≡ Ok script)) }
+    // ensures { IfOk result (Makes share text.now) }
 {
     if share.count() < 2 {
         let mut scratch = Scratch::new();
         return script_in_order(text, &mut scratch, share);
     }
     let (low, high) = share.halves();
+    let (first, second) = scripts_of_both(rt, text, low, high);
+    Ok(merged(first?, second?)?)
+}
+
+/// What the workers of two shares make of a text, side by side.
+#[inline]
+fn scripts_of_both<R>(
+    rt: &R,
+    text: &str,
+    low: Share,
+    high: Share,
+) -> (Result<Script, ReadFault>, Result<Script, ReadFault>)
+where
+    R: Join + Sync,
+    // requires low { 0 < low.count }
+    // requires high { 0 < high.count }
+    // ensures low { IfOk result.0 (Makes low text.now) }
+    // ensures high { IfOk result.1 (Makes high text.now) }
+{
     let mut one = || -> Result<Script, ReadFault>
         // requires { IsSync R.row }
-        // ensures { IfOk result (λ script. (d : Data) × (read text.entry.now ≡ Some d)
-        //     × (script_in low.entry d ≡ Ok script)) }
+        // ensures { IfOk result (Makes low text.entry.now) }
     { script_of_share(rt, text, low) };
     let mut other = || -> Result<Script, ReadFault>
         // requires { IsSync R.row }
-        // ensures { IfOk result (λ script. (d : Data) × (read text.entry.now ≡ Some d)
-        //     × (script_in high.entry d ≡ Ok script)) }
+        // ensures { IfOk result (Makes high text.entry.now) }
     { script_of_share(rt, text, high) };
-    let (first, second) = join_mut(rt, &mut one, &mut other);
-    Ok(merged(first?, second?)?)
+    join_mut(rt, &mut one, &mut other)
 }

@@ -285,7 +285,9 @@ fn systems(
         if number == SYSTEMS {
             return Err(fault_of_array(reader, depth, 0, limit, limit));
         }
-        match system_in(format, components, share, frame, number, reader, depth) {
+        match system_in(
+            format, components, share, frame, number, reader, depth,
+        ) {
             Ok(system) => systems.push_fallibly(system)?,
             Err(fault) => {
                 return Err(fault_of_array(reader, depth, SYSTEMS - 1 - number, fault, limit));

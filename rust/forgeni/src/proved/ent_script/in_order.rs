@@ -121,8 +121,7 @@ pub(super) fn script_in_order(
     scratch: &mut Scratch,
     share: Share,
 ) -> Result<Script, ReadFault>
-    // ensures { IfOk result (λ script. (d : Data) × (read text.now ≡ Some d)
-    //     × (script_in share d ≡ Ok script)) }
+    // ensures { IfOk result (Makes share text.now) }
 {
     let mut reader = Reader::new(text, scratch)?;
     if !opens(&mut reader) {

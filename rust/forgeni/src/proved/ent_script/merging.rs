@@ -21,48 +21,50 @@ pub(super) fn merged(first: Script, second: Script) -> Result<Script, OutOfMemor
 }
 
 #[inline]
-fn both_frames(
-    frames: Vec<Frame>,
-    others: Vec<Frame>,
-) -> Result<Vec<Frame>, OutOfMemory>
+fn both_frames(frames: Vec<Frame>, others: Vec<Frame>) -> Result<Vec<Frame>, OutOfMemory>
     // ensures { IfOk result (λ all. all.items ≡ both (both nonempty) frames.items others.items) }
 {
     let mut all = Vec::with_capacity_fallibly(frames.len())?;
     let mut others = others.into_iter();
     for frame in frames {
-        let frame = match others.next() {
-            Some(other) => both_systems(frame.into_systems(), other.into_systems())?,
-            None => frame,
-        };
-        all.push_reserved(frame);
+        all.push_reserved(frame_beside(frame, others.next())?);
     }
     Ok(all)
 }
 
 #[inline]
-fn both_systems(systems: Vec<System>, others: Vec<System>) -> Result<Frame, OutOfMemory>
-    // ensures { IfOk result (λ frame. frame ≡ both nonempty systems.items others.items) }
+fn frame_beside(frame: Frame, other: Option<Frame>) -> Result<Frame, OutOfMemory>
+    // ensures { IfOk result (λ all. all ≡ option_map_or (both nonempty frame) other frame) }
+{
+    let Some(other) = other else {
+        return Ok(frame);
+    };
+    let systems = both_systems(frame.into_systems(), other.into_systems())?;
+    Ok(Frame::new(systems))
+}
+
+#[inline]
+fn both_systems(
+    systems: Vec<System>,
+    others: Vec<System>,
+) -> Result<Vec<System>, OutOfMemory>
+    // ensures { IfOk result (λ all. all.items ≡ both nonempty systems.items others.items) }
 {
     let mut all = Vec::with_capacity_fallibly(systems.len())?;
     let mut others = others.into_iter();
     for system in systems {
-        let system = match others.next() {
-            Some(other) => nonempty(system, other),
-            None => system,
-        };
-        all.push_reserved(system);
+        all.push_reserved(system_beside(system, others.next()));
     }
-    Ok(Frame::new(all))
+    Ok(all)
 }
 
 /// The one that has operations.
 #[inline]
-fn nonempty(system: System, other: System) -> System
-    // ensures { result ≡ nonempty system other }
+fn system_beside(system: System, other: Option<System>) -> System
+    // ensures { result ≡ option_map_or (nonempty system) other system }
 {
-    if system.operations().is_empty() {
-        other
-    } else {
-        system
+    match other {
+        Some(other) if system.operations().is_empty() => other,
+        _ => system,
     }
 }

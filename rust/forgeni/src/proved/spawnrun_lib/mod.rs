@@ -42,8 +42,10 @@ mod spawning;
 mod starting;
 mod status;
 mod task;
+mod text;
 mod wants;
 mod work;
+mod world_parts;
 mod world_text;
 
 pub use crate::cli::{Counted, Failed, LineFault, Sink, Source, refuse_words};
@@ -58,5 +60,6 @@ pub use show::Show;
 pub use starting::start;
 pub use status::Status;
 pub use task::{Task, command_line};
+pub use text::Text;
 pub(crate) use work::do_task;
 pub use world_text::write_world;

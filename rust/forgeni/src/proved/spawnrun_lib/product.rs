@@ -3,6 +3,7 @@
 //! What is made of an input: an output, or a refusal. And how long an input may be.
 use alloc::vec::Vec;
 use crate::spawnrun_lib::found::Found;
+use crate::spawnrun_lib::text::Text;
 
 /// The longest input that the program reads, in bytes.
 pub const INPUT_LIMIT: usize = 67_108_864;
@@ -10,7 +11,7 @@ pub const INPUT_LIMIT: usize = 67_108_864;
 /// What is made of an input.
 pub(super) enum Product {
     /// The input is accepted, and this is the output.
-    Output(Vec<u8>),
+    Output(Text),
     /// It is refused.
     Refusal(Refusal),
 }

@@ -7,6 +7,7 @@ use crate::kit::programs::format;
 use crate::spawnrun_lib::product::{Product, Refusal};
 use crate::spawnrun_lib::progress::Progress;
 use crate::spawnrun_lib::schedule::schedule_found;
+use crate::spawnrun_lib::text::Text;
 use crate::spawnrun_lib::wants::line_wants;
 use crate::allocator::Limits;
 use crate::handles::OutOfMemory;
@@ -35,7 +36,7 @@ pub(super) fn replay<P: Progress>(
         Ok(events) => {
             let text = outcome_text(limits, &events, progress);
             progress.end();
-            Ok(Product::Output(text?))
+            Ok(Product::Output(Text::one(text?)?))
         }
         Err(ReadFault::Line { line, cause }) => Ok(Product::Refusal(Refusal {
             line: refused_line(line, cause)?,

@@ -7,7 +7,8 @@ use crate::spawnrun_lib::frame;
 use crate::spawnrun_lib::frame_text::write_frame;
 use crate::spawnrun_lib::progress::Progress;
 use crate::spawnrun_lib::show::Show;
-use crate::spawnrun_lib::world_text::write_world;
+use crate::spawnrun_lib::text::Text;
+use crate::spawnrun_lib::world_parts::world_behind;
 use crate::handles::OutOfMemory;
 use crate::scripts::{Frame, Script};
 use crate::worlds::World;
@@ -54,19 +55,18 @@ fn report<R, P: Progress>(
     workers: usize,
     show: Show,
     progress: &mut P,
-) -> Result<Vec<u8>, OutOfMemory>
+) -> Result<Text, OutOfMemory>
 where
     R: Join + Sync,
     // requires ranges { IsScript script }
     // requires some { 0 < workers }
     // requires few { workers ≤ 64 }
-    // ensures { IfOk result (λ text. IsReport script workers show text.items) }
+    // ensures { IfOk result (λ text. IsReport script workers show text) }
 {
     let (limits, components, frames) = script.into_parts();
     let mut world = World::new(limits);
-    let mut text = run_frames(rt, &mut world, frames, workers, show, progress)?;
-    write_world(&world, &components, show, &mut text)?;
-    Ok(text)
+    let text = run_frames(rt, &mut world, frames, workers, show, progress)?;
+    world_behind(rt, text, &world, &components, show, workers)
 }
 
 /// Runs a script over a world that begins empty, on 1 to 64 workers, and returns the report: the
@@ -91,33 +91,33 @@ pub(crate) fn run_script<R, P: Progress>(
     workers: usize,
     show: Show,
     progress: &mut P,
-) -> Result<Vec<u8>, OutOfMemory>
+) -> Result<Text, OutOfMemory>
 where
     R: Join + Sync,
     // requires ranges { IsScript script }
     // requires some { 0 < workers }
     // requires few { workers ≤ 64 }
-    // ensures report { IfOk result (λ text. IsReport script workers show text.items) }
+    // ensures report { IfOk result (λ text. IsReport script workers show text) }
 
     // The others are laws of the definitions: they follow from `report` and `ranges`, so a body
     // that meets `report` meets them. One worker has no other report.
     // ensures only { workers ≡ 1 → IfOk result (λ text. (other : List ℕ)
-    //     → IsReport script workers show other → text.items ≡ other) }
+    //     → IsReport script workers show other → text ≡ other) }
 
     // However the frames went, and whatever the limits are.
     // ensures given_once { IfOk result (λ text. (executions : List Execution)
-    //     → IsReportOf script workers show executions text.items
+    //     → IsReportOf script workers show executions text
     //     → AreGivenOnce (handles_in_run executions)) }
 
     // A script that names no handle has one text by births, however many workers run it, if no line
     // of the text tells of a refused request.
     // ensures same { show ≡ Show.Births → IsWithoutHandles script → IfOk result (λ text.
-    //     TellsNoRefusal text.items → text.items ≡ text_alone script) }
+    //     TellsNoRefusal text → text ≡ text_alone script) }
 
     // And in any case, if all its operations request no more handles than it has slots: then no
     // request is refused.
     // ensures enough { show ≡ Show.Births → IsWithoutHandles script → HasEnoughSlots script
-    //     → IfOk result (λ text. text.items ≡ text_alone script) }
+    //     → IfOk result (λ text. text ≡ text_alone script) }
 {
     let report = report(rt, script, workers, show, progress);
     progress.end();

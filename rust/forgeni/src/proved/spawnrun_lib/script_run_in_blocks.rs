@@ -8,7 +8,8 @@ use crate::spawnrun_lib::frame_text::write_frame;
 use crate::spawnrun_lib::frame_workers::frame_workers;
 use crate::spawnrun_lib::progress::Progress;
 use crate::spawnrun_lib::show::Show;
-use crate::spawnrun_lib::world_text::write_world;
+use crate::spawnrun_lib::text::Text;
+use crate::spawnrun_lib::world_parts::world_behind;
 use crate::handles::OutOfMemory;
 use crate::scripts::{Frame, Script};
 use crate::worlds::World;
@@ -63,19 +64,18 @@ fn report<R, P: Progress>(
     workers: usize,
     show: Show,
     progress: &mut P,
-) -> Result<Vec<u8>, OutOfMemory>
+) -> Result<Text, OutOfMemory>
 where
     R: Join + Sync,
     // requires ranges { IsScript script }
     // requires some { 0 < workers }
     // requires few { workers ≤ 64 }
-    // ensures { IfOk result (λ text. IsTextInBlocks script size show text.items) }
+    // ensures { IfOk result (λ text. IsTextInBlocks script size show text) }
 {
     let (limits, components, frames) = script.into_parts();
     let world = World::new(limits);
-    let (world, mut text) = run_frames(rt, world, frames, size, workers, show, progress)?;
-    write_world(&world, &components, show, &mut text)?;
-    Ok(text)
+    let (world, text) = run_frames(rt, world, frames, size, workers, show, progress)?;
+    world_behind(rt, text, &world, &components, show, workers)
 }
 
 /// Runs a script over a world that begins empty, on 1 to 64 workers, and returns the report: the
@@ -101,17 +101,17 @@ pub(crate) fn run_script_in_blocks<R, P: Progress>(
     workers: usize,
     show: Show,
     progress: &mut P,
-) -> Result<Vec<u8>, OutOfMemory>
+) -> Result<Text, OutOfMemory>
 where
     R: Join + Sync,
     // requires ranges { IsScript script }
     // requires some { 0 < workers }
     // requires few { workers ≤ 64 }
-    // ensures text { IfOk result (λ text. IsTextInBlocks script size show text.items) }
+    // ensures text { IfOk result (λ text. IsTextInBlocks script size show text) }
 
     // The script and the size have one text: this one. It is a law of the definition.
     // ensures only { IfOk result (λ text. (other : List ℕ)
-    //     → IsTextInBlocks script size show other → text.items ≡ other) }
+    //     → IsTextInBlocks script size show other → text ≡ other) }
 {
     let report = report(rt, script, size, workers, show, progress);
     progress.end();

@@ -5,7 +5,7 @@
 use alloc::vec::Vec;
 use crate::kit::vec::FallibleVec;
 use crate::spawnrun_lib::found::Found;
-use crate::spawnrun_lib::output::{refuse, write};
+use crate::spawnrun_lib::output::{refuse, write_text};
 use crate::spawnrun_lib::product::{INPUT_LIMIT, Product, Refusal};
 use crate::spawnrun_lib::progress::Progress;
 use crate::spawnrun_lib::replaying::replay;
@@ -71,7 +71,7 @@ where
     //     → TakesAtMost (I.remaining input.old) (I.remaining input.new) (input_limit + 1) }
 {
     match product_of(rt, task, input, progress) {
-        Ok(Product::Output(text)) => write(output, &text, Status::Done),
+        Ok(Product::Output(text)) => write_text(output, &text, Status::Done),
         Ok(Product::Refusal(refusal)) => refuse(output, errors, &refusal),
         Err(status) => status,
     }

@@ -105,7 +105,7 @@ fn append_entity(
 }
 
 #[inline]
-fn append_entities(
+pub(super) fn append_entities(
     out: &mut Vec<u8>,
     names: &[String],
     labels: &Labels,
@@ -133,7 +133,7 @@ fn append_entities(
 }
 
 #[inline]
-fn append_alive(out: &mut Vec<u8>, count: usize) -> Result<(), OutOfMemory>
+pub(super) fn append_alive(out: &mut Vec<u8>, count: usize) -> Result<(), OutOfMemory>
     // ensures ok { OnOk result (out.new.items ≡ out.old.items ++ alive_line count) }
     // ensures kept { OnErr result (take (vec_len out.old) out.new.items ≡ out.old.items) }
     // ensures full { OnErr result (vec_capacity out.old
