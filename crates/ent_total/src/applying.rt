@@ -1,5 +1,5 @@
 //! The sync point: queues take effect on their world.
-ghost use Rattle.std.specs.Prelude.{◌≡◌, ◌≢◌, ◌↔◌, ◌^◌, ◌<◌, ◌≤◌, IfOk, IfErr, IsErrAnd, length};
+ghost use Rattle.std.specs.Prelude.{◌≡◌, ◌≢◌, ◌↔◌, ◌<◌, IfOk, IfErr, IsErrAnd, length};
 ghost use Rattle.ent_world.specs.Sync.{IsStop};
 ghost use Rattle.ent_total.specs.Applying.{IfStopped, IsOtherWorld, IsMemory};
 ghost use Rattle.ent_total.specs.Applying.{IsUnbegun, IfStoppedAgain, IsOfOtherWorld, IsUnflushed};

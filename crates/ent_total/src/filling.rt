@@ -1,5 +1,5 @@
 //! What a system enters into a log, with the handles of a reserver.
-ghost use Rattle.std.specs.Prelude.{◌≡◌, OnOk, IfErr};
+ghost use Rattle.std.specs.Prelude.{OnOk, IfErr};
 ghost use Rattle.ent_total.specs.Reserving.{Fills};
 
 use crate::numbering::Numbering;

@@ -99,7 +99,7 @@ where
         return Err(RunError::Memory);
     };
     let world = phase.server();
-    let (blocks, view) = (world.dealt.source(), world.view());
+    let (blocks, view) = (world.dealt.dealer(), world.view());
     match ent_runner::fill_in_blocks(rt, alloc, blocks, lent, view, systems, workers) {
         Ok((queues, lent)) => {
             put_back(reservers, world, lent);

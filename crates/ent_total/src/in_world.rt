@@ -71,25 +71,25 @@ impl<S: Deals> Source for InWorld<S> {
     ghost rows = { λ w. S.rows w.source };
 
     fn was_alive(&self, handle: Handle) -> bool {
-        self.dealt.source().was_alive(handle)
+        self.dealt.dealer().was_alive(handle)
     }
 
     fn had_row(&self, handle: Handle) -> Option<u32> {
-        self.dealt.source().had_row(handle)
+        self.dealt.dealer().had_row(handle)
     }
 
     fn may_serve(&self, reserver: &S::Reserver, n: u32) -> bool {
-        self.dealt.source().may_serve(reserver, n)
+        self.dealt.dealer().may_serve(reserver, n)
     }
 
     #[inline(always)]
     fn serve_one(&self, reserver: &mut S::Reserver) -> Result<Handle, Refused> {
-        self.dealt.source().serve_one(reserver)
+        self.dealt.dealer().serve_one(reserver)
     }
 
     #[inline(always)]
     fn serve_many(&self, reserver: &mut S::Reserver, n: u32) -> Result<Reserved<'_>, Refused> {
-        self.dealt.source().serve_many(reserver, n)
+        self.dealt.dealer().serve_many(reserver, n)
     }
 }
 
@@ -110,15 +110,15 @@ impl<S: Deals> Phased for InWorld<S> {
         IsEndOf w end (λ closed. S.closes_lost w.source reservers closed) S.ended };
 
     fn callers(&self) -> usize {
-        self.dealt.source().callers()
+        self.dealt.dealer().callers()
     }
 
     fn as_opened(&self) -> &Entities {
-        self.dealt.source().as_opened()
+        self.dealt.dealer().as_opened()
     }
 
     fn may_take(&self, reservers: &[S::Reserver]) -> bool {
-        self.dealt.source().may_take(reservers)
+        self.dealt.dealer().may_take(reservers)
     }
 
     fn end_with_all(self, reservers: Vec<S::Reserver>) -> EndedWorld
@@ -258,7 +258,7 @@ pub fn open_in<J: Numbering, S: Deals>(
         number: of_world,
         spawned,
     } = world;
-    let (dealt, callers) = match world.deal(sizes) {
+    let (dealt, callers) = match world.deal(alloc, sizes) {
         Ok(made) => made,
         Err(back) => {
             let (world, _) = back.into_parts();

@@ -57,7 +57,7 @@ impl OfBlocks for InWorld<Blocks> {
     ghost of = { λ s. s.source };
 
     fn blocks(&self) -> &Blocks {
-        &self.source
+        self.dealt.dealer()
     }
 
     ghost serves_them = { λ s r is. is };

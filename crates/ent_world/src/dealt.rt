@@ -8,6 +8,7 @@ use crate::world::World;
 use crate::world_rest::WorldRest;
 use ent_blocks::Deals;
 use ent_handle::{HandedBack, Memory};
+use std::alloc::Global;
 use std::marker::Model;
 
 /// What deals the handles of a world, and the rest of the world.
@@ -37,6 +38,7 @@ impl World {
     /// [`HandedBack`] has the world as it was, if an allocation fails, and for no other reason.
     pub fn deal<S: Deals>(
         self,
+        alloc: Global,
         sizes: &[u32],
     ) -> Result<(Dealt<S>, Vec<S::Reserver>), HandedBack<Self, Memory>>
         requires flushed { self.allocator.asked ≡ 0 }
@@ -54,7 +56,6 @@ impl World {
         ensures fresh { IfOk result (λ made. All S.fresh made.1.items) }
         ensures err { IfErr result (λ h. h.value ≡ self) }
     {
-        let alloc = self.alloc;
         let (entities, rest) = self.apart();
         match S::deal(alloc, entities, sizes) {
             Ok((source, callers)) => Ok((Dealt { source, rest }, callers)),
@@ -66,7 +67,7 @@ impl World {
 impl<S: Deals> Dealt<S> {
     /// What deals the handles.
     #[inline(always)]
-    pub fn source(&self) -> &S
+    pub fn dealer(&self) -> &S
         ensures { result.now ≡ self.now.source }
     {
         &self.source

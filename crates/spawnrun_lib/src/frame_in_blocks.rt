@@ -8,7 +8,7 @@ ghost use Rattle.spawnrun_lib.specs.ReportInBlocks.{sizes_of};
 ghost use Rattle.spawnrun_lib.specs.CourseInBlocks.{EndsInBlocks, StopsInBlocks};
 
 use crate::script_system::{ScriptSystem, runnable};
-use ent_blocks::open_in_blocks;
+use ent_blocks::Blocks;
 use ent_handle::Memory;
 use ent_runner::{RunError, fill_in_blocks};
 use ent_script::System;
@@ -68,12 +68,11 @@ where
     ensures lost { IsErrOf result Undone.Lost
         → StopsInBlocks sizes.now systems.now workers world }
 {
-    let (entities, rest) = world.apart();
-    let Ok((blocks, reservers)) = open_in_blocks(alloc, entities, sizes) else {
+    let Ok((dealt, reservers)) = world.deal::<Blocks>(alloc, sizes) else {
         return Err(Undone::Memory);
     };
-    let view = rest.view(blocks.opened());
-    let filled = fill_in_blocks(rt, alloc, &blocks, reservers, view, systems, workers);
+    let (dealer, view) = (dealt.dealer(), dealt.view());
+    let filled = fill_in_blocks(rt, alloc, dealer, reservers, view, systems, workers);
     let (queues, reservers) = match filled {
         Ok(filled) => filled,
         Err(refused) => {
@@ -81,6 +80,7 @@ where
             return Err(why_undone(error));
         }
     };
+    let (blocks, rest) = dealt.into_parts();
     let Ok(mut world) = rest.settle(blocks.close(reservers)) else {
         return Err(Undone::Memory);
     };

@@ -1,4 +1,4 @@
-use Rattle.ent_total.proofs.Common.{rules, arith, length, ◌≡◌, ◌∙◌, ap, sym}
+use Rattle.ent_total.proofs.Common.{rules, arith, ◌≡◌, ◌∙◌, ap, sym}
 use Rattle.ent_total.specs.declared.share_error.ShareError.TheVariants.{Count, NeedsFlush, Memory}
 use Rattle.ent_total.proofs.Unused.{same_world}
 use Rattle.ent_total.proofs.in_world.open_in.Goals as goal

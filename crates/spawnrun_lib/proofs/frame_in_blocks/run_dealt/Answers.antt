@@ -27,15 +27,19 @@ returns-in-Err-clause-lost g c is =
     let lost = rw (sym c.into_parts-error.ensures.error ∙ why.1) at c.in-Err.ensures.lost in
     (why.0, same (search rules) (search rules) (search rules) lost)
 
+pub fill_in_blocks-filled-requires-clause-own : goal.fill_in_blocks-filled-requires-clause-own
+fill_in_blocks-filled-requires-clause-own g c κs within =
+    rw c.dealer-dealer.ensures c.in-Ok.ensures.own
+
 pub close-requires-clause-among : goal.close-requires-clause-among
 close-requires-clause-among g c =
-    rw c.in-Ok-filled.ensures.ok.used
-    (among_used c.in-Ok.blocks.blocks (blocks_of c.in-Ok.reservers.items)
-    c.in-Ok-filled.filled.0.items ∙ c.in-Ok.ensures.among)
+    rw (c.into_parts-blocks.ensures.source, c.in-Ok-filled.ensures.ok.used)
+    (among_used c.in-Ok.dealt.source.blocks (blocks_of c.in-Ok.reservers.items)
+    c.in-Ok-filled.filled.0.items ∙ c.in-Ok.ensures.takes)
 
 pub close-requires-clause-all : goal.close-requires-clause-all
 close-requires-clause-all g c =
-    sym (length-map c.in-Ok-filled.filled.1.items (λ (r : Reserver). r.block))
+    rw c.into_parts-blocks.ensures.source (sym (length-map c.in-Ok-filled.filled.1.items (λ (r : Reserver). r.block))
     ∙ ap length c.in-Ok-filled.ensures.ok.used
     ∙ length_used (blocks_of c.in-Ok.reservers.items) c.in-Ok-filled.filled.0.items
-    ∙ ap length c.in-Ok.ensures.reservers
+    ∙ ap length c.in-Ok.ensures.reservers)

@@ -97,7 +97,7 @@ where
         return Err(RunError::Memory);
     };
     let world = phase.server();
-    let (blocks, view) = (&world.source, world.view());
+    let (blocks, view) = (world.dealt.dealer(), world.view());
     match crate::running::fill_in_blocks(rt, blocks, lent, view, systems, workers) {
         Ok((queues, lent)) => {
             put_back(reservers, world, lent);

@@ -10,7 +10,7 @@ use crate::phases::world::World;
 use crate::allocator::{Entities, Phased, Refused, Reserved, Source};
 use crate::in_blocks::{Deals, Ended, InBlocks};
 use crate::handles::{HandedBack, Handle, OutOfMemory};
-use crate::worlds::{View, WorldRest};
+use crate::worlds::{Dealt, View, WorldRest};
 
 /// The source of a world's phase: it serves as `S` does, and has the rest of the world.
 ///
@@ -29,8 +29,7 @@ use crate::worlds::{View, WorldRest};
 /// # Ok::<(), Box<dyn std::error::Error + Send + Sync>>(())
 /// ```
 pub struct InWorld<S: Deals> {
-    pub(super) source: S,
-    pub(super) rest: WorldRest,
+    pub(super) dealt: Dealt<S>,
     pub(super) of_world: u64,
     pub(super) spawned: u32,
 }
@@ -40,27 +39,27 @@ impl<S: Deals> Source for InWorld<S> {
 
     #[inline]
     fn was_alive(&self, handle: Handle) -> bool {
-        self.source.was_alive(handle)
+        self.dealt.dealer().was_alive(handle)
     }
 
     #[inline]
     fn had_row(&self, handle: Handle) -> Option<u32> {
-        self.source.had_row(handle)
+        self.dealt.dealer().had_row(handle)
     }
 
     #[inline]
     fn may_serve(&self, reserver: &S::Reserver, n: u32) -> bool {
-        self.source.may_serve(reserver, n)
+        self.dealt.dealer().may_serve(reserver, n)
     }
 
     #[inline(always)]
     fn serve_one(&self, reserver: &mut S::Reserver) -> Result<Handle, Refused> {
-        self.source.serve_one(reserver)
+        self.dealt.dealer().serve_one(reserver)
     }
 
     #[inline(always)]
     fn serve_many(&self, reserver: &mut S::Reserver, n: u32) -> Result<Reserved<'_>, Refused> {
-        self.source.serve_many(reserver, n)
+        self.dealt.dealer().serve_many(reserver, n)
     }
 }
 
@@ -69,17 +68,17 @@ impl<S: Deals> Phased for InWorld<S> {
 
     #[inline]
     fn callers(&self) -> usize {
-        self.source.callers()
+        self.dealt.dealer().callers()
     }
 
     #[inline]
     fn as_opened(&self) -> &Entities {
-        self.source.as_opened()
+        self.dealt.dealer().as_opened()
     }
 
     #[inline]
     fn may_take(&self, reservers: &[S::Reserver]) -> bool {
-        self.source.may_take(reservers)
+        self.dealt.dealer().may_take(reservers)
     }
 
     #[inline]
@@ -91,11 +90,11 @@ impl<S: Deals> Phased for InWorld<S> {
         //     S.ended }
     {
         let InWorld {
-            source,
-            rest,
+            dealt,
             of_world,
             spawned,
         } = self;
+        let (source, rest) = dealt.into_parts();
         EndedWorld {
             ended: S::into_ended(source.end_with_all(reservers)),
             rest,
@@ -112,11 +111,11 @@ impl<S: Deals> Phased for InWorld<S> {
         //     S.ended }
     {
         let InWorld {
-            source,
-            rest,
+            dealt,
             of_world,
             spawned,
         } = self;
+        let (source, rest) = dealt.into_parts();
         EndedWorld {
             ended: S::into_ended(source.end_with_some(reservers)),
             rest,
@@ -162,7 +161,7 @@ impl<S: Deals> InWorld<S> {
     pub(super) fn view(&self) -> View<'_>
         // ensures { result ≡ view_in self.now }
     {
-        self.rest.view(self.source.as_opened())
+        self.dealt.view()
     }
 }
 
@@ -231,12 +230,12 @@ pub fn open_in<S: Deals>(
         number: of_world,
         spawned,
     } = world;
-    let (entities, rest) = world.apart();
-    let (source, callers) = match S::deal(entities, sizes) {
+    let (dealt, callers) = match world.deal(sizes) {
         Ok(made) => made,
-        Err((entities, _)) => {
+        Err(back) => {
+            let (world, _) = back.into_parts();
             let world = World {
-                world: rest.with(entities),
+                world,
                 number: of_world,
                 spawned,
             };
@@ -244,8 +243,7 @@ pub fn open_in<S: Deals>(
         }
     };
     let source = InWorld {
-        source,
-        rest,
+        dealt,
         of_world,
         spawned,
     };

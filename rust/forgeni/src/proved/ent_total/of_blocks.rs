@@ -47,6 +47,6 @@ impl OfBlocks for Blocks {
 impl OfBlocks for InWorld<Blocks> {
     #[inline]
     fn blocks(&self) -> &Blocks {
-        &self.source
+        self.dealt.dealer()
     }
 }

@@ -6,6 +6,7 @@
 mod applying;
 mod births;
 mod cloning;
+mod dealt;
 mod fault;
 mod image;
 mod image_fault;
@@ -18,6 +19,7 @@ mod view;
 mod world;
 mod world_rest;
 
+pub use dealt::Dealt;
 pub use fault::{Fault, FaultKind, SyncFault, Report};
 pub use image_fault::WorldImageFault;
 pub use open_world::OpenWorld;

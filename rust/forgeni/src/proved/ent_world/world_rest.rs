@@ -17,17 +17,11 @@ pub struct WorldRest {
 
 impl World {
     /// Takes the world apart: its allocator, and the rest.
-    ///
-    /// <details><summary>Contract</summary>
-    ///
-    /// <code style="display: block; tab-size: 4; white-space: pre-wrap">// In the words of [contracts](crate::contracts):
-    /// ensures world { [world_with](crate::contracts::ent_world::in_blocks#world_with) result.0.allocator result.1 ≡ self }
-    /// ensures parts { [BelongTogether](crate::contracts::ent_world::in_blocks#BelongTogether) result.0.allocator result.0.rows result.1 }
-    /// </code>
-    ///
-    /// </details>
     #[inline]
-    pub fn apart(self) -> (Entities, WorldRest) {
+    pub(super) fn apart(self) -> (Entities, WorldRest)
+        // ensures world { world_with result.0.allocator result.1 ≡ self }
+        // ensures parts { BelongTogether result.0.allocator result.0.rows result.1 }
+    {
         let World {
             entities,
             storage,
@@ -44,7 +38,7 @@ impl World {
 impl WorldRest {
     /// The world as it was when its phase was opened, with the allocator as it was then.
     #[inline]
-    pub(crate) fn view<'a>(&'a self, entities: &'a Entities) -> View<'a>
+    pub(super) fn view<'a>(&'a self, entities: &'a Entities) -> View<'a>
         // requires { AreRows entities.now.rows self.now.store.places self.now.store.entities }
         // ensures phase { result.phase ≡ self.now.phase }
         // ensures entities { result.entities ≡ self.now.store.entities }

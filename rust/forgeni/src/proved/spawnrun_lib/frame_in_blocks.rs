@@ -5,7 +5,7 @@
 use alloc::vec::Vec;
 use crate::kit::vec::FallibleVec;
 use crate::spawnrun_lib::script_system::{ScriptSystem, runnable};
-use crate::in_blocks::open_in_blocks;
+use crate::in_blocks::Blocks;
 use crate::handles::OutOfMemory;
 use crate::running::{RunError, fill_in_blocks};
 use crate::scripts::System;
@@ -66,12 +66,11 @@ where
     // ensures lost { IsErrOf result Undone.Lost
     //     → StopsInBlocks sizes.now systems.now workers world }
 {
-    let (entities, rest) = world.apart();
-    let Ok((blocks, reservers)) = open_in_blocks(entities, sizes) else {
+    let Ok((dealt, reservers)) = world.deal::<Blocks>(sizes) else {
         return Err(Undone::Memory);
     };
-    let view = rest.view(blocks.opened());
-    let filled = fill_in_blocks(rt, &blocks, reservers, view, systems, workers);
+    let (dealer, view) = (dealt.dealer(), dealt.view());
+    let filled = fill_in_blocks(rt, dealer, reservers, view, systems, workers);
     let (queues, reservers) = match filled {
         Ok(filled) => filled,
         Err(refused) => {
@@ -79,6 +78,7 @@ where
             return Err(why_undone(error));
         }
     };
+    let (blocks, rest) = dealt.into_parts();
     let Ok(mut world) = rest.settle(blocks.close(reservers)) else {
         return Err(Undone::Memory);
     };

@@ -35,7 +35,8 @@ pub(super) fn write_text<O: Sink>(output: &mut O, text: &Text, status: Status) -
     //     → O.failures output.new ≡ O.failures output.old + 1 }
     // ensures unfailed { result ≢ Status.Device → O.failures output.new ≡ O.failures output.old }
 {
-    for part in text.parts() {
+    let parts = text.parts();
+    for part in parts {
         if output.put(part).is_err() {
             return Status::Device;
         }

@@ -58,11 +58,11 @@ where
 /// So many texts without a byte.
 #[inline]
 fn empty_texts(count: usize) -> Result<Vec<Vec<u8>>, OutOfMemory>
-    // ensures { IfOk result (λ texts. length texts.items ≡ count) }
+    // ensures { IfOk result (λ texts. vec_len texts ≡ count) }
 {
     let mut texts = Vec::with_capacity_fallibly(count)?;
     for _ in 0..count {
-        texts.push_reserved(Vec::new());
+        texts.push_fallibly(Vec::new())?;
     }
     Ok(texts)
 }
@@ -116,7 +116,9 @@ where
     let middle = parts.len() / 2;
     let (first, second) = handles.split_at(handles.len() / parts.len() * middle);
     let (front, back) = parts.split_at_mut(middle);
-    let (one, other) = append_both(rt, names, labels, show, world, first, front, second, back);
+    let (one, other) = append_both(
+        rt, names, labels, show, world, first, front, second, back,
+    );
     one?;
     other
 }
