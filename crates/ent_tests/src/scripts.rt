@@ -12,5 +12,6 @@ mod schedule_rows;
 mod script;
 mod script_memory;
 mod script_rows;
+mod several;
 mod source;
 mod words;

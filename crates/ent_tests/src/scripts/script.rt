@@ -17,7 +17,7 @@ const SCRIPT: &[u8] =
 
 #[test]
 fn values_of_a_script(rt: HostRuntime) -> Result<(), Fail> {
-    let script = read_script(rt.alloc(), SCRIPT)?;
+    let script = read_script(&rt, rt.alloc(), SCRIPT, 1)?;
     assert!(rt; has_parts(&script) && has_operations(&script));
     Ok(())
 }
@@ -123,7 +123,7 @@ fn is_despawn(operation: &Operation, on: Target) -> bool {
 
 #[test]
 fn limits_that_are_absent(rt: HostRuntime) -> Result<(), Fail> {
-    let script = read_script(rt.alloc(), b"{\"components\":[],\"frames\":[]}")?;
+    let script = read_script(&rt, rt.alloc(), b"{\"components\":[],\"frames\":[]}", 1)?;
     assert!(rt; has_default_limits(&script));
     Ok(())
 }
@@ -140,7 +140,7 @@ const BIRTHS: &[u8] = b"{\"format\":2,\"components\":[],\"frames\":[[],[],[[\
 
 #[test]
 fn births_of_targets(rt: HostRuntime) -> Result<(), Fail> {
-    let script = read_script(rt.alloc(), BIRTHS)?;
+    let script = read_script(&rt, rt.alloc(), BIRTHS, 1)?;
     assert!(rt; has_births(&script));
     Ok(())
 }

@@ -2,14 +2,15 @@
 use ent_script::{ReadFault, read_script, write_refusal};
 use std::alloc::Global;
 use std::test::Fail;
+use std::thread::Threads;
 
 const SCRIPT: &[u8] =
     b"{\"components\":[\"hp\",\"mp\"],\"frames\":[[[{\"spawn\":{\"mp\":1,\"hp\":2},\
     \"as\":\"a\"},{\"despawn\":{\"name\":\"a\"}}]]]}";
 
 // How many frames are read.
-fn frames_read(alloc: Global) -> Result<usize, ReadFault> {
-    let script = read_script(alloc, SCRIPT)?;
+fn frames_read<R: Threads + Sync>(rt: &R, alloc: Global) -> Result<usize, ReadFault> {
+    let script = read_script(rt, alloc, SCRIPT, 1)?;
     Ok(script.frames().len())
 }
 
@@ -17,8 +18,8 @@ fn frames_read(alloc: Global) -> Result<usize, ReadFault> {
 // refuses the Nth. Where memory ran out, it is read a second time.
 #[test]
 fn out_of_memory_of_reading(rt: HostRuntime) {
-    let read = match frames_read(rt.alloc()) {
-        Err(ReadFault::Memory) => frames_read(rt.alloc()),
+    let read = match frames_read(&rt, rt.alloc()) {
+        Err(ReadFault::Memory) => frames_read(&rt, rt.alloc()),
         read => read,
     };
     assert!(rt; read == Ok(1));

@@ -39,7 +39,8 @@ close-requires-clause-among g c =
 
 pub close-requires-clause-all : goal.close-requires-clause-all
 close-requires-clause-all g c =
-    rw c.into_parts-blocks.ensures.source (sym (length-map c.in-Ok-filled.filled.1.items (λ (r : Reserver). r.block))
+    rw c.into_parts-blocks.ensures.source
+    (sym (length-map c.in-Ok-filled.filled.1.items (λ (r : Reserver). r.block))
     ∙ ap length c.in-Ok-filled.ensures.ok.used
     ∙ length_used (blocks_of c.in-Ok.reservers.items) c.in-Ok-filled.filled.0.items
     ∙ ap length c.in-Ok.ensures.reservers)
