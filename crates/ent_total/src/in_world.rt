@@ -258,7 +258,7 @@ pub fn open_in<J: Numbering, S: Deals>(
         number: of_world,
         spawned,
     } = world;
-    let (dealt, callers) = match world.deal(alloc, sizes) {
+    let (dealt, callers) = match world.deal_blocks(alloc, sizes) {
         Ok(made) => made,
         Err(back) => {
             let (world, _) = back.into_parts();

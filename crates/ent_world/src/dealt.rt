@@ -36,7 +36,7 @@ impl World {
     /// # Errors
     ///
     /// [`HandedBack`] has the world as it was, if an allocation fails, and for no other reason.
-    pub fn deal<S: Deals>(
+    pub fn deal_blocks<S: Deals>(
         self,
         alloc: Global,
         sizes: &[u32],

@@ -5,14 +5,14 @@ use Rattle.ent_total.proofs.in_world.open_in.Goals as goal
 
 pub begin-requires-clause-room : goal.begin-requires-clause-room
 begin-requires-clause-room g c =
-    omega (arith, c.in-Ok-deal.ensures.many, c.in-Ok.ensures.capacity)
+    omega (arith, c.in-Ok-deal_blocks.ensures.many, c.in-Ok.ensures.capacity)
 
 pub end_with_all-requires-clause-own : goal.end_with_all-requires-clause-own
 end_with_all-requires-clause-own g c =
-    rw (c.in-Err-begin.ensures.err.0, c.in-Err-begin.ensures.err.1) c.in-Ok-deal.ensures.own
+    rw (c.in-Err-begin.ensures.err.0, c.in-Err-begin.ensures.err.1) c.in-Ok-deal_blocks.ensures.own
 
 pub returns-in-Ok-begin-clause-fresh : goal.returns-in-Ok-begin-clause-fresh
-returns-in-Ok-begin-clause-fresh g c = rw c.in-Ok-begin.ensures.opening c.in-Ok-deal.ensures.fresh
+returns-in-Ok-begin-clause-fresh g c = rw c.in-Ok-begin.ensures.opening c.in-Ok-deal_blocks.ensures.fresh
 
 pub returns-in-Ok-begin-clause-needs_flush : goal.returns-in-Ok-begin-clause-needs_flush
 returns-in-Ok-begin-clause-needs_flush g c =

@@ -230,7 +230,7 @@ pub fn open_in<S: Deals>(
         number: of_world,
         spawned,
     } = world;
-    let (dealt, callers) = match world.deal(sizes) {
+    let (dealt, callers) = match world.deal_blocks(sizes) {
         Ok(made) => made,
         Err(back) => {
             let (world, _) = back.into_parts();

@@ -22,7 +22,7 @@ impl World {
     ///
     /// [`HandedBack`] has the world as it was, if an allocation fails, and for no other reason.
     #[inline]
-    pub(crate) fn deal<S: Deals>(
+    pub(crate) fn deal_blocks<S: Deals>(
         self,
         sizes: &[u32],
     ) -> Result<(Dealt<S>, Vec<S::Reserver>), HandedBack<Self, OutOfMemory>>

@@ -66,7 +66,7 @@ where
     // ensures lost { IsErrOf result Undone.Lost
     //     → StopsInBlocks sizes.now systems.now workers world }
 {
-    let Ok((dealt, reservers)) = world.deal::<Blocks>(sizes) else {
+    let Ok((dealt, reservers)) = world.deal_blocks::<Blocks>(sizes) else {
         return Err(Undone::Memory);
     };
     let (dealer, view) = (dealt.dealer(), dealt.view());

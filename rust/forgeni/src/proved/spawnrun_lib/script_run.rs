@@ -71,7 +71,8 @@ where
 
 /// Runs a script over a world that begins empty, on 1 to 64 workers, and returns the report: the
 /// text of each frame and of the world that the last one leaves. The script is one that
-/// `ent_script` has read. A frame of few commands runs on one worker.
+/// `ent_script` has read. A frame of few commands runs on one worker, and one writes the lines of few
+/// entities.
 ///
 /// With several workers, which entity gets which handle may differ from run to run. If the script
 /// names no handle and no request is refused, the text by births is the same in each run. No

@@ -47,7 +47,7 @@ where
         return Text::one(text);
     }
     let mut parts = empty_texts(writers)?;
-    append_world(rt, world, names, show, &mut parts)?;
+    write_entities(rt, world, names, show, &mut parts)?;
     let mut last = Vec::new();
     append_alive(&mut last, world.len())?;
     parts.push_fallibly(last)?;
@@ -67,9 +67,9 @@ fn empty_texts(count: usize) -> Result<Vec<Vec<u8>>, OutOfMemory>
     Ok(texts)
 }
 
-/// Appends the lines of all entities, one worker for each part.
+/// Makes the parts the lines of all entities, with one worker for each.
 #[inline]
-fn append_world<R>(
+fn write_entities<R>(
     rt: &R,
     world: &World,
     names: &[String],
@@ -85,12 +85,12 @@ where
 {
     let handles = world.by_birth()?;
     let labels = Labels::of(names);
-    append_lines(rt, names, &labels, show, world, &handles, parts)
+    write_lines(rt, names, &labels, show, world, &handles, parts)
 }
 
-/// Appends the lines of these entities, one worker for each part.
+/// Makes the parts the lines of these entities, with one worker for each.
 #[inline]
-fn append_lines<R>(
+fn write_lines<R>(
     rt: &R,
     names: &[String],
     labels: &Labels,
@@ -116,17 +116,17 @@ where
     let middle = parts.len() / 2;
     let (first, second) = handles.split_at(handles.len() / parts.len() * middle);
     let (front, back) = parts.split_at_mut(middle);
-    let (one, other) = append_both(
+    let (one, other) = write_both(
         rt, names, labels, show, world, first, front, second, back,
     );
     one?;
     other
 }
 
-/// Appends the lines of the first entities to the parts in front, and side by side those of the
-/// others to the parts behind.
+/// Makes the parts in front the lines of the first entities, and side by side those behind the lines
+/// of the others.
 #[inline]
-fn append_both<R>(
+fn write_both<R>(
     rt: &R,
     names: &[String],
     labels: &Labels,
@@ -153,13 +153,13 @@ where
         // ensures { OnOk result (joined front.exit.now
         //     ≡ flat_map (line_in (map string_bytes names.entry.now) show world.entry.now.entities)
         //     first.entry.now) }
-    { append_lines(rt, names, labels, show, world, first, front) };
+    { write_lines(rt, names, labels, show, world, first, front) };
     let mut other = || -> Result<(), OutOfMemory>
         // requires { IsSync R.row × AreLabels (map string_bytes names.now) labels.now.pieces
         //     × (0 < length back.now) }
         // ensures { OnOk result (joined back.exit.now
         //     ≡ flat_map (line_in (map string_bytes names.entry.now) show world.entry.now.entities)
         //     second.entry.now) }
-    { append_lines(rt, names, labels, show, world, second, back) };
+    { write_lines(rt, names, labels, show, world, second, back) };
     join_mut(rt, &mut one, &mut other)
 }
