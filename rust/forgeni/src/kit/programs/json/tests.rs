@@ -220,10 +220,16 @@ fn keys_and_ends_of_arrays_are_taken_where_they_are_next() {
 #[test]
 fn a_scratch_that_has_room_asks_for_none() {
     let mut scratch = Scratch::new();
-    assert!(refuse(|| Reader::new("[1]", &mut scratch).is_err()));
-    assert!(Reader::new("[1,2]", &mut scratch).is_ok());
-    assert!(refuse(|| Reader::new("[1]", &mut scratch).is_ok()));
-    assert!(refuse(|| Reader::new("", &mut Scratch::new()).is_ok()));
+    assert!(refuse(|| Reader::new("[\"\\n\"]", &mut scratch).is_err()));
+    assert!(Reader::new("[\"\\n\",2]", &mut scratch).is_ok());
+    assert!(refuse(|| Reader::new("[\"\\n\"]", &mut scratch).is_ok()));
+}
+
+#[test]
+fn a_text_without_a_backslash_needs_no_scratch() {
+    for text in ["", "[1]", "\"a long string, and a / in it\""] {
+        assert!(refuse(|| Reader::new(text, &mut Scratch::new()).is_ok()));
+    }
 }
 
 /// Reads texts that are apart by a byte 0, and writes the tokens of each. `.ci/tokens.py` runs it.
