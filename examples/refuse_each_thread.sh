@@ -1,8 +1,8 @@
 #!/bin/sh
-# Runs a script of long frames on eight workers, in blocks too, with each of its threads refused in turn, and with all of them. Each run must end
-# as one on one worker does: a worker whose thread can't be started runs on another thread, and the report doesn't tell. There must be just
-# as many threads as the systems need, since no contract says that `run` starts any. It needs `cc` on the path, and the program as `.ci/run`
-# or `prove.sh` built it. If it wasn't built, `rt`, which then proves it first.
+# Runs a long script of long frames on eight workers, in blocks too, with each of its threads refused in turn, and with all of them. Each
+# run must end as one on one worker does: a worker whose thread can't be started runs on another thread, and the report doesn't tell. There
+# must be just as many threads as the text, the systems and the report need, since no contract says that `run` starts any. It needs `cc` on
+# the path, and the program as `.ci/run` or `prove.sh` built it. If it wasn't built, `rt`, which then proves it first.
 set -eu
 here=$(cd "$(dirname "$0")" && pwd)
 room=$(mktemp -d)
@@ -21,7 +21,8 @@ system() {
     }'
 }
 one=$(system)
-echo "{\"components\":[\"hp\"],\"frames\":[[$one,$one,$one],[$one],[$one,$one]]}" >"$script"
+many='[{"spawn_many":40000}]'
+echo "{\"components\":[\"hp\"],\"frames\":[[$many],[$one,$one,$one],[$one],[$one,$one]]}" >"$script"
 
 # run NUMBER WORDS..: the script with that thread refused. It makes the file refused if it came so far.
 run() {
@@ -32,10 +33,10 @@ run() {
     cmp "$room/printed" "$room/wanted"
 }
 
-# each WHAT WORDS..: the script with each of its threads refused in turn, and with all. Its frames have 3, 1 and 2 systems. A frame has
-# a thread for each system, and one of them is there already.
+# each WHAT WORDS..: the script with each of its threads refused in turn, and with all. Eight workers read it, and one of them is there
+# already. Its frames have 1, 3, 1 and 2 systems, and need a thread for each system but one. Five workers write the 40,006 entities.
 each() {
-    what=$1 threads=3
+    what=$1 threads=$((7 + 2 + 1 + 4))
     shift
     "$program" run "$@" <"$script" >"$room/wanted"
     for thread in $(seq "$threads"); do
@@ -49,5 +50,5 @@ each() {
 }
 
 each 'a script'
-each 'a script in blocks' --blocks 64
-each 'a script in blocks, with handles' --blocks 64 --show handles
+each 'a script in blocks' --blocks 40064
+each 'a script in blocks, with handles' --blocks 40064 --show handles
