@@ -88,8 +88,8 @@ unfoldable pub use Rattle.ent_script.specs.Reading.{
   target_of,
 }
 pub use Rattle.ent_script.specs.Script.{Script}
-pub use Rattle.ent_script.specs.Shares.{Share, both, frames_in, has, nonempty, system_in, turn}
-unfoldable pub use Rattle.ent_script.specs.Shares.{frame_in, script_in}
+pub use Rattle.ent_script.specs.Shares.{Share, both, frames_by, has, with_operations, system_by, turn}
+unfoldable pub use Rattle.ent_script.specs.Shares.{frame_by, script_by}
 pub use Rattle.ent_script.specs.Streaming.{BeginsArray, FaultOfArray, PassesAtMost, Streams}
 pub use Rattle.ent_script.specs.Streaming.{StreamsList, begins_object, frames_of, ran_out}
 pub use Rattle.ent_script.specs.Top.{head, heads}

@@ -2,9 +2,9 @@
 use Rattle.ent_script.proofs.Common.{◌≡◌, ℕ, ◌+◌, ◌<◌, List, [], ◌∷◌, true}
 use Rattle.ent_script.proofs.Common.{◌||◌, Result, Ok, Err, Option, Some, refl, rules, arith}
 use Rattle.ent_script.proofs.Common.{codes, get, Data, ◌>>=◌, numbered, Format, Operation, ReadFault}
-use Rattle.ent_script.proofs.Common.{Share, both, nonempty, has, system_in, frames_in}
+use Rattle.ent_script.proofs.Common.{Share, both, with_operations, has, system_by, frames_by}
 use Rattle.ent_script.specs.Shares.{Makes}
-use Rattle.ent_script.proofs.Common.{system_of, frame_of, script_of, frame_in, script_in, Script}
+use Rattle.ent_script.proofs.Common.{system_of, frame_of, script_of, frame_by, script_by, Script}
 use Rattle.ent_script.proofs.Common.{heading_of, component_names, in_script, frames_of}
 use Rattle.ent_script.proofs.Common.{option_and_then, ok_or, at_most, None, Heading}
 use Rattle.ent_script.proofs.Common.{◌++◌, append_assoc, length}
@@ -68,34 +68,34 @@ module _ (low high all : Share) (first : low.first ≡ all.first)
   has_both frame system = search (rules, arith, first, next, count, of_low, of_high)
 
   both_systems : (format : Format) (names : List (List ℕ)) (frame n : ℕ) (d : Data)
-      (xs ys : List Operation) → system_in low format names frame n d ≡ Ok xs
-      → system_in high format names frame n d ≡ Ok ys
-      → system_in all format names frame n d ≡ Ok (nonempty xs ys)
+      (xs ys : List Operation) → system_by low format names frame n d ≡ Ok xs
+      → system_by high format names frame n d ≡ Ok ys
+      → system_by all format names frame n d ≡ Ok (with_operations xs ys)
   both_systems format names frame n d xs ys a b = search (rules, has_both frame n)
 
   both_frames : (format : Format) (names : List (List ℕ)) (n : ℕ) (d : Data)
-      (xs ys : List (List Operation)) → frame_in low format names n d ≡ Ok xs
-      → frame_in high format names n d ≡ Ok ys
-      → frame_in all format names n d ≡ Ok (both nonempty xs ys)
-  unfolding frame_in
+      (xs ys : List (List Operation)) → frame_by low format names n d ≡ Ok xs
+      → frame_by high format names n d ≡ Ok ys
+      → frame_by all format names n d ≡ Ok (both with_operations xs ys)
+  unfolding frame_by
   both_frames format names n d xs ys a b = search (
     rules,
-    both_numbered nonempty (system_in low format names n) (system_in high format names n)
-        (system_in all format names n) (both_systems format names n),
+    both_numbered with_operations (system_by low format names n) (system_by high format names n)
+        (system_by all format names n) (both_systems format names n),
   )
 
-  both_scripts : (d : Data) (x y : Script) → script_in low d ≡ Ok x → script_in high d ≡ Ok y
-      → script_in all d ≡ Ok (record x { frames = both (both nonempty) x.frames y.frames })
-  unfolding script_in
+  both_scripts : (d : Data) (x y : Script) → script_by low d ≡ Ok x → script_by high d ≡ Ok y
+      → script_by all d ≡ Ok (record x { frames = both (both with_operations) x.frames y.frames })
+  unfolding script_by
   both_scripts d x y a b = search (
     rules,
     λ (format : Format) (names : List (List ℕ)).
-        both_numbered (both nonempty) (frame_in low format names) (frame_in high format names)
-        (frame_in all format names) (both_frames format names),
+        both_numbered (both with_operations) (frame_by low format names) (frame_by high format names)
+        (frame_by all format names) (both_frames format names),
   )
 
   pub put_together : (text : List ℕ) (x y : Script) → Makes low text x → Makes high text y
-      → Makes all text (record x { frames = both (both nonempty) x.frames y.frames })
+      → Makes all text (record x { frames = both (both with_operations) x.frames y.frames })
   put_together text x y a b =
       let same : b.value ≡ a.value = search (rules, a.is_read, b.is_read) in
       record {
@@ -111,29 +111,29 @@ module _ (share : Share) (first : share.first ≡ 0) (all : share.count ≡ shar
   has_all frame system = search (rules, arith, first, all, some)
 
   whole_system : (format : Format) (names : List (List ℕ)) (frame n : ℕ) (d : Data)
-      → system_in share format names frame n d ≡ system_of format names frame n d
+      → system_by share format names frame n d ≡ system_of format names frame n d
   whole_system format names frame n d = search (rules, has_all frame n)
 
   whole_frame : (format : Format) (names : List (List ℕ)) (n : ℕ) (d : Data)
-      → frame_in share format names n d ≡ frame_of format names n d
-  unfolding frame_in frame_of
+      → frame_by share format names n d ≡ frame_of format names n d
+  unfolding frame_by frame_of
   whole_frame format names n d = search (
     rules,
-    same_numbered (system_in share format names n) (system_of format names n)
+    same_numbered (system_by share format names n) (system_of format names n)
         (whole_system format names n),
   )
 
   pub whole_frames : (format : Format) (names : List (List ℕ)) (part : Option Data)
-      → frames_in share format names part ≡ frames_of format names part
+      → frames_by share format names part ≡ frames_of format names part
   whole_frames format names part = search (
     rules,
-    same_numbered (frame_in share format names) (frame_of format names) (whole_frame format names),
+    same_numbered (frame_by share format names) (frame_of format names) (whole_frame format names),
   )
 
   whole_rest : (part : Option Data) (limits : Limits) (format : Format) (names : List (List ℕ))
       (ds : Option (List Data))
       → ds ≡ option_and_then (at_most most_frames) part
-      → (frames_in share format names part >>= λ frames. script_with limits names frames)
+      → (frames_by share format names part >>= λ frames. script_with limits names frames)
       ≡ (ok_or ds (fault.Script script_cause.Frames) >>= λ ds. numbered (frame_of format names) 0 ds
       >>= λ frames. script_with limits names frames)
   whole_rest part limits format names None e = search (rules, whole_frames format names part)
@@ -142,7 +142,7 @@ module _ (share : Share) (first : share.first ≡ 0) (all : share.count ≡ shar
   whole_behind : (d : Data) (heading : Result Heading ReadFault)
       (names : Result (List (List ℕ)) ReadFault)
       → (heading >>= λ heading. names >>= λ names.
-      frames_in share heading.format names (get (codes "frames") d)
+      frames_by share heading.format names (get (codes "frames") d)
       >>= λ frames. script_with heading.limits names frames)
       ≡ (heading >>= λ heading. names >>= λ names.
       ok_or (option_and_then (at_most most_frames) (get (codes "frames") d))
@@ -154,7 +154,7 @@ module _ (share : Share) (first : share.first ≡ 0) (all : share.count ≡ shar
   whole_behind d (Ok heading) (Ok names) =
       whole_rest (get (codes "frames") d) heading.limits heading.format names _ refl
 
-  pub whole_script : (d : Data) → script_in share d ≡ script_of d
-  unfolding script_in script_of
+  pub whole_script : (d : Data) → script_by share d ≡ script_of d
+  unfolding script_by script_of
   whole_script d = whole_behind d (in_script (heading_of d))
       (in_script (component_names (get (codes "components") d)))

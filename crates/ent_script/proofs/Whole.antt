@@ -2,7 +2,7 @@
 use Rattle.ent_script.proofs.Common.{rules, ◌≡◌, ℕ, List, map, Option, Some, None, option_map}
 use Rattle.ent_script.proofs.Common.{option_and_then, codes, Result, Data, get, view, Value, cut}
 use Rattle.ent_script.proofs.Common.{at_most, ◌>>=◌, numbered, component_at, component_names}
-use Rattle.ent_script.proofs.Common.{Share, frames_in, script_in}
+use Rattle.ent_script.proofs.Common.{Share, frames_by, script_by}
 use Rattle.ent_script.proofs.Common.{heading_of, in_script, script_of, Script, frames_of, Heading}
 use Rattle.ent_script.proofs.Common.{Operation, ReadFault, Ok, Err, ReadsAs, ReadsList}
 use Rattle.ent_script.specs.declared.cause.ScriptCause.TheVariants as script_cause
@@ -42,10 +42,10 @@ script_is d heading names a b = search (rules)
 pub share_is : (share : Share) (d : Data) (heading : Heading) (names : Names)
     → in_script (heading_of d) ≡ Ok heading
     → in_script (component_names (get (codes "components") d)) ≡ Ok names
-    → script_in share d
-    ≡ (frames_in share heading.format names (get (codes "frames") d)
+    → script_by share d
+    ≡ (frames_by share heading.format names (get (codes "frames") d)
     >>= λ frames. all_of heading names frames)
-unfolding script_in
+unfolding script_by
 share_is share d heading names a b = search (rules)
 
 pub names_refused : (d : Data) (heading : Heading) (e : ReadFault)

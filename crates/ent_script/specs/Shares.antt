@@ -16,7 +16,7 @@ use Rattle.ent_script.specs.declared.operation.Operation.{Operation}
 use Rattle.ent_script.specs.declared.read_fault.ReadFault.{ReadFault}
 use Rattle.ent_script.specs.declared.read_fault.ReadFault.TheVariants as fault
 
--- of workers that take turns, so many from the first one on
+-- some of the workers that take turns: `count` of them, from number `first` on
 pub record Share : Type 0 where
   pub first : ℕ
   pub count : ℕ
@@ -33,35 +33,35 @@ has share frame system =
     && nat_lt (turn share.workers frame system) (share.first + share.count)
 
 -- a system of others has no operations
-abbrev pub system_in : Share → Format → List (List ℕ) → ℕ → ℕ → Data
+abbrev pub system_by : Share → Format → List (List ℕ) → ℕ → ℕ → Data
     → Result (List Operation) ReadFault
-system_in share format components frame number d =
+system_by share format components frame number d =
     if has share frame number then system_of format components frame number d else Ok []
 
-unfoldable pub frame_in : Share → Format → List (List ℕ) → ℕ → Data
+unfoldable pub frame_by : Share → Format → List (List ℕ) → ℕ → Data
     → Result (List (List Operation)) ReadFault
-frame_in share format components number d = do
+frame_by share format components number d = do
   ds ← ok_or (at_most most_systems d) (fault.Frame number)
-  numbered (system_in share format components number) 0 ds
+  numbered (system_by share format components number) 0 ds
 
-abbrev pub frames_in : Share → Format → List (List ℕ) → Option Data
+abbrev pub frames_by : Share → Format → List (List ℕ) → Option Data
     → Result (List (List (List Operation))) ReadFault
-frames_in share format components part = do
+frames_by share format components part = do
   ds ← ok_or (option_and_then (at_most most_frames) part) (fault.Script script_cause.Frames)
-  numbered (frame_in share format components) 0 ds
+  numbered (frame_by share format components) 0 ds
 
-unfoldable pub script_in : Share → Data → Result Script ReadFault
-script_in share d = do
+unfoldable pub script_by : Share → Data → Result Script ReadFault
+script_by share d = do
   heading ← in_script (heading_of d)
   components ← in_script (component_names (get (codes "components") d))
-  frames ← frames_in share heading.format components (get (codes "frames") d)
+  frames ← frames_by share heading.format components (get (codes "frames") d)
   Ok (record { limits = heading.limits; components = components; frames = frames })
 
 -- what the workers of a share make of a text
 pub record Makes (share : Share) (text : List ℕ) (script : Script) : Type 0 where
   pub value : Data
   pub is_read : read text ≡ Some value
-  pub means : script_in share value ≡ Ok script
+  pub means : script_by share value ≡ Ok script
 
 -- a share is stored as its three numbers
 abbrev pub share_code : Coded Share
@@ -72,12 +72,12 @@ share_code =
 
 -- ---- two shares put together
 
--- of two systems the one that has operations
-abbrev pub nonempty : List Operation → List Operation → List Operation
-nonempty [] other = other
-nonempty (one ∷ more) other = one ∷ more
+-- the first of two systems that has operations
+abbrev pub with_operations : List Operation → List Operation → List Operation
+with_operations [] other = other
+with_operations (one ∷ more) other = one ∷ more
 
--- the elements of both lists, place by place
+-- the elements of both lists, place by place, as many as the first one has
 abbrev pub both : {A : Type 0} → (A → A → A) → List A → List A → List A
 both f [] ys = []
 both f (x ∷ xs) [] = x ∷ xs

@@ -13,8 +13,8 @@ use json::Scratch;
 use std::alloc::Global;
 use std::thread::{Threads, join_mut};
 
-/// What the workers of a share make of a text, if its frames come last. Each of them needs as much
-/// room as the text.
+/// What the workers of a share make of a text, if its frames come last. Each may need as much memory
+/// as the text has bytes. An error other than `Memory` says nothing about the text.
 #[cycle(halves)]
 pub(crate) fn script_of_share<R>(
     rt: &R,

@@ -10,7 +10,7 @@ ghost use Rattle.ent_script.specs.Reading.{system_of};
 ghost use Rattle.ent_script.specs.Reading.{births_before};
 ghost use Rattle.ent_script.specs.Reading.{ReadsPart, ReadsAs};
 ghost use Rattle.ent_script.specs.declared.read_fault.ReadFault.TheVariants as fault;
-ghost use Rattle.ent_script.specs.Shares.{system_in, frame_in, frames_in};
+ghost use Rattle.ent_script.specs.Shares.{system_by, frame_by, frames_by};
 ghost use Rattle.ent_script.specs.Streaming.{Streams, StreamsList};
 ghost use Rattle.ent_script.specs.Passing.{after_value, after_items};
 ghost use Rattle.ent_script.specs.Sizes.{most_components};
@@ -250,7 +250,7 @@ fn system(
 
 /// The system that comes next, if the share has it. It passes over others, and then returns one
 /// without operations.
-fn system_in(
+fn system_by(
     alloc: Global,
     format: Format,
     components: &Names<'_>,
@@ -263,7 +263,7 @@ fn system_in(
     requires { length components.now ≤ most_components }
     ensures value { (d : Data) (rest : List SpecToken)
         → converted of_json (value depth reader.old) ≡ Some (d, rest)
-        → Streams result reader.new (system_in share format components.now frame number d) rest }
+        → Streams result reader.new (system_by share format components.now frame number d) rest }
     ensures passes { OnOk result (after_value depth reader.old ≡ Some reader.new) }
     ensures shorter { OnOk result (length reader.new < length reader.old) }
     ensures no_longer { length reader.new ≤ length reader.old }
@@ -288,7 +288,7 @@ fn systems(
     requires { length components.now ≤ most_components }
     ensures value { (n : ℕ) (ds : Items) (rest : List SpecToken)
         → converted of_items (items (value depth) n reader.old) ≡ Some (ds, rest)
-        → Streams result reader.new (frame_in share format components.now frame
+        → Streams result reader.new (frame_by share format components.now frame
         (array ds)) rest }
     ensures passes { OnOk result (after_items depth reader.old ≡ Some reader.new) }
     ensures shorter { OnOk result (length reader.new ≤ length reader.old) }
@@ -301,7 +301,7 @@ fn systems(
         if number == SYSTEMS {
             return Err(fault_of_array(reader, depth, 0, limit, limit));
         }
-        match system_in(
+        match system_by(
             alloc, format, components, share, frame, number, reader, depth,
         ) {
             Ok(system) => systems.push(system)?,
@@ -328,7 +328,7 @@ fn frame(
     requires { length components.now ≤ most_components }
     ensures value { (d : Data) (rest : List SpecToken)
         → converted of_json (value depth reader.old) ≡ Some (d, rest)
-        → Streams result reader.new (frame_in share format components.now number d) rest }
+        → Streams result reader.new (frame_by share format components.now number d) rest }
     ensures passes { OnOk result (after_value depth reader.old ≡ Some reader.new) }
     ensures shorter { OnOk result (length reader.new < length reader.old) }
     ensures no_longer { length reader.new ≤ length reader.old }
@@ -351,7 +351,7 @@ fn frames_inside(
     requires { length components.now ≤ most_components }
     ensures value { (n : ℕ) (ds : Items) (rest : List SpecToken)
         → converted of_items (items (value depth) n reader.old) ≡ Some (ds, rest)
-        → StreamsList result reader.new (frames_in share format components.now
+        → StreamsList result reader.new (frames_by share format components.now
         (Some (array ds))) rest }
     ensures passes { OnOk result (after_items depth reader.old ≡ Some reader.new) }
     ensures shorter { OnOk result (length reader.new ≤ length reader.old) }
@@ -387,7 +387,7 @@ pub(crate) fn frames(
     requires { length components.now ≤ most_components }
     ensures value { (d : Data) (rest : List SpecToken)
         → converted of_json (value depth reader.old) ≡ Some (d, rest)
-        → StreamsList result reader.new (frames_in share format components.now (Some d)) rest }
+        → StreamsList result reader.new (frames_by share format components.now (Some d)) rest }
     ensures passes { OnOk result (after_value depth reader.old ≡ Some reader.new) }
     ensures shorter { OnOk result (length reader.new < length reader.old) }
     ensures no_longer { length reader.new ≤ length reader.old }

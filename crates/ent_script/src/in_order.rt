@@ -11,7 +11,7 @@ ghost use Rattle.serde_json.specs.Read.{of_json, of_members, converted};
 ghost use Rattle.serde_json.specs.View.{members_view};
 ghost use Rattle.ent_script.specs.Front.{IsFront};
 ghost use Rattle.ent_script.specs.Reading.{heading_of, in_script};
-ghost use Rattle.ent_script.specs.Shares.{Makes, script_in};
+ghost use Rattle.ent_script.specs.Shares.{Makes, script_by};
 ghost use Rattle.ent_script.specs.Sizes.{most_components};
 ghost use Rattle.ent_script.specs.Top.{heads};
 
@@ -57,7 +57,7 @@ fn script_behind(
         × (read_key rest ≡ Some (None, []))
         × ((ms : Members) → IsFront front (object ms)
         → get_member (codes "frames") ms ≡ Some (array ds)
-        → script_in share (object ms) ≡ Ok script)) }
+        → script_by share (object ms) ≡ Ok script)) }
 {
     let heading = front.heading;
     let values = front.components.ok_or(ScriptCause::Components)?;
@@ -101,7 +101,7 @@ fn script_inside(
     ensures { IfOk result (λ script. (ms : Members)
         × (converted (λ ms. of_members ms no_members)
         (members (value depth) (length reader.old) reader.old) ≡ Some (ms, []))
-        × (script_in share (object ms) ≡ Ok script)) }
+        × (script_by share (object ms) ≡ Ok script)) }
 {
     let mut found = Map::new(alloc);
     let mut components = None;

@@ -1,7 +1,7 @@
 //! Scripts of two shares, put together.
 ghost use Rattle.std.specs.Prelude.{◌≡◌, IfOk};
 ghost use Rattle.std.specs.Option.{option_map_or};
-ghost use Rattle.ent_script.specs.Shares.{both, nonempty};
+ghost use Rattle.ent_script.specs.Shares.{both, with_operations};
 
 use crate::frame::Frame;
 use crate::script::Script;
@@ -12,7 +12,7 @@ use std::alloc::Global;
 /// The script with the frames of both. The limits and the components are those of the first one.
 pub(crate) fn merged(alloc: Global, first: Script, second: Script) -> Result<Script, Memory>
     ensures { IfOk result (λ script.
-        script ≡ record first { frames = both (both nonempty) first.frames second.frames }) }
+        script ≡ record first { frames = both (both with_operations) first.frames second.frames }) }
 {
     let (limits, components, frames) = first.into_parts();
     let (_, _, others) = second.into_parts();
@@ -20,7 +20,7 @@ pub(crate) fn merged(alloc: Global, first: Script, second: Script) -> Result<Scr
 }
 
 fn both_frames(alloc: Global, frames: Vec<Frame>, others: Vec<Frame>) -> Result<Vec<Frame>, Memory>
-    ensures { IfOk result (λ all. all.items ≡ both (both nonempty) frames.items others.items) }
+    ensures { IfOk result (λ all. all.items ≡ both (both with_operations) frames.items others.items) }
 {
     let mut all = Vec::with_capacity(alloc, frames.len())?;
     let mut others = others.into_iter();
@@ -31,7 +31,7 @@ fn both_frames(alloc: Global, frames: Vec<Frame>, others: Vec<Frame>) -> Result<
 }
 
 fn frame_beside(alloc: Global, frame: Frame, other: Option<Frame>) -> Result<Frame, Memory>
-    ensures { IfOk result (λ all. all ≡ option_map_or (both nonempty frame) other frame) }
+    ensures { IfOk result (λ all. all ≡ option_map_or (both with_operations frame) other frame) }
 {
     let Some(other) = other else {
         return Ok(frame);
@@ -45,7 +45,7 @@ fn both_systems(
     systems: Vec<System>,
     others: Vec<System>,
 ) -> Result<Vec<System>, Memory>
-    ensures { IfOk result (λ all. all.items ≡ both nonempty systems.items others.items) }
+    ensures { IfOk result (λ all. all.items ≡ both with_operations systems.items others.items) }
 {
     let mut all = Vec::with_capacity(alloc, systems.len())?;
     let mut others = others.into_iter();
@@ -57,7 +57,7 @@ fn both_systems(
 
 /// The one that has operations.
 fn system_beside(system: System, other: Option<System>) -> System
-    ensures { result ≡ option_map_or (nonempty system) other system }
+    ensures { result ≡ option_map_or (with_operations system) other system }
 {
     match other {
         Some(other) if system.operations().is_empty() => other,

@@ -228,16 +228,19 @@ fn script_in(
     Ok(Script::new(heading.limits, names, frames))
 }
 
-/// How much text each of several workers reads at least, in bytes. To start a thread takes as long
-/// as to read a third of it, or less.
-const WORTH: usize = 65_536;
+/// One more worker reads for each so many bytes of a text. To start a thread takes at most a fifth as
+/// long as one worker takes to read them.
+const WORTH: usize = 131_072;
+
+/// The most workers that read a text. More would hardly be faster, since each passes over all of it.
+const MOST: usize = 8;
 
 /// The script that a JSON text means, read by 1 to 64 workers.
 ///
-/// It takes time linear in the text, and logarithmic time for each look-up of a name. A script whose
-/// frames come last is read once, by as many workers as the length of the text is worth: each passes
-/// over the systems of the others. Any other text is read by one worker, again from the start, twice.
-/// No more than one operation of each worker is kept at a time as a value.
+/// Each worker takes time linear in the text, and logarithmic time for each look-up of a name. If the
+/// frames come last, it reads the text once, and passes over the systems of the others. A short text
+/// has fewer workers. One worker reads any other text from the start again, twice. Each keeps no more
+/// than one operation at a time as a value.
 ///
 /// # Errors
 ///
@@ -259,7 +262,7 @@ where
     let Ok(checked) = simdutf8::basic::from_utf8(text) else {
         return Err(ReadFault::Json);
     };
-    let readers = (text.len() / WORTH).min(workers - 1) + 1;
+    let readers = (text.len() / WORTH).min(workers.min(MOST) - 1) + 1;
     match script_of_share(rt, alloc, checked, Share::all(readers)) {
         Ok(script) => return Ok(script),
         Err(ReadFault::Memory) => return Err(ReadFault::Memory),

@@ -30,7 +30,7 @@ impl Model for Share {
 }
 
 impl Share {
-    /// The turns of all of so many workers.
+    /// The turns of all workers, if there are so many.
     pub(crate) fn all(workers: usize) -> Self
         requires some { 0 < workers }
         requires few { workers ≤ 64 }
@@ -43,7 +43,7 @@ impl Share {
         }
     }
 
-    /// How many workers share it.
+    /// How many workers these are.
     pub(crate) fn count(self) -> usize
         ensures { result ≡ self.count }
     {
@@ -71,7 +71,7 @@ impl Share {
         (low, high)
     }
 
-    /// Whether it is the turn of one of the workers.
+    /// Whether one of these workers reads the system.
     pub(crate) fn has(self, frame: usize, system: usize) -> bool
         ensures { result ≡ has self frame system }
     {

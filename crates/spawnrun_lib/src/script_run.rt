@@ -13,7 +13,7 @@ use crate::frame_text::write_frame;
 use crate::progress::Progress;
 use crate::show::Show;
 use crate::text::Text;
-use crate::world_parts::world_behind;
+use crate::world_parts::with_world;
 use ent_handle::Memory;
 use ent_script::{Frame, Script};
 use ent_world::World;
@@ -72,12 +72,12 @@ where
     let (limits, components, frames) = script.into_parts();
     let mut world = World::new(alloc, limits);
     let text = run_frames(rt, alloc, &mut world, frames, workers, show, progress)?;
-    world_behind(rt, alloc, text, &world, &components, show, workers)
+    with_world(rt, alloc, text, &world, &components, show, workers)
 }
 
 /// Runs a script over a world that begins empty, on 1 to 64 workers, and returns the report: the
 /// text of each frame and of the world that the last one leaves. The script is one that
-/// `ent_script` has read. A frame of few commands runs on one worker, and one writes the lines of few
+/// `ent_script` has read. One worker runs a frame of few commands, and writes the lines of few
 /// entities.
 ///
 /// With several workers, which entity gets which handle may differ from run to run. If the script

@@ -11,7 +11,7 @@ use crate::frame_workers::frame_workers;
 use crate::progress::Progress;
 use crate::show::Show;
 use crate::text::Text;
-use crate::world_parts::world_behind;
+use crate::world_parts::with_world;
 use ent_handle::Memory;
 use ent_script::{Frame, Script};
 use ent_world::World;
@@ -78,12 +78,13 @@ where
     let (limits, components, frames) = script.into_parts();
     let world = World::new(alloc, limits);
     let (world, text) = run_frames(rt, alloc, world, frames, size, workers, show, progress)?;
-    world_behind(rt, alloc, text, &world, &components, show, workers)
+    with_world(rt, alloc, text, &world, &components, show, workers)
 }
 
 /// Runs a script over a world that begins empty, on 1 to 64 workers, and returns the report: the
 /// text of each frame and of the world that the last one leaves. The script is one that
-/// `ent_script` has read.
+/// `ent_script` has read. One worker runs a frame of few commands, and writes the lines of few
+/// entities.
 ///
 /// In each frame each system has a block of `size` handles of its own, fewer where the slots end. A
 /// spawn of more than is left of the block is refused, and a later one of fewer is served. So the

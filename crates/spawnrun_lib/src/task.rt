@@ -54,7 +54,7 @@ pub enum Task {
     Replay(Limits),
     /// To run the script on standard input.
     Run {
-        /// How many workers run the systems of a frame, from 1 to 64.
+        /// How many workers read the script, run it and write the report, from 1 to 64.
         workers: usize,
         /// What names an entity in the output.
         show: Show,
@@ -63,7 +63,7 @@ pub enum Task {
     RunInBlocks {
         /// How many handles a block has, from 1 on.
         size: u32,
-        /// How many workers run the systems of a frame, from 1 to 64.
+        /// How many workers read the script, run it and write the report, from 1 to 64.
         workers: usize,
         /// What names an entity in the output.
         show: Show,
@@ -123,7 +123,7 @@ fn run_command<'a>(alloc: Global, shown: &'a [&'a str]) -> Result<Command<'a>, A
         "workers",
         64,
         "1",
-        "How many workers run the systems of a frame",
+        "How many workers read the script, run it and write the report",
     );
     let show = name_option(alloc, "show", shown, "births", "What names an entity");
     Command::new(alloc, "run")

@@ -18,17 +18,17 @@ use ent_world::World;
 use std::alloc::Global;
 use std::thread::{Threads, join_mut};
 
-/// How many lines each of several workers writes at least. To start a thread takes as long as to
-/// write half as many.
+/// One more worker writes for each so many lines. To start a thread takes as long as to write half
+/// of them, or less.
 const WORTH: usize = 8192;
 
-/// The text with that of a world behind it, which 1 to 64 workers write. A world of few entities is
-/// written by one.
+/// The text, and behind it that of a world, which so many workers write. One worker writes the lines
+/// of few entities.
 ///
 /// # Errors
 ///
 /// `Memory` if memory ran out.
-pub(crate) fn world_behind<R>(
+pub(crate) fn with_world<R>(
     rt: &R,
     alloc: Global,
     text: Vec<u8>,
@@ -70,7 +70,7 @@ fn empty_texts(alloc: Global, count: usize) -> Result<Vec<Vec<u8>>, Memory>
     Ok(texts)
 }
 
-/// Makes the parts the lines of all entities, with one worker for each.
+/// Makes the parts the lines of all entities, with one worker for each part.
 fn write_entities<R>(
     rt: &R,
     alloc: Global,
@@ -91,7 +91,7 @@ where
     write_lines(rt, alloc, names, &labels, show, world, &handles, parts)
 }
 
-/// Makes the parts the lines of these entities, with one worker for each.
+/// Makes the parts the lines of these entities, with one worker for each part.
 #[cycle(halves)]
 fn write_lines<R>(
     rt: &R,

@@ -1,5 +1,5 @@
 use Rattle.ent_script.proofs.Common.{rules, ◌≡◌, ◌+◌, ◌-◌, length, None, ap, arith, after_end_array}
-use Rattle.ent_script.proofs.Common.{value, frame_in}
+use Rattle.ent_script.proofs.Common.{value, frame_by}
 use Rattle.ent_script.specs.declared.cause.ScriptCause.TheVariants as script_cause
 use Rattle.ent_script.specs.declared.read_fault.ReadFault.TheVariants as fault
 use Rattle.ent_script.proofs.Listing.{at_next, at_end, at_most_many, at_fault, fault_streams_list}
@@ -8,7 +8,7 @@ use Rattle.ent_script.proofs.frames.frames_inside.Goals as goal
 
 pub returns-then-number-eq-FRAMES-clause-value : goal.returns-then-number-eq-FRAMES-clause-value
 returns-then-number-eq-FRAMES-clause-value c n ds rest e =
-    let many = at_most_many (value c.args.depth) (frame_in c.args.share c.args.format
+    let many = at_most_many (value c.args.depth) (frame_by c.args.share c.args.format
     c.args.components.now) 1000
     (fault.Script script_cause.Frames) c.fault_of_array.result _ _ _ c.fault_of_array.new.reader ds
     rest
@@ -46,7 +46,7 @@ frames-preserved c =
 pub returns-clause-value : goal.returns-clause-value
 returns-clause-value c n ds rest e =
     let over =
-    at_end (value c.args.depth) (frame_in _ _ c.args.components.now) 1000
+    at_end (value c.args.depth) (frame_by _ _ c.args.components.now) 1000
     (fault.Script script_cause.Frames)
     _ _ _ c.take_end_array.new.self ds rest (c.frames.invariant.at n ds rest e) in
     search (rules, over)

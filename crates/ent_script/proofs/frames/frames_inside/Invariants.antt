@@ -1,5 +1,5 @@
 use Rattle.ent_script.proofs.Common.{◌≡◌, ℕ, ◌≤◌, List, length, Some, Token, items, value, Items}
-use Rattle.ent_script.proofs.Common.{of_items, converted, frame_in}
+use Rattle.ent_script.proofs.Common.{of_items, converted, frame_by}
 use Rattle.ent_script.proofs.Common.{left}
 use Rattle.ent_script.proofs.Listing.{At}
 use Rattle.ent_script.proofs.Turns.{Goes}
@@ -10,7 +10,7 @@ invariant-frames l = record {
   at : (n : ℕ) (ds : Items) (rest : List Token)
       → converted of_items (items (value l.depth) n l.initial.reader)
       ≡ Some (ds, rest)
-      → At (value l.depth) (frame_in l.share l.format l.components) l.frames.items l.number l.reader ds
+      → At (value l.depth) (frame_by l.share l.format l.components) l.frames.items l.number l.reader ds
       rest;
   passed : (n : ℕ) → length l.initial.reader ≤ n → Goes (value l.depth)
       (left (converted of_items (items (value l.depth) n l.initial.reader))) l.reader;

@@ -1,22 +1,22 @@
 use Rattle.ent_script.proofs.Common.{rules, ◌≡◌, ◌+◌, ◌-◌, length, None, ap, arith, after_end_array}
-use Rattle.ent_script.proofs.Common.{value, frame_in, system_in}
+use Rattle.ent_script.proofs.Common.{value, frame_by, system_by}
 use Rattle.ent_script.specs.declared.read_fault.ReadFault.TheVariants as fault
 use Rattle.ent_script.proofs.Listing.{at_next, at_end, at_most_many, at_fault, fault_streams}
 use Rattle.ent_script.proofs.Turns.{goes_on, goes_over}
 use Rattle.ent_script.proofs.frames.systems.Goals as goal
 
 pub returns-then-number-eq-SYSTEMS-clause-value : goal.returns-then-number-eq-SYSTEMS-clause-value
-unfolding frame_in
+unfolding frame_by
 returns-then-number-eq-SYSTEMS-clause-value c n ds rest e =
     let many =
     at_most_many (value c.args.depth)
-    (system_in c.args.share c.args.format c.args.components.now c.args.frame) 256
+    (system_by c.args.share c.args.format c.args.components.now c.args.frame) 256
     (fault.Frame c.args.frame) c.fault_of_array.result _ _ _ c.fault_of_array.new.reader ds rest
     (c.systems.invariant.at n ds rest e) in
     search (rules, fault_streams, many)
 
 pub returns-in-Err-clause-value : goal.returns-in-Err-clause-value
-unfolding frame_in
+unfolding frame_by
 returns-in-Err-clause-value c n ds rest e =
     let l = c.systems in
     let going : (after_end_array l.reader ≡ None)
@@ -45,10 +45,10 @@ systems-preserved c =
     }
 
 pub returns-clause-value : goal.returns-clause-value
-unfolding frame_in
+unfolding frame_by
 returns-clause-value c n ds rest e =
     let over =
-    at_end (value c.args.depth) (system_in _ _ c.args.components.now _) 256
+    at_end (value c.args.depth) (system_by _ _ c.args.components.now _) 256
     (fault.Frame c.args.frame) _ _ _
     c.take_end_array.new.self ds rest (c.systems.invariant.at n ds rest e) in
     search (rules, over)

@@ -1,7 +1,7 @@
 use Rattle.ent_script.proofs.Common.{◌≡◌, ℕ, List, Ok, Some, codes, map, rules, Data, Items}
 use Rattle.ent_script.proofs.Common.{array, object, boolean, number, string, null, get, view}
 use Rattle.ent_script.proofs.Common.{numbered, component_at, component_names, in_script, IsFront}
-use Rattle.ent_script.proofs.Common.{frames_in, Format, Operation, left_some, converted, of_json}
+use Rattle.ent_script.proofs.Common.{frames_by, Format, Operation, left_some, converted, of_json}
 use Rattle.ent_script.proofs.Common.{value, refl, Share}
 use Rattle.ent_script.proofs.Whole.{names_meant, share_is}
 use Rattle.ent_script.proofs.in_order.script_behind.Goals.{After-deref}
@@ -17,7 +17,7 @@ same_names c d is = search (rules, names_meant)
 -- what has frames is an array
 is_array : (share : Share) (format : Format) (names : List (List ℕ)) (d : Data)
     (frames : List (List (List Operation)))
-    → frames_in share format names (Some d) ≡ Ok frames → (ds : Items) × (d ≡ array ds)
+    → frames_by share format names (Some d) ≡ Ok frames → (ds : Items) × (d ≡ array ds)
 is_array share format names null frames e = search rules
 is_array share format names (boolean b) frames e = search rules
 is_array share format names (number n) frames e = search rules

@@ -11,8 +11,8 @@ use crate::scripts::share::Share;
 use crate::kit::programs::json::Scratch;
 use crate::kit::thread::{Join, join_mut};
 
-/// What the workers of a share make of a text, if its frames come last. Each of them needs as much
-/// room as the text.
+/// What the workers of a share make of a text, if its frames come last. Each may need as much memory
+/// as the text has bytes. An error other than `Memory` says nothing about the text.
 #[inline]
 pub(super) fn script_of_share<R>(
     rt: &R,

@@ -235,7 +235,7 @@ fn system(
 /// The system that comes next, if the share has it. It passes over others, and then returns one
 /// without operations.
 #[inline]
-fn system_in(
+fn system_by(
     format: Format,
     components: &Names<'_>,
     share: Share,
@@ -247,7 +247,7 @@ fn system_in(
     // requires { length components.now ≤ most_components }
     // ensures value { (d : Data) (rest : List SpecToken)
     //     → converted of_json (value depth reader.old) ≡ Some (d, rest)
-    //     → Streams result reader.new (system_in share format components.now frame number d) rest }
+    //     → Streams result reader.new (system_by share format components.now frame number d) rest }
     // ensures passes { OnOk result (after_value depth reader.old ≡ Some reader.new) }
     // ensures shorter { OnOk result (length reader.new < length reader.old) }
     // ensures no_longer { length reader.new ≤ length reader.old }
@@ -272,7 +272,7 @@ fn systems(
     // requires { length components.now ≤ most_components }
     // ensures value { (n : ℕ) (ds : Items) (rest : List SpecToken)
     //     → converted of_items (items (value depth) n reader.old) ≡ Some (ds, rest)
-    //     → Streams result reader.new (frame_in share format components.now frame
+    //     → Streams result reader.new (frame_by share format components.now frame
     //     (array ds)) rest }
     // ensures passes { OnOk result (after_items depth reader.old ≡ Some reader.new) }
     // ensures shorter { OnOk result (length reader.new ≤ length reader.old) }
@@ -285,7 +285,7 @@ fn systems(
         if number == SYSTEMS {
             return Err(fault_of_array(reader, depth, 0, limit, limit));
         }
-        match system_in(
+        match system_by(
             format, components, share, frame, number, reader, depth,
         ) {
             Ok(system) => systems.push_fallibly(system)?,
@@ -311,7 +311,7 @@ fn frame(
     // requires { length components.now ≤ most_components }
     // ensures value { (d : Data) (rest : List SpecToken)
     //     → converted of_json (value depth reader.old) ≡ Some (d, rest)
-    //     → Streams result reader.new (frame_in share format components.now number d) rest }
+    //     → Streams result reader.new (frame_by share format components.now number d) rest }
     // ensures passes { OnOk result (after_value depth reader.old ≡ Some reader.new) }
     // ensures shorter { OnOk result (length reader.new < length reader.old) }
     // ensures no_longer { length reader.new ≤ length reader.old }
@@ -334,7 +334,7 @@ fn frames_inside(
     // requires { length components.now ≤ most_components }
     // ensures value { (n : ℕ) (ds : Items) (rest : List SpecToken)
     //     → converted of_items (items (value depth) n reader.old) ≡ Some (ds, rest)
-    //     → StreamsList result reader.new (frames_in share format components.now
+    //     → StreamsList result reader.new (frames_by share format components.now
     //     (Some (array ds))) rest }
     // ensures passes { OnOk result (after_items depth reader.old ≡ Some reader.new) }
     // ensures shorter { OnOk result (length reader.new ≤ length reader.old) }
@@ -370,7 +370,7 @@ pub(super) fn frames(
     // requires { length components.now ≤ most_components }
     // ensures value { (d : Data) (rest : List SpecToken)
     //     → converted of_json (value depth reader.old) ≡ Some (d, rest)
-    //     → StreamsList result reader.new (frames_in share format components.now (Some d)) rest }
+    //     → StreamsList result reader.new (frames_by share format components.now (Some d)) rest }
     // ensures passes { OnOk result (after_value depth reader.old ≡ Some reader.new) }
     // ensures shorter { OnOk result (length reader.new < length reader.old) }
     // ensures no_longer { length reader.new ≤ length reader.old }

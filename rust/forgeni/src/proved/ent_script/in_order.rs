@@ -48,7 +48,7 @@ fn script_behind(
     //     × (read_key rest ≡ Some (None, []))
     //     × ((ms : Members) → IsFront front (object ms)
     //     → get_member (codes "frames") ms ≡ Some (array ds)
-    //     → script_in share (object ms) ≡ Ok script)) }
+    //     → script_by share (object ms) ≡ Ok script)) }
 {
     let heading = front.heading;
     let values = front.components.ok_or(ScriptCause::Components)?;
@@ -92,7 +92,7 @@ fn script_inside(
     // ensures { IfOk result (λ script. (ms : Members)
     //     × (converted (λ ms. of_members ms no_members)
     //     (members (value depth) (length reader.old) reader.old) ≡ Some (ms, []))
-    //     × (script_in share (object ms) ≡ Ok script)) }
+    //     × (script_by share (object ms) ≡ Ok script)) }
 {
     let mut found = Map::new();
     let mut components = None;

@@ -13,7 +13,7 @@ use crate::handles::OutOfMemory;
 #[inline]
 pub(super) fn merged(first: Script, second: Script) -> Result<Script, OutOfMemory>
     // ensures { IfOk result (λ script.
-    //     script ≡ record first { frames = both (both nonempty) first.frames second.frames }) }
+    //     script ≡ record first { frames = both (both with_operations) first.frames second.frames }) }
 {
     let (limits, components, frames) = first.into_parts();
     let (_, _, others) = second.into_parts();
@@ -22,7 +22,7 @@ pub(super) fn merged(first: Script, second: Script) -> Result<Script, OutOfMemor
 
 #[inline]
 fn both_frames(frames: Vec<Frame>, others: Vec<Frame>) -> Result<Vec<Frame>, OutOfMemory>
-    // ensures { IfOk result (λ all. all.items ≡ both (both nonempty) frames.items others.items) }
+    // ensures { IfOk result (λ all. all.items ≡ both (both with_operations) frames.items others.items) }
 {
     let mut all = Vec::with_capacity_fallibly(frames.len())?;
     let mut others = others.into_iter();
@@ -34,7 +34,7 @@ fn both_frames(frames: Vec<Frame>, others: Vec<Frame>) -> Result<Vec<Frame>, Out
 
 #[inline]
 fn frame_beside(frame: Frame, other: Option<Frame>) -> Result<Frame, OutOfMemory>
-    // ensures { IfOk result (λ all. all ≡ option_map_or (both nonempty frame) other frame) }
+    // ensures { IfOk result (λ all. all ≡ option_map_or (both with_operations frame) other frame) }
 {
     let Some(other) = other else {
         return Ok(frame);
@@ -48,7 +48,7 @@ fn both_systems(
     systems: Vec<System>,
     others: Vec<System>,
 ) -> Result<Vec<System>, OutOfMemory>
-    // ensures { IfOk result (λ all. all.items ≡ both nonempty systems.items others.items) }
+    // ensures { IfOk result (λ all. all.items ≡ both with_operations systems.items others.items) }
 {
     let mut all = Vec::with_capacity_fallibly(systems.len())?;
     let mut others = others.into_iter();
@@ -61,7 +61,7 @@ fn both_systems(
 /// The one that has operations.
 #[inline]
 fn system_beside(system: System, other: Option<System>) -> System
-    // ensures { result ≡ option_map_or (nonempty system) other system }
+    // ensures { result ≡ option_map_or (with_operations system) other system }
 {
     match other {
         Some(other) if system.operations().is_empty() => other,

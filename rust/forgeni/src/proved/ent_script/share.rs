@@ -12,7 +12,7 @@ pub(super) struct Share {
 }
 
 impl Share {
-    /// The turns of all of so many workers.
+    /// The turns of all workers, if there are so many.
     #[inline]
     pub(super) fn all(workers: usize) -> Self
         // requires some { 0 < workers }
@@ -26,7 +26,7 @@ impl Share {
         }
     }
 
-    /// How many workers share it.
+    /// How many workers these are.
     #[inline]
     pub(super) fn count(self) -> usize
         // ensures { result ≡ self.count }
@@ -56,7 +56,7 @@ impl Share {
         (low, high)
     }
 
-    /// Whether it is the turn of one of the workers.
+    /// Whether one of these workers reads the system.
     #[inline]
     pub(super) fn has(self, frame: usize, system: usize) -> bool
         // ensures { result ≡ has self frame system }

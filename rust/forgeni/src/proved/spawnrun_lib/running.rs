@@ -14,7 +14,7 @@ use crate::handles::OutOfMemory;
 use crate::scripts::{ReadFault, read_script, write_refusal};
 use crate::kit::thread::Join;
 
-/// Runs the script that the input means over an empty world, each frame on 1 to 64 workers, and
+/// Reads the script that the input means and runs it over an empty world, on 1 to 64 workers, and
 /// gives its report, or says why the input means no script. No frame runs before the whole input is
 /// read.
 ///

@@ -8,7 +8,7 @@ use crate::spawnrun_lib::frame_text::write_frame;
 use crate::spawnrun_lib::progress::Progress;
 use crate::spawnrun_lib::show::Show;
 use crate::spawnrun_lib::text::Text;
-use crate::spawnrun_lib::world_parts::world_behind;
+use crate::spawnrun_lib::world_parts::with_world;
 use crate::handles::OutOfMemory;
 use crate::scripts::{Frame, Script};
 use crate::worlds::World;
@@ -66,12 +66,12 @@ where
     let (limits, components, frames) = script.into_parts();
     let mut world = World::new(limits);
     let text = run_frames(rt, &mut world, frames, workers, show, progress)?;
-    world_behind(rt, text, &world, &components, show, workers)
+    with_world(rt, text, &world, &components, show, workers)
 }
 
 /// Runs a script over a world that begins empty, on 1 to 64 workers, and returns the report: the
 /// text of each frame and of the world that the last one leaves. The script is one that
-/// `ent_script` has read. A frame of few commands runs on one worker, and one writes the lines of few
+/// `ent_script` has read. One worker runs a frame of few commands, and writes the lines of few
 /// entities.
 ///
 /// With several workers, which entity gets which handle may differ from run to run. If the script

@@ -9,7 +9,7 @@ use crate::spawnrun_lib::frame_workers::frame_workers;
 use crate::spawnrun_lib::progress::Progress;
 use crate::spawnrun_lib::show::Show;
 use crate::spawnrun_lib::text::Text;
-use crate::spawnrun_lib::world_parts::world_behind;
+use crate::spawnrun_lib::world_parts::with_world;
 use crate::handles::OutOfMemory;
 use crate::scripts::{Frame, Script};
 use crate::worlds::World;
@@ -75,12 +75,13 @@ where
     let (limits, components, frames) = script.into_parts();
     let world = World::new(limits);
     let (world, text) = run_frames(rt, world, frames, size, workers, show, progress)?;
-    world_behind(rt, text, &world, &components, show, workers)
+    with_world(rt, text, &world, &components, show, workers)
 }
 
 /// Runs a script over a world that begins empty, on 1 to 64 workers, and returns the report: the
 /// text of each frame and of the world that the last one leaves. The script is one that
-/// `ent_script` has read.
+/// `ent_script` has read. One worker runs a frame of few commands, and writes the lines of few
+/// entities.
 ///
 /// In each frame each system has a block of `size` handles of its own, fewer where the slots end. A
 /// spawn of more than is left of the block is refused, and a later one of fewer is served. So the

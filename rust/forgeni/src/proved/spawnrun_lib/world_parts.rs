@@ -14,18 +14,18 @@ use crate::handles::{Handle, OutOfMemory};
 use crate::worlds::World;
 use crate::kit::thread::{Join, join_mut};
 
-/// How many lines each of several workers writes at least. To start a thread takes as long as to
-/// write half as many.
+/// One more worker writes for each so many lines. To start a thread takes as long as to write half
+/// of them, or less.
 const WORTH: usize = 8192;
 
-/// The text with that of a world behind it, which 1 to 64 workers write. A world of few entities is
-/// written by one.
+/// The text, and behind it that of a world, which so many workers write. One worker writes the lines
+/// of few entities.
 ///
 /// # Errors
 ///
 /// `Memory` if memory ran out.
 #[inline]
-pub(super) fn world_behind<R>(
+pub(super) fn with_world<R>(
     rt: &R,
     text: Vec<u8>,
     world: &World,
@@ -67,7 +67,7 @@ fn empty_texts(count: usize) -> Result<Vec<Vec<u8>>, OutOfMemory>
     Ok(texts)
 }
 
-/// Makes the parts the lines of all entities, with one worker for each.
+/// Makes the parts the lines of all entities, with one worker for each part.
 #[inline]
 fn write_entities<R>(
     rt: &R,
@@ -88,7 +88,7 @@ where
     write_lines(rt, names, &labels, show, world, &handles, parts)
 }
 
-/// Makes the parts the lines of these entities, with one worker for each.
+/// Makes the parts the lines of these entities, with one worker for each part.
 #[inline]
 fn write_lines<R>(
     rt: &R,
