@@ -46,7 +46,7 @@ pub fill_in_blocks-requires-clause-own : goal.fill_in_blocks-requires-clause-own
 fill_in_blocks-requires-clause-own g c κs within =
     let own = c.in-Ok.ensures.own c.args.phase.now.source
     (c.are_of.ensures.source c.if-not-are_of.false) in
-    rw (sym (c.world.view_is ∙ c.server-world.ensures)) at own
+    rw c.dealer-blocks.ensures (rw (sym (c.world.view_is ∙ c.server-world.ensures)) at own)
 
 pub put_back-requires-clause-from : goal.put_back-requires-clause-from
 put_back-requires-clause-from g c =
@@ -61,7 +61,8 @@ put_back-requires-in-Err-clause-from g c =
 pub put_back-requires-clause-own : goal.put_back-requires-clause-own
 put_back-requires-clause-own g c =
     subst (λ b. All (IsOfPhase b) c.in-Ok-fill_in_blocks.lent.items)
-    (ap (λ w. w.source) c.world.view_is) c.in-Ok-fill_in_blocks.ensures.own
+    (c.dealer-blocks.ensures ∙ ap (λ w. w.source) c.world.view_is)
+    c.in-Ok-fill_in_blocks.ensures.own
 
 -- as many came back as were lent out
 many : (g : given.Over) (c : In-Ok-fill_in_blocks g)
