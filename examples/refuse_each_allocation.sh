@@ -113,6 +113,10 @@ awk 'BEGIN {
     for (i = 0; i < 50; i++) printf "%s{\"insert\":{\"hp\":%d},\"on\":{\"birth\":\"0.0.%d\"}}", i ? "," : "", i, i
     print "]]]}"
 }' >"$room/births.json"
+# Two workers read this text, and write the lines of its entities.
+awk 'BEGIN {
+    printf "%140000s{\"components\":[\"hp\"],\"frames\":[[[{\"spawn_many\":9000}],[{\"spawn\":{\"hp\":1}}]]]}", ""
+}' >"$room/long.json"
 program=${PROGRAMS:-$top/crates/spawnrun/out}/spawnrun
 printf 'alloc\nalloc\nfree 0v1\nbegin 1 2\nstep 1\nanswer 1\nflush\n' >"$room/events"
 printf '{"components":[],"frames":1}' >"$room/no_frames.json"
@@ -128,6 +132,7 @@ each "$here/one_caller.txt" replay "$here/two_callers.txt"
 each "$room/targets.json" run --show handles
 each "$room/bundle.json" run --show handles
 each "$room/births.json" run
+each "$room/long.json" run --workers 2
 each "$scripts/reuse.json" run --show handles
 each "$scripts/spawners.json" run --workers 8
 each "$room/no_script.json" run

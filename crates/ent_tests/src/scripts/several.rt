@@ -66,7 +66,7 @@ fn report_text(alloc: Global) -> Result<Vec<u8>, AllocError> {
     Ok(text)
 }
 
-// On 2 workers to 64 the report is that of one.
+// The report is the same on one worker and on several.
 #[test]
 fn several_workers_read_and_write(rt: HostRuntime) -> Result<(), Fail> {
     let (script, report) = (script_text(rt.alloc())?, report_text(rt.alloc())?);
@@ -82,7 +82,7 @@ fn several_workers_read_and_write(rt: HostRuntime) -> Result<(), Fail> {
 #[test]
 fn several_workers_find_the_first_fault(rt: HostRuntime) -> Result<(), Fail> {
     let mut script = script_text(rt.alloc())?;
-    // The first of these values is in a system of another worker.
+    // Different workers read the systems of these two values.
     let later = place_of(&script, b"\"hp\":150007");
     let earlier = place_of(&script, b"\"hp\":140008");
     for (place, refusal) in [
@@ -97,7 +97,7 @@ fn several_workers_find_the_first_fault(rt: HostRuntime) -> Result<(), Fail> {
     Ok(())
 }
 
-// Where a piece of a text begins, or its end.
+// Where a piece of a text begins, or the text's end if it isn't there.
 fn place_of(text: &[u8], piece: &[u8]) -> usize {
     let mut place = 0;
     while place < text.len() && !text[place..].starts_with(piece) {

@@ -74,13 +74,15 @@ pub struct Reader<'a> {
     /// Where the next token begins, or the end of the text.
     at: usize,
     place: Place,
-    /// Where strings without their escapes go. There is room for all of the text that is left.
+    /// Where strings without their escapes go. If the text has a backslash, there is room for all of
+    /// it that is left.
     scratch: &'a mut [u8],
 }
 
 impl<'a> Reader<'a> {
     /// The contract: a reader of all tokens of the text, or an `Err` if the scratch can't grow to
-    /// the length of the text. A text without a backslash needs none.
+    /// the length of the text. A text without a backslash needs no
+    /// scratch.
     pub fn new(text: &'a str, scratch: &'a mut Scratch) -> Result<Self, AllocError> {
         if scratch.text.len() < text.len() && text.as_bytes().contains(&b'\\') {
             scratch.text.resize_fallibly(text.len(), 0)?;

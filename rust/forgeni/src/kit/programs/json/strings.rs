@@ -9,7 +9,7 @@ pub(super) struct Found<'a> {
 }
 
 /// The string whose text begins here, if it is one. It is a part of the text, or if it has escapes,
-/// of the scratch, which has room for as much as is left of the text.
+/// of the scratch, which then has room for as much as is left of the text.
 #[inline]
 pub(super) fn read<'a>(
     text: &'a str,
