@@ -74,8 +74,8 @@ pub struct Reader<'a> {
     /// Where the next token begins, or the end of the text.
     at: usize,
     place: Place,
-    /// Where strings without their escapes go. If the text has a backslash, there is room for all of
-    /// it that is left.
+    /// Where strings without their escapes go. If the text has a backslash, there is room for all
+    /// of it that is left.
     scratch: &'a mut [u8],
 }
 
