@@ -26,8 +26,9 @@ fn append_system(
     Ok(())
 }
 
+// No two of them are equal.
 fn value_of(frame: u32, system: u32, number: u32) -> u32 {
-    100_000 * frame + 10_000 * system + number
+    (frame << 20) | (system << 12) | number
 }
 
 fn script_text(alloc: Global) -> Result<Vec<u8>, AllocError> {
@@ -83,13 +84,15 @@ fn several_workers_read_and_write(rt: HostRuntime) -> Result<(), Fail> {
 fn several_workers_find_the_first_fault(rt: HostRuntime) -> Result<(), Fail> {
     let mut script = script_text(rt.alloc())?;
     // Different workers read the systems of these two values.
-    let later = place_of(&script, b"\"hp\":150007");
-    let earlier = place_of(&script, b"\"hp\":140008");
+    let later = place_of(&script, b"hp\":1069063");
+    let earlier = place_of(&script, b"hp\":1064968");
     for (place, refusal) in [
         (later, b"refused operation 1 5 7 component\n"),
         (earlier, b"refused operation 1 4 8 component\n"),
     ] {
-        script[place + 1] = b'x';
+        if let Some(letter) = script.get_mut(place) {
+            *letter = b'x';
+        }
         let words = &["run", "--workers", "4"];
         let holds = gives(&rt, rt.alloc(), words, &script, Status::Refused, refusal);
         assert!(rt; holds);
@@ -99,9 +102,10 @@ fn several_workers_find_the_first_fault(rt: HostRuntime) -> Result<(), Fail> {
 
 // Where a piece of a text begins, or the text's end if it isn't there.
 fn place_of(text: &[u8], piece: &[u8]) -> usize {
-    let mut place = 0;
-    while place < text.len() && !text[place..].starts_with(piece) {
-        place += 1;
+    for place in 0..text.len() {
+        if text[place..].starts_with(piece) {
+            return place;
+        }
     }
-    place
+    text.len()
 }
