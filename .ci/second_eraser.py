@@ -180,9 +180,9 @@ LIST_CALLS = {
     "push_reserved": "push_reserved",
 }
 LISTS |= {
-    "capacity": "living",
-    "push": "living log storage",
-    "reserve": "] blocks index living self shared storage",
+    "capacity": "living rows source",
+    "push": "living log rows storage",
+    "reserve": "] blocks index living rows self shared storage",
 }
 LISTS |= {
     "insert": "blocked calls commands entry items last latest living map queue seen self spent vacant values"

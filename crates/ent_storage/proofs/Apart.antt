@@ -1,27 +1,13 @@
 -- Residents without an index: no two have the same handle, as an index could have their places.
-use Rattle.ent_storage.proofs.Common.{◌≡◌, ℕ, ◌≤◌, ◌<◌, ◌++◌, ◌∷◌, [], List, length, Some, None}
+use Rattle.ent_storage.proofs.Common.{◌≡◌, ℕ, ◌<◌, ◌++◌, ◌∷◌, [], List, length, Some, None}
 use Rattle.ent_storage.proofs.Common.{rules, false≢true}
-use Rattle.ent_storage.proofs.Common.{arith, get_or, FinMap, Handle, handle_cmp, LivingEntity}
-use Rattle.ent_storage.proofs.Common.{AreApart, IsKeptIndex, IsMovedInto, cases_lt, inl, inr, map_of}
-use Rattle.ent_storage.proofs.Common.{counted, fin_get, fin_remove, length_push}
-use Rattle.ent_storage.proofs.Counted.{indexed_counted}
-use Rattle.ent_storage.proofs.Indexed.{indexed_none, indexed_push, some_entity}
+use Rattle.ent_storage.proofs.Common.{arith, get_or, Handle, LivingEntity}
+use Rattle.ent_storage.proofs.Common.{AreApart, IsMovedInto, cases_lt, inl, inr, map_of}
+use Rattle.ent_storage.proofs.Common.{fin_get, fin_remove, length_push, length-set, set}
+use Rattle.ent_storage.proofs.Indexed.{indexed_none, indexed_push, indexed_set, some_entity}
 use Rattle.ent_storage.proofs.Placed.{placed_known}
 use Rattle.ent_storage.proofs.TakenOut.{entities_moved, entities_popped, indexed_moved}
 use Rattle.ent_storage.proofs.TakenOut.{indexed_popped}
-
--- the index that there could be is one that is kept, and one that is kept would do
-pub to_kept : (living : List LivingEntity) (room : ℕ) (apart : AreApart living room)
-    → IsKeptIndex living apart.index room
-to_kept living room apart = record {
-  indexed = indexed_counted living apart.index apart.index apart.indexed (λ q i at. at);
-  fits = apart.fits;
-}
-
-pub from_kept : (living : List LivingEntity) (index : FinMap handle_cmp ℕ) (room : ℕ)
-    → IsKeptIndex living index room → AreApart living room
-from_kept living index room kept =
-    record { index = counted living index; indexed = kept.indexed; fits = kept.fits }
 
 -- none yet
 pub apart_none : (room : ℕ) → AreApart [] room
@@ -41,6 +27,15 @@ module _ (living : List LivingEntity) (room : ℕ) (apart : AreApart living room
     index = _;
     indexed = indexed_push living apart.index apart.indexed entity (no_place entity.handle new);
     fits = omega (arith, length_push living entity, fits);
+  }
+
+  -- with another one of the same handle
+  pub apart_set : (i : ℕ) (entity : LivingEntity) → fin_get apart.index entity.handle ≡ Some i
+      → AreApart (set living i entity) room
+  apart_set i entity at = record {
+    index = apart.index;
+    indexed = indexed_set living apart.index apart.indexed i entity at;
+    fits = omega (arith, length-set living i entity, apart.fits);
   }
 
   -- with one less

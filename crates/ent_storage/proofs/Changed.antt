@@ -1,12 +1,12 @@
 -- The components or the birth of the entity at a place are changed.
 use Rattle.ent_storage.proofs.Common.{rules, length-set, ◌≡◌, ℕ, zero, suc, ◌-◌, ◌<◌, List, [], ◌∷◌}
 use Rattle.ent_storage.proofs.Common.{length, get_or, set, Some, refl, ap, ◌∙◌, arith}
-use Rattle.ent_storage.proofs.Common.{get_or_default, FinMap, Birth, Handle, handle_cmp, Components}
+use Rattle.ent_storage.proofs.Common.{get_or_default, Birth, Handle, Components}
 use Rattle.ent_storage.proofs.Common.{Column, Resident, Store, with_components, with_birth}
 use Rattle.ent_storage.proofs.Common.{LivingEntity, change_at, with_birth_at, entities_from, map_of}
-use Rattle.ent_storage.proofs.Common.{handles_by_place, counted, IsKeptIndex, fin_get}
+use Rattle.ent_storage.proofs.Common.{handles_by_place, AreApart, fin_get}
 use Rattle.ent_storage.proofs.Indexed.{some_entity, entities_set, get_placed}
-use Rattle.ent_storage.proofs.Counted.{kept_set}
+use Rattle.ent_storage.proofs.Apart.{apart_set}
 use Rattle.ent_storage.proofs.Placed.{handles_set}
 
 -- the resident at the place is written again with another birth
@@ -45,27 +45,26 @@ changed_set (e ∷ living) (suc i) d change l =
 
 -- the store in which the components of one entity are changed
 pub record IsChanged (s : Store) (h : Handle) (change : Components → Components)
-    (living : List LivingEntity) (index : FinMap handle_cmp ℕ) (room : ℕ) : Type 0 where
+    (living : List LivingEntity) (room : ℕ) : Type 0 where
   pub entities : map_of living ≡ with_components s.entities h change
   pub places : handles_by_place living ≡ s.places
   pub spare : room - length living ≡ s.spare
-  pub kept : IsKeptIndex living index room
+  pub apart : AreApart living room
 
-module _ (living : List LivingEntity) (index : FinMap handle_cmp ℕ) (room : ℕ)
-    (kept : IsKeptIndex living index room)
-    (h : Handle) (i : ℕ) (placed : fin_get (counted living index) h ≡ Some i) where
+module _ (living : List LivingEntity) (room : ℕ) (apart : AreApart living room)
+    (h : Handle) (i : ℕ) (placed : fin_get apart.index h ≡ Some i) where
   abbrev was : LivingEntity
   was = get_or living i (some_entity h)
 
   its_handle : was.handle ≡ h
-  its_handle = (kept.indexed.each_place h i placed).1 (some_entity h)
+  its_handle = (apart.indexed.each_place h i placed).1 (some_entity h)
 
-  at : fin_get (counted living index) was.handle ≡ Some i
-  at = ap (fin_get (counted living index)) its_handle ∙ placed
+  at : fin_get apart.index was.handle ≡ Some i
+  at = ap (fin_get apart.index) its_handle ∙ placed
 
   module _ (birth : Birth) where
     is_set : with_birth_at living i birth ≡ set living i (record was { birth = birth })
-    is_set = search (rules, reborn_set, some_entity, kept.indexed)
+    is_set = search (rules, reborn_set, some_entity, apart.indexed)
 
     pub reborn_entities : map_of (with_birth_at living i birth) ≡ with_birth (map_of living) h birth
     reborn_entities = search (rules, is_set, entities_set, at, its_handle, get_placed)
@@ -73,8 +72,8 @@ module _ (living : List LivingEntity) (index : FinMap handle_cmp ℕ) (room : �
     pub reborn_handles : handles_by_place (with_birth_at living i birth) ≡ handles_by_place living
     reborn_handles = search (rules, is_set, handles_set, get_or_default, some_entity)
 
-    pub reborn_kept : IsKeptIndex (with_birth_at living i birth) index room
-    reborn_kept = search (rules, is_set, kept_set, at)
+    pub reborn_apart : AreApart (with_birth_at living i birth) room
+    reborn_apart = search (rules, is_set, apart_set, at)
 
   pub changed : (s : Store) → record {
     entities = map_of living;
@@ -82,16 +81,16 @@ module _ (living : List LivingEntity) (index : FinMap handle_cmp ℕ) (room : �
     spare = room - length
         living;
   } ≡ s → (change : Components → Components) (after : List LivingEntity) (now : ℕ)
-      → after ≡ change_at living i change → now ≡ room → IsChanged s h change after index now
+      → after ≡ change_at living i change → now ≡ room → IsChanged s h change after now
   changed s view change after now is same = rw (
     is,
     same,
     changed_set living i (some_entity h) change
-        (kept.indexed.each_place h i placed).0,
+        (apart.indexed.each_place h i placed).0,
     ← view,
   ) (record {
     entities = search (rules, entities_set, at, its_handle, get_placed);
     places = search (rules, handles_set, get_or_default);
     spare = search (rules, length-set);
-    kept = search (rules, kept_set, at);
+    apart = search (rules, apart_set, at);
   })

@@ -3,11 +3,13 @@ use Rattle.ent_storage.proofs.Common.{rules, ◌≡◌, ◌≢◌, ℕ, zero, su
 use Rattle.ent_storage.proofs.Common.{List, [], ◌∷◌, ◌++◌, map, length, get_or, Some, None}
 use Rattle.ent_storage.proofs.Common.{slice_get, take, drop, refl, ap, arith, common_steps}
 use Rattle.ent_storage.proofs.Common.{slice_get_past, slice_get-get_or, slice_get_cases}
+use Rattle.ent_storage.proofs.Common.{slice_get-map}
 use Rattle.ent_storage.proofs.Common.{get_or_from_slice_get, cases_eq, option_map, eq_by_cmp, Birth}
 use Rattle.ent_storage.proofs.Common.{ComponentId, Handle, handle_cmp, Components, Column}
 use Rattle.ent_storage.proofs.Common.{IsMovedDown, Resident, LivingEntity, Living, IsMovedInto}
 use Rattle.ent_storage.proofs.Common.{AreColumnsOf, change_at, column_at, value_at, components_at}
-use Rattle.ent_storage.proofs.Common.{entities_from, born_at, has_handle_at, fin_empty, fin_get}
+use Rattle.ent_storage.proofs.Common.{entities_from, born_at, handles_by_place, has_handle_at}
+use Rattle.ent_storage.proofs.Common.{fin_empty, fin_get}
 use Rattle.ent_storage.proofs.Common.{fin_get-empty, option_and_then}
 use Rattle.ent_storage.proofs.ColumnsAtPlaces.{same_components, no_components, get_components}
 
@@ -141,13 +143,14 @@ value_from residents columns i id within = search
 -- a test of the handle at a place
 pub test_at : (residents : List Resident) (columns : List Column) (i : ℕ) (resident : Resident)
     (h : Handle) → slice_get residents i ≡ Some resident
-    → has_handle_at (entities_from 0 residents columns) h (Some i)
+    → has_handle_at (handles_by_place (entities_from 0 residents columns)) h (Some i)
     ≡ eq_by_cmp handle_cmp resident.handle h
-test_at residents columns i resident h at = search (rules, entry_from)
+test_at residents columns i resident h at = search (rules, entry_from, slice_get-map)
 
 pub test_past : (residents : List Resident) (columns : List Column) (i : ℕ) (h : Handle)
-    → length residents ≤ i → has_handle_at (entities_from 0 residents columns) h (Some i) ≡ false
-test_past residents columns i h l = search (rules, entry_from, slice_get_past)
+    → length residents ≤ i
+    → has_handle_at (handles_by_place (entities_from 0 residents columns)) h (Some i) ≡ false
+test_past residents columns i h l = search (rules, entry_from, slice_get_past, slice_get-map)
 
 -- the birth and the handle of each resident
 pub births_from : (n : ℕ) (residents : List Resident) (columns : List Column)

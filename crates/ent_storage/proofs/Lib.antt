@@ -10,6 +10,7 @@ pub mod Counted
 pub mod Dense
 pub mod ElementsAt
 pub mod Indexed
+pub mod KeptIndex
 pub mod InUse
 pub mod Keys
 pub mod EntitiesOfResidents

@@ -1,7 +1,7 @@
 -- An entity is taken out of the living, and the last one moves into its place: the index and what
 -- the two stand for.
-use Rattle.ent_storage.proofs.Common.{map, ◌≡◌, ◌≢◌, ℕ, ◌+◌, ◌-◌, ◌<◌, ◌≤◌, true, List, length}
-use Rattle.ent_storage.proofs.Common.{get_or, Some, None, is_some, refl, arith, rules, cases_lt}
+use Rattle.ent_storage.proofs.Common.{map, ◌≡◌, ◌≢◌, ℕ, ◌+◌, ◌-◌, ◌<◌, ◌≤◌, List, length}
+use Rattle.ent_storage.proofs.Common.{get_or, Some, None, refl, arith, rules, cases_lt}
 use Rattle.ent_storage.proofs.Common.{FinMap, Handle, handle_cmp, total, same, LivingEntity}
 use Rattle.ent_storage.proofs.Common.{IsMovedInto, map_of, IsIndexed, fin_get, fin_insert}
 use Rattle.ent_storage.proofs.Common.{fin_remove}
@@ -94,12 +94,6 @@ module _ (living : List LivingEntity) (index : FinMap handle_cmp ℕ)
 
     was_last : (d : LivingEntity) → (get_or living (length living - 1) d).handle ≡ m
     was_last d = let moved = rest.moved d not_the_last in cc (is d)
-
-    pub moved_is_there : is_some (fin_get (fin_remove index h) m) ≡ true
-    moved_is_there =
-        let last = placed_last living index indexed h i placed not_the_last m was_last in
-        let other = not_gone living index indexed h i placed not_the_last m was_last in
-        grind (arith, remove_tells total same index h m)
 
     pub indexed_moved : IsIndexed left (fin_insert (fin_remove index h) m i)
     indexed_moved = search (rules, indexed_without, without_moved, not_the_last, was_last)

@@ -1,13 +1,13 @@
--- The living entities as a list, and the index that has the place of each handle.
-use Rattle.std.specs.Prelude.{◌≡◌, ◌≢◌, ℕ, ◌<◌, ◌≤◌, Bool, false, List, map, length, Option}
-use Rattle.std.specs.Prelude.{None, Some, slice_get}
+-- The living entities as a list, and an index that has the place of each handle.
+use Rattle.std.specs.Prelude.{◌≡◌, ◌≢◌, ℕ, ◌<◌, ◌≤◌, Bool, false, true, List, map, length, Option}
+use Rattle.std.specs.Prelude.{None, Some, is_some, slice_get}
 use Rattle.std.specs.List.{HoldsAt}
 use Rattle.std.specs.Option.{option_map_or}
 use Rattle.std.specs.Ordering.{eq_by_cmp}
 use Rattle.std.specs.FinMap as finite
 use Rattle.ent_handle.specs.Handle.{Handle, handle_cmp}
 use Rattle.ent_storage.specs.Living.{LivingEntity}
-use Rattle.ent_storage.specs.EntityMap.{Entity, EntityMap}
+use Rattle.ent_storage.specs.EntityMap.{Entity, EntityMap, Store}
 
 -- what the entity is, without its handle
 abbrev pub entity_of : LivingEntity → Entity
@@ -29,22 +29,31 @@ pub record IsIndexed (living : List LivingEntity) (index : finite.FinMap handle_
   pub each_place : (h : Handle) (i : ℕ) → finite.get index h ≡ Some i
       → (i < length living) × HoldsAt (λ entity. entity.handle ≡ h) living i
 
--- whether the entity at the place has that handle
-abbrev pub has_handle_at : List LivingEntity → Handle → Option ℕ → Bool
-has_handle_at living h None = false
-has_handle_at living h (Some i) =
-    option_map_or (λ entity. eq_by_cmp handle_cmp entity.handle h) (slice_get living i) false
+-- The residents without an index: no two have the same handle, as an index could have the place of
+-- each, and there is room for them.
+pub record AreApart (living : List LivingEntity) (room : ℕ) : Type 0 where
+  pub index : finite.FinMap handle_cmp ℕ
+  pub indexed : IsIndexed living index
+  pub fits : length living ≤ room
 
--- The places that count: an index also keeps handles of entities that are gone.
-abbrev pub counted : List LivingEntity → finite.FinMap handle_cmp ℕ → finite.FinMap handle_cmp ℕ
-counted living index =
-    finite.retain_keys index (λ h. has_handle_at living h (finite.get index h))
+-- ---- an index of handles by their places
+
+-- whether the handle is at that place
+abbrev pub has_handle_at : List Handle → Handle → Option ℕ → Bool
+has_handle_at places h None = false
+has_handle_at places h (Some i) =
+    option_map_or (λ at. eq_by_cmp handle_cmp at h) (slice_get places i) false
+
+-- The places that count: an index also keeps handles that are gone.
+abbrev pub counted : List Handle → finite.FinMap handle_cmp ℕ → finite.FinMap handle_cmp ℕ
+counted places index =
+    finite.retain_keys index (λ h. has_handle_at places h (finite.get index h))
 
 -- there is a pair at that position of an index, and it does not count
-pub record IsFree (living : List LivingEntity) (pairs : List (Handle × ℕ)) (position : ℕ)
+pub record IsFree (places : List Handle) (pairs : List (Handle × ℕ)) (position : ℕ)
     : Type 0 where
   pub inside : position < length pairs
-  pub gone : HoldsAt (λ pair. has_handle_at living pair.0 (Some pair.1) ≡ false) pairs position
+  pub gone : HoldsAt (λ pair. has_handle_at places pair.0 (Some pair.1) ≡ false) pairs position
 
 -- For proofs: one index has each place that the other has.
 abbrev pub HasAll : finite.FinMap handle_cmp ℕ → finite.FinMap handle_cmp ℕ → Type 0
@@ -55,16 +64,13 @@ abbrev pub Keeps : Handle → finite.FinMap handle_cmp ℕ → finite.FinMap han
 Keeps h old new =
     (q : Handle) (i : ℕ) → q ≢ h → finite.get old q ≡ Some i → finite.get new q ≡ Some i
 
--- the residents and their index: the places that count are those of the residents, and there is
--- room for them
-pub record IsKeptIndex (living : List LivingEntity) (index : finite.FinMap handle_cmp ℕ) (room : ℕ)
-    : Type 0 where
-  pub indexed : IsIndexed living (counted living index)
-  pub fits : length living ≤ room
-
--- The residents without an index: no two have the same handle, as an index could have the place of
--- each, and there is room for them.
-pub record AreApart (living : List LivingEntity) (room : ℕ) : Type 0 where
-  pub index : finite.FinMap handle_cmp ℕ
-  pub indexed : IsIndexed living index
-  pub fits : length living ≤ room
+-- The entities and their index: each entity has a place, the index has the place of each handle,
+-- and there is room for them.
+pub record IsKeptIndex (s : Store) (index : finite.FinMap handle_cmp ℕ) (room : ℕ) : Type 0 where
+  pub each_entity : (h : Handle) → is_some (finite.get s.entities h) ≡ true
+      → (i : ℕ) × (slice_get s.places i ≡ Some h)
+  pub each_place : (i : ℕ) (h : Handle) → slice_get s.places i ≡ Some h
+      → is_some (finite.get s.entities h) ≡ true
+  pub indexed : (i : ℕ) (h : Handle) → slice_get s.places i ≡ Some h
+      → finite.get index h ≡ Some i
+  pub fits : length s.places ≤ room

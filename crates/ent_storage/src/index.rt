@@ -8,8 +8,8 @@ ghost use Rattle.ent_storage.specs.Indexed.{counted, HasAll, Keeps, IsFree};
 ghost use Rattle.ent_storage.specs.Position.{IsAt, IsGapFor};
 
 use super::key::Key;
-use super::living::{Living, has_key_at};
 use super::places::MOST_PLACES;
+use super::rows::Rows;
 use super::slot::{at_slot, is_gap, search_slot};
 use ent_handle::Handle;
 use std::alloc::{AllocError, Global};
@@ -76,9 +76,9 @@ impl Index {
     ///
     /// If the pairs of the other index fit, they are copied as they are, so that each stays at its
     /// slot's number. If not, only those that count are.
-    pub fn take_over(&mut self, source: &Index, living: &Living)
-        requires { length living.now.entities ≤ self.old.room }
-        ensures kept { HasAll (counted living.now.entities source.now.by_handle)
+    pub fn take_over(&mut self, source: &Index, rows: &Rows)
+        requires { length rows.now.places ≤ self.old.room }
+        ensures kept { HasAll (counted rows.now.places source.now.by_handle)
             self.new.by_handle }
         ensures room { self.old.room ≤ self.new.room }
     {
@@ -86,72 +86,72 @@ impl Index {
         if source.pairs.len() <= self.pairs.capacity() {
             self.pairs.extend_from_slice(&source.pairs).unwrap();
         } else {
-            append_counted(&mut self.pairs, living, &source.pairs);
+            append_counted(&mut self.pairs, rows, &source.pairs);
         }
     }
 
     /// The place of the entity, if it is among the living.
     #[inline(always)]
-    pub fn place(&self, living: &Living, handle: Handle) -> Option<usize>
-        ensures { result ≡ map.get (counted living.now.entities self.now.by_handle) handle }
+    pub fn place(&self, rows: &Rows, handle: Handle) -> Option<usize>
+        ensures { result ≡ map.get (counted rows.now.places self.now.by_handle) handle }
     {
         let found = search_slot(&self.pairs, handle);
-        place_found(&self.pairs, living, handle, found)
+        place_found(&self.pairs, rows, handle, found)
     }
 
-    /// Writes down that the entity has the next place, after all the living, and returns whether it
+    /// Writes down that the entity has the next place, after all the rows, and returns whether it
     /// did: not if the living have the entity already. It doesn't allocate.
     ///
     /// An allocator's handles come behind the pair of their slot's last occupant, or behind all, or
     /// over a pair that was made for their slot before it had an occupant. So these places are
     /// tried first, and only then is the handle looked for.
     #[inline(always)]
-    pub fn put(&mut self, living: &Living, handle: Handle) -> bool
-        requires room { length living.now.entities < self.old.room }
+    pub fn put(&mut self, rows: &Rows, handle: Handle) -> bool
+        requires room { length rows.now.places < self.old.room }
         ensures new { result
-            ≡ is_none (map.get (counted living.now.entities self.old.by_handle) handle) }
+            ≡ is_none (map.get (counted rows.now.places self.old.by_handle) handle) }
         ensures placed { IsTrue result
-            → map.get self.new.by_handle handle ≡ Some (length living.now.entities) }
+            → map.get self.new.by_handle handle ≡ Some (length rows.now.places) }
         ensures kept { IsTrue result
-            → Keeps handle (counted living.now.entities self.old.by_handle) self.new.by_handle }
+            → Keeps handle (counted rows.now.places self.old.by_handle) self.new.by_handle }
         ensures refused { ¬ (IsTrue result) → self.new ≡ self.old }
         ensures room { self.new.room ≡ self.old.room }
     {
-        let place = living.len();
-        if put_over_last(&mut self.pairs, living, (Key::of(handle), place as u32))
-            || put_behind(&mut self.pairs, living, (Key::of(handle), place as u32))
-            || put_over_first(&mut self.pairs, living, (Key::of(handle), place as u32))
+        let place = rows.len();
+        if put_over_last(&mut self.pairs, rows, (Key::of(handle), place as u32))
+            || put_behind(&mut self.pairs, rows, (Key::of(handle), place as u32))
+            || put_over_first(&mut self.pairs, rows, (Key::of(handle), place as u32))
         {
             return true;
         }
-        self.put_searched(living, handle)
+        self.put_searched(rows, handle)
     }
 
     /// Does what `put` does, wherever the handle's pair goes. The handle is looked for once, and
     /// once more only if pairs have to be dropped.
     #[inline(never)]
-    fn put_searched(&mut self, living: &Living, handle: Handle) -> bool
-        requires room { length living.now.entities < self.old.room }
+    fn put_searched(&mut self, rows: &Rows, handle: Handle) -> bool
+        requires room { length rows.now.places < self.old.room }
         ensures new { result
-            ≡ is_none (map.get (counted living.now.entities self.old.by_handle) handle) }
+            ≡ is_none (map.get (counted rows.now.places self.old.by_handle) handle) }
         ensures placed { IsTrue result
-            → map.get self.new.by_handle handle ≡ Some (length living.now.entities) }
+            → map.get self.new.by_handle handle ≡ Some (length rows.now.places) }
         ensures kept { IsTrue result
-            → Keeps handle (counted living.now.entities self.old.by_handle) self.new.by_handle }
+            → Keeps handle (counted rows.now.places self.old.by_handle) self.new.by_handle }
         ensures refused { ¬ (IsTrue result) → self.new ≡ self.old }
         ensures room { self.new.room ≡ self.old.room }
     {
         let found = search_slot(&self.pairs, handle);
-        if place_found(&self.pairs, living, handle, found).is_some() {
+        if place_found(&self.pairs, rows, handle, found).is_some() {
             return false;
         }
-        let pair = (Key::of(handle), living.len() as u32);
+        let pair = (Key::of(handle), rows.len() as u32);
         if self.lacks_slots_before(handle, found) {
-            fill_up(&mut self.pairs, living, handle.index());
+            fill_up(&mut self.pairs, rows, handle.index());
             let filled = search_slot(&self.pairs, handle);
-            put_found(&mut self.pairs, living, filled, pair);
+            put_found(&mut self.pairs, rows, filled, pair);
         } else {
-            put_found(&mut self.pairs, living, found, pair);
+            put_found(&mut self.pairs, rows, found, pair);
         }
         true
     }
@@ -234,20 +234,20 @@ impl Index {
 #[inline(always)]
 fn place_found(
     pairs: &[(Key, u32)],
-    living: &Living,
+    rows: &Rows,
     handle: Handle,
     found: Result<usize, usize>,
 ) -> Option<usize>
     requires sorted { T (map.is_sorted handle_cmp pairs.now) }
     requires found { IfOk found (IsAt handle_cmp pairs.now handle) }
     requires absent { IfErr found (IsGapFor handle_cmp pairs.now handle) }
-    ensures { result ≡ map.get (counted living.now.entities (map.from_sorted pairs.now)) handle }
+    ensures { result ≡ map.get (counted rows.now.places (map.from_sorted pairs.now)) handle }
 {
     let Ok(position) = found else {
         return None;
     };
     let place = pairs[position].1 as usize;
-    if has_key_at(living, Key::of(handle), place) {
+    if rows.has_key_at(Key::of(handle), place) {
         Some(place)
     } else {
         None
@@ -256,17 +256,17 @@ fn place_found(
 
 /// Appends the pairs that count to a list that is empty and has room for them.
 #[inline(never)]
-fn append_counted(pairs: &mut Vec<(Key, u32)>, living: &Living, source: &[(Key, u32)])
+fn append_counted(pairs: &mut Vec<(Key, u32)>, rows: &Rows, source: &[(Key, u32)])
     requires sorted { T (map.is_sorted handle_cmp source.now) }
     requires empty { pairs.old.items ≡ [] }
-    requires room { length living.now.entities ≤ vec_capacity pairs.old }
+    requires room { length rows.now.places ≤ vec_capacity pairs.old }
     ensures sorted { T (map.is_sorted handle_cmp pairs.new.items) }
     ensures counted { map.from_sorted pairs.new.items
-        ≡ counted living.now.entities (map.from_sorted source.now) }
+        ≡ counted rows.now.places (map.from_sorted source.now) }
     ensures capacity { vec_capacity pairs.new ≡ vec_capacity pairs.old }
 {
     for pair in source {
-        if has_key_at(living, pair.0, pair.1 as usize) {
+        if rows.has_key_at(pair.0, pair.1 as usize) {
             pairs.push_reserved(*pair);
         }
     }
@@ -274,35 +274,35 @@ fn append_counted(pairs: &mut Vec<(Key, u32)>, living: &Living, source: &[(Key, 
 
 /// Drops the pairs that don't count. It doesn't allocate.
 #[inline(never)]
-fn sweep(pairs: &mut Vec<(Key, u32)>, living: &Living)
+fn sweep(pairs: &mut Vec<(Key, u32)>, rows: &Rows)
     requires { T (map.is_sorted handle_cmp pairs.old.items) }
     ensures sorted { T (map.is_sorted handle_cmp pairs.new.items) }
     ensures counted { map.from_sorted pairs.new.items
-        ≡ counted living.now.entities (map.from_sorted pairs.old.items) }
-    ensures len { vec_len pairs.new ≤ length living.now.entities }
+        ≡ counted rows.now.places (map.from_sorted pairs.old.items) }
+    ensures len { vec_len pairs.new ≤ length rows.now.places }
     ensures capacity { vec_capacity pairs.new ≡ vec_capacity pairs.old }
 {
-    pairs.retain(|pair| has_key_at(living, pair.0, pair.1 as usize));
+    pairs.retain(|pair| rows.has_key_at(pair.0, pair.1 as usize));
 }
 
 /// Puts a pair over that of its slot's last occupant, and returns whether it did: only if that one
 /// is at the slot's number, doesn't count, and is the one before the gap for the new pair.
 #[inline(always)]
-fn put_over_last(pairs: &mut Vec<(Key, u32)>, living: &Living, pair: (Key, u32)) -> bool
+fn put_over_last(pairs: &mut Vec<(Key, u32)>, rows: &Rows, pair: (Key, u32)) -> bool
     requires { T (map.is_sorted handle_cmp pairs.old.items) }
     ensures sorted { T (map.is_sorted handle_cmp pairs.new.items) }
-    ensures new { IsTrue result → map.get (counted living.now.entities
+    ensures new { IsTrue result → map.get (counted rows.now.places
         (map.from_sorted {R = handle_cmp} pairs.old.items)) pair.0 ≡ None }
     ensures placed { IsTrue result → map.get (map.from_sorted {R = handle_cmp} pairs.new.items)
         pair.0 ≡ Some pair.1 }
     ensures kept { IsTrue result → Keeps pair.0
-        (counted living.now.entities (map.from_sorted pairs.old.items))
+        (counted rows.now.places (map.from_sorted pairs.old.items))
         (map.from_sorted pairs.new.items) }
     ensures refused { ¬ (IsTrue result) → pairs.new.items ≡ pairs.old.items }
     ensures capacity { vec_capacity pairs.new ≡ vec_capacity pairs.old }
 {
     let slot = pair.0.index() as usize;
-    if is_own(pairs, living, slot, pair.0.handle()) && is_gap(pairs, slot + 1, pair.0.handle()) {
+    if is_own(pairs, rows, slot, pair.0.handle()) && is_gap(pairs, slot + 1, pair.0.handle()) {
         pairs[slot] = pair;
         true
     } else {
@@ -313,15 +313,15 @@ fn put_over_last(pairs: &mut Vec<(Key, u32)>, living: &Living, pair: (Key, u32))
 /// Puts a pair behind all others, and returns whether it did: only if there is room for it, it
 /// belongs there, and it is no further than its slot's number.
 #[inline(always)]
-fn put_behind(pairs: &mut Vec<(Key, u32)>, living: &Living, pair: (Key, u32)) -> bool
+fn put_behind(pairs: &mut Vec<(Key, u32)>, rows: &Rows, pair: (Key, u32)) -> bool
     requires { T (map.is_sorted handle_cmp pairs.old.items) }
     ensures sorted { T (map.is_sorted handle_cmp pairs.new.items) }
-    ensures new { IsTrue result → map.get (counted living.now.entities
+    ensures new { IsTrue result → map.get (counted rows.now.places
         (map.from_sorted {R = handle_cmp} pairs.old.items)) pair.0 ≡ None }
     ensures placed { IsTrue result → map.get (map.from_sorted {R = handle_cmp} pairs.new.items)
         pair.0 ≡ Some pair.1 }
     ensures kept { IsTrue result → Keeps pair.0
-        (counted living.now.entities (map.from_sorted pairs.old.items))
+        (counted rows.now.places (map.from_sorted pairs.old.items))
         (map.from_sorted pairs.new.items) }
     ensures refused { ¬ (IsTrue result) → pairs.new.items ≡ pairs.old.items }
     ensures capacity { vec_capacity pairs.new ≡ vec_capacity pairs.old }
@@ -339,15 +339,15 @@ fn put_behind(pairs: &mut Vec<(Key, u32)>, living: &Living, pair: (Key, u32)) ->
 /// Puts a pair over that of the same handle, and returns whether it did: only if that one is at the
 /// slot's number, and doesn't count. A slot that had no occupant yet may have such a pair.
 #[inline(always)]
-fn put_over_first(pairs: &mut Vec<(Key, u32)>, living: &Living, pair: (Key, u32)) -> bool
+fn put_over_first(pairs: &mut Vec<(Key, u32)>, rows: &Rows, pair: (Key, u32)) -> bool
     requires { T (map.is_sorted handle_cmp pairs.old.items) }
     ensures sorted { T (map.is_sorted handle_cmp pairs.new.items) }
-    ensures new { IsTrue result → map.get (counted living.now.entities
+    ensures new { IsTrue result → map.get (counted rows.now.places
         (map.from_sorted {R = handle_cmp} pairs.old.items)) pair.0 ≡ None }
     ensures placed { IsTrue result → map.get (map.from_sorted {R = handle_cmp} pairs.new.items)
         pair.0 ≡ Some pair.1 }
     ensures kept { IsTrue result → Keeps pair.0
-        (counted living.now.entities (map.from_sorted pairs.old.items))
+        (counted rows.now.places (map.from_sorted pairs.old.items))
         (map.from_sorted pairs.new.items) }
     ensures refused { ¬ (IsTrue result) → pairs.new.items ≡ pairs.old.items }
     ensures capacity { vec_capacity pairs.new ≡ vec_capacity pairs.old }
@@ -355,7 +355,7 @@ fn put_over_first(pairs: &mut Vec<(Key, u32)>, living: &Living, pair: (Key, u32)
     let Some(position) = at_slot(pairs, pair.0.handle()) else {
         return false;
     };
-    if is_free(pairs, living, position) {
+    if is_free(pairs, rows, position) {
         pairs[position] = pair;
         true
     } else {
@@ -366,16 +366,16 @@ fn put_over_first(pairs: &mut Vec<(Key, u32)>, living: &Living, pair: (Key, u32)
 /// Gives a pair that doesn't count to each slot below this one that comes after all pairs. So the
 /// next births in these slots move nothing, whatever their order. It doesn't allocate.
 #[inline(never)]
-fn fill_up(pairs: &mut Vec<(Key, u32)>, living: &Living, slot: u32)
+fn fill_up(pairs: &mut Vec<(Key, u32)>, rows: &Rows, slot: u32)
     requires { T (map.is_sorted handle_cmp pairs.old.items) }
     ensures sorted { T (map.is_sorted handle_cmp pairs.new.items) }
-    ensures kept { HasAll (counted living.now.entities (map.from_sorted pairs.old.items))
+    ensures kept { HasAll (counted rows.now.places (map.from_sorted pairs.old.items))
         (map.from_sorted pairs.new.items) }
     ensures capacity { vec_capacity pairs.new ≡ vec_capacity pairs.old }
 {
     for index in pairs.len()..slot as usize {
         if let Some(first) = Handle::new(index as u32, 1) {
-            let _ = put_behind(pairs, living, (Key::of(first), NOWHERE));
+            let _ = put_behind(pairs, rows, (Key::of(first), NOWHERE));
         }
     }
 }
@@ -385,38 +385,33 @@ fn fill_up(pairs: &mut Vec<(Key, u32)>, living: &Living, slot: u32)
 #[inline(always)]
 fn put_found(
     pairs: &mut Vec<(Key, u32)>,
-    living: &Living,
+    rows: &Rows,
     found: Result<usize, usize>,
     pair: (Key, u32),
 )
     requires sorted { T (map.is_sorted handle_cmp pairs.old.items) }
     requires found { IfOk found (IsAt handle_cmp pairs.old.items pair.0) }
     requires absent { IfErr found (IsGapFor handle_cmp pairs.old.items pair.0) }
-    requires room { length living.now.entities < vec_capacity pairs.old }
+    requires room { length rows.now.places < vec_capacity pairs.old }
     ensures sorted { T (map.is_sorted handle_cmp pairs.new.items) }
     ensures placed { map.get (map.from_sorted {R = handle_cmp} pairs.new.items) pair.0
         ≡ Some pair.1 }
-    ensures kept { Keeps pair.0 (counted living.now.entities (map.from_sorted pairs.old.items))
+    ensures kept { Keeps pair.0 (counted rows.now.places (map.from_sorted pairs.old.items))
         (map.from_sorted pairs.new.items) }
     ensures capacity { vec_capacity pairs.new ≡ vec_capacity pairs.old }
 {
     if found.is_ok() || pairs.len() < pairs.capacity() {
-        put_at(pairs, living, found, pair);
+        put_at(pairs, rows, found, pair);
     } else {
-        sweep(pairs, living);
+        sweep(pairs, rows);
         let swept = search_slot(pairs, pair.0.handle());
-        put_at(pairs, living, swept, pair);
+        put_at(pairs, rows, swept, pair);
     }
 }
 
 /// Puts a pair where its handle was found, or into the gap for it, where there is room.
 #[inline(always)]
-fn put_at(
-    pairs: &mut Vec<(Key, u32)>,
-    living: &Living,
-    found: Result<usize, usize>,
-    pair: (Key, u32),
-)
+fn put_at(pairs: &mut Vec<(Key, u32)>, rows: &Rows, found: Result<usize, usize>, pair: (Key, u32))
     requires sorted { T (map.is_sorted handle_cmp pairs.old.items) }
     requires found { IfOk found (IsAt handle_cmp pairs.old.items pair.0) }
     requires absent { IfErr found (IsGapFor handle_cmp pairs.old.items pair.0) }
@@ -424,31 +419,31 @@ fn put_at(
     ensures sorted { T (map.is_sorted handle_cmp pairs.new.items) }
     ensures placed { map.get (map.from_sorted {R = handle_cmp} pairs.new.items) pair.0
         ≡ Some pair.1 }
-    ensures kept { Keeps pair.0 (counted living.now.entities (map.from_sorted pairs.old.items))
+    ensures kept { Keeps pair.0 (counted rows.now.places (map.from_sorted pairs.old.items))
         (map.from_sorted pairs.new.items) }
     ensures capacity { vec_capacity pairs.new ≡ vec_capacity pairs.old }
 {
     match found {
         Ok(position) => pairs[position] = pair,
-        Err(position) => put_in_gap(pairs, living, position, pair),
+        Err(position) => put_in_gap(pairs, rows, position, pair),
     }
 }
 
 /// Puts a pair into the gap for it: over a pair beside the gap that doesn't count, or between the
 /// two.
 #[inline(always)]
-fn put_in_gap(pairs: &mut Vec<(Key, u32)>, living: &Living, position: usize, pair: (Key, u32))
+fn put_in_gap(pairs: &mut Vec<(Key, u32)>, rows: &Rows, position: usize, pair: (Key, u32))
     requires sorted { T (map.is_sorted handle_cmp pairs.old.items) }
     requires gap { IsGapFor handle_cmp pairs.old.items pair.0 position }
     requires room { vec_len pairs.old < vec_capacity pairs.old }
     ensures sorted { T (map.is_sorted handle_cmp pairs.new.items) }
     ensures placed { map.get (map.from_sorted {R = handle_cmp} pairs.new.items) pair.0
         ≡ Some pair.1 }
-    ensures kept { Keeps pair.0 (counted living.now.entities (map.from_sorted pairs.old.items))
+    ensures kept { Keeps pair.0 (counted rows.now.places (map.from_sorted pairs.old.items))
         (map.from_sorted pairs.new.items) }
     ensures capacity { vec_capacity pairs.new ≡ vec_capacity pairs.old }
 {
-    match taken_over(pairs, living, position, pair.0.handle()) {
+    match taken_over(pairs, rows, position, pair.0.handle()) {
         Some(other) => pairs[other] = pair,
         None if position == pairs.len() => pairs.push_reserved(pair),
         None => {
@@ -463,29 +458,24 @@ fn put_in_gap(pairs: &mut Vec<(Key, u32)>, living: &Living, position: usize, pai
 /// The pair of the same slot comes first, so that the slots' pairs stay at their numbers. At the
 /// end a new pair moves nothing, so it takes over no other slot's.
 #[inline(always)]
-fn taken_over(
-    pairs: &[(Key, u32)],
-    living: &Living,
-    position: usize,
-    handle: Handle,
-) -> Option<usize>
+fn taken_over(pairs: &[(Key, u32)], rows: &Rows, position: usize, handle: Handle) -> Option<usize>
     ensures beside { IfSome result (λ other. (other ≤ position) × (position ≤ other + 1)) }
-    ensures free { IfSome result (λ other. IsFree living.now.entities pairs.now other) }
+    ensures free { IfSome result (λ other. IsFree rows.now.places pairs.now other) }
 {
     let before = position.saturating_sub(1);
-    if is_own(pairs, living, before, handle) {
+    if is_own(pairs, rows, before, handle) {
         return Some(before);
     }
     if position == pairs.len() {
         return None;
     }
-    if is_own(pairs, living, position, handle) {
+    if is_own(pairs, rows, position, handle) {
         return Some(position);
     }
-    if is_free(pairs, living, before) {
+    if is_free(pairs, rows, before) {
         return Some(before);
     }
-    if is_free(pairs, living, position) {
+    if is_free(pairs, rows, position) {
         Some(position)
     } else {
         None
@@ -494,21 +484,21 @@ fn taken_over(
 
 /// Whether there is a pair of the handle's slot that doesn't count. The slot is compared first, so
 /// that no entity of another slot is looked at.
-fn is_own(pairs: &[(Key, u32)], living: &Living, position: usize, handle: Handle) -> bool
-    ensures { IsTrue result → IsFree living.now.entities pairs.now position }
+fn is_own(pairs: &[(Key, u32)], rows: &Rows, position: usize, handle: Handle) -> bool
+    ensures { IsTrue result → IsFree rows.now.places pairs.now position }
 {
     position < pairs.len()
         && pairs[position].0.index() == handle.index()
-        && is_free(pairs, living, position)
+        && is_free(pairs, rows, position)
 }
 
 /// Whether there is a pair that doesn't count.
-fn is_free(pairs: &[(Key, u32)], living: &Living, position: usize) -> bool
-    ensures { IsTrue result → IsFree living.now.entities pairs.now position }
+fn is_free(pairs: &[(Key, u32)], rows: &Rows, position: usize) -> bool
+    ensures { IsTrue result → IsFree rows.now.places pairs.now position }
 {
     if position >= pairs.len() {
         return false;
     }
     let (key, place) = pairs[position];
-    !has_key_at(living, key, place as usize)
+    !rows.has_key_at(key, place as usize)
 }

@@ -1,14 +1,13 @@
-ghost use Rattle.std.specs.Prelude.{◌≡◌, ◌≢◌, ◌+◌, ◌<◌, ◌==◌, ◌≤◌, ◌⊎◌, ℕ, ℤ, List, [], ◌∷◌, ◌++◌};
+ghost use Rattle.std.specs.Prelude.{◌≡◌, ◌≢◌, ◌+◌, ◌<◌, ◌==◌, ◌≤◌, ◌⊎◌, ℕ, ℤ, [], ◌∷◌, ◌++◌};
 ghost use Rattle.std.specs.Prelude.{length, map};
-ghost use Rattle.std.specs.Prelude.{IsOk, IfOk, OnOk, OnErr, IsTrue, None, Some, Contains};
-ghost use Rattle.std.specs.Prelude.{slice_get};
+ghost use Rattle.std.specs.Prelude.{IsOk, IfOk, OnOk, OnErr, None, Some, Contains};
 ghost use Rattle.std.specs.List.{All, HoldsAt, AllPairs};
 ghost use Rattle.std.specs.FinMap as finite;
 ghost use Rattle.ent_handle.specs.declared.component.ComponentId.{ComponentId as Component};
 ghost use Rattle.ent_storage.specs.Components.{with_items, missing};
 ghost use Rattle.ent_storage.specs.Living.{born_at, change_at, with_birth_at, IsMovedInto};
 ghost use Rattle.ent_storage.specs.Living.{IsValueAt};
-ghost use Rattle.ent_storage.specs.Indexed.{has_handle_at};
+ghost use Rattle.ent_storage.specs.Indexed.{handles_by_place, has_handle_at};
 ghost use Rattle.ent_storage.specs.BirthOrder.{IsInOrder, IsLeastOf};
 
 use super::columns;
@@ -308,7 +307,8 @@ impl Living {
 
 /// Returns `true` if the entity at the place has the handle of that key.
 pub fn has_key_at(living: &Living, key: Key, place: usize) -> bool
-    ensures { result ≡ has_handle_at living.now.entities key (Some place) }
+    ensures { result
+        ≡ has_handle_at (handles_by_place living.now.entities) key (Some place) }
 {
     match living.residents.get(place) {
         Some(entity) => key.is_of(entity.handle),

@@ -10,12 +10,11 @@ ghost use Rattle.std.specs.Option.{option_map};
 ghost use Rattle.std.specs.FinMap as map;
 ghost use Rattle.ent_storage.specs.EntityMap.{birth_of, components_of, value_of};
 ghost use Rattle.ent_storage.specs.EntityMap.{value_at_place};
-ghost use Rattle.ent_storage.specs.Image.{is_held, width};
+ghost use Rattle.ent_storage.specs.Image.{width};
 ghost use Rattle.std.specs.List.{AllPairs};
 ghost use Rattle.ent_storage.specs.BirthOrder.{ListsAll, ListsWith};
 
 use crate::items::Items;
-use crate::order::handles_in_order;
 use crate::storage::Storage;
 use ent_handle::{Birth, ComponentId, Handle, Memory};
 
@@ -55,7 +54,7 @@ impl Storage {
         ensures { result ≡ birth_of self.now.entities handle }
     {
         let place = self.place(handle)?;
-        Some(self.living.birth(place))
+        Some(self.rows.birth_at(place, handle))
     }
 
     /// Returns the value of the entity's component, if the storage has the entity and the entity
@@ -79,7 +78,7 @@ impl Storage {
         ensures { result ≡ value_of self.now.entities handle id }
     {
         let place = self.place(handle)?;
-        self.get_at(place, handle, id)
+        self.rows.get_at(place, handle, id)
     }
 
     /// Returns the entity's components and their values, in ascending order of number, if the
@@ -101,7 +100,7 @@ impl Storage {
         ensures { result ≡ option_map map.entries (components_of self.now.entities handle) }
     {
         let place = self.place(handle)?;
-        Some(self.items_at(place, handle))
+        Some(self.rows.items_at(place, handle))
     }
 
     /// Returns the place of the entity in the vector of entities, if the storage has it. The place
@@ -126,26 +125,7 @@ impl Storage {
         ensures at { (i : ℕ) → (result ≡ Some i) ↔ (slice_get self.now.places i ≡ Some handle) }
         ensures there { is_some result ≡ map.contains_key self.now.entities handle }
     {
-        self.index.place(&self.living, handle)
-    }
-
-    /// The value of a component of the entity at this place, which has to be that of the handle
-    /// (`place`). It takes constant time.
-    #[inline(always)]
-    fn get_at(&self, place: usize, handle: Handle, id: ComponentId) -> Option<i64>
-        requires { slice_get self.now.places place ≡ Some handle }
-        ensures { result ≡ value_of self.now.entities handle id }
-    {
-        self.living.value(place, id)
-    }
-
-    /// The components and their values, in ascending order of number, of the entity at this place,
-    /// which has to be that of the handle.
-    fn items_at(&self, place: usize, handle: Handle) -> Items<'_>
-        requires { slice_get self.now.places place ≡ Some handle }
-        ensures { option_map map.entries (components_of self.now.entities handle) ≡ Some result }
-    {
-        self.living.items(place)
+        self.index.place(&self.rows, handle)
     }
 
     /// Returns the handles of all entities, ordered by birth and then by handle. It takes the time
@@ -169,7 +149,7 @@ impl Storage {
         ensures ok { IfOk result (λ handles. ListsAll self.now.entities handles.items) }
         ensures memory { OnErr result (self.now.entities ≢ map.empty) }
     {
-        Ok(self.living.by_birth(self.alloc)?)
+        self.rows.by_birth()
     }
 
     /// Returns the handle of the entity with that birth, if there is one. If several entities have
@@ -198,7 +178,7 @@ impl Storage {
         ensures none { IfNone result ((handle : Handle)
             → birth_of self.now.entities handle ≢ Some birth) }
     {
-        self.living.of_birth(birth)
+        self.rows.of_birth(birth)
     }
 
     /// Returns the place and the value of each entity that has the component, in no particular
@@ -224,7 +204,7 @@ impl Storage {
             ↔ (value_at_place self.now place id ≡ Some value) }
         ensures once { AllPairs (λ a b. a.0 ≢ b.0) result.now }
     {
-        self.living.pairs(id)
+        self.rows.dense(id)
     }
 
     /// Returns the handles of the entities that have the component, ordered by birth and then by
@@ -253,15 +233,7 @@ impl Storage {
         ensures memory { OnErr result
             ((handle : Handle) × IsSome (value_of self.now.entities handle id)) }
     {
-        let births = self.living.births_at(self.alloc, self.living.pairs(id))?;
-        Ok(handles_in_order(self.alloc, births)?)
-    }
-
-    /// Whether any entity has the component.
-    fn is_held(&self, id: ComponentId) -> bool
-        ensures { result ≡ is_held self.now.entities self.now.places id.0 }
-    {
-        !self.dense(id).is_empty()
+        self.rows.with(id)
     }
 
     /// Returns the number of components up to the last one that any entity has.
@@ -283,14 +255,6 @@ impl Storage {
         ensures within { (h : Handle) (id : Component) (v : ℤ)
             → value_of self.now.entities h id ≡ Some v → id.0 < result }
     {
-        // Each component has a column, and there are no more than 256.
-        prove_eq!(self.living.beyond(), 0);
-        let mut width = 0;
-        for number in 0..256 {
-            if self.is_held(ComponentId(number as u8)) {
-                width = number + 1;
-            }
-        }
-        width
+        self.rows.width()
     }
 }

@@ -11,10 +11,12 @@ ghost use Rattle.ent_storage.specs.BirthOrder.{ListsAll, ListsWith};
 ghost use Rattle.ent_storage.specs.Components.{with_items, missing};
 ghost use Rattle.ent_storage.specs.EntityMap.{newborn, birth_of, components_of, value_of, AreBare};
 ghost use Rattle.ent_storage.specs.EntityMap.{value_at_place, with_components, with_birth};
+ghost use Rattle.ent_storage.specs.Indexed.{has_handle_at};
 ghost use Rattle.ent_storage.specs.Places.{AreWithout};
 
 use crate::items::Items;
-use crate::living::Living;
+use crate::key::Key;
+use crate::living::{Living, has_key_at};
 use crate::order::handles_in_order;
 use ent_handle::{Birth, ComponentId, Handle, Memory};
 use std::alloc::Global;
@@ -104,7 +106,25 @@ impl Rows {
             ⊎ ¬ (AreBare source.now.entities)) }
         ensures err { OnErr result (self.new ≡ record self.old { spare = self.new.spare }) }
     {
-        let count = source.living.capacity();
+        self.clone_within(source, source.capacity())
+    }
+
+    /// Does what `try_clone_from` does, with room for `count` entities in all.
+    ///
+    /// # Errors
+    ///
+    /// Out of memory for that room, or for values of components.
+    pub(crate) fn clone_within(&mut self, source: &Rows, count: usize) -> Result<(), Memory>
+        requires { length source.now.places ≤ count }
+        ensures entities { OnOk result (self.new.entities ≡ source.now.entities) }
+        ensures places { OnOk result (self.new.places ≡ source.now.places) }
+        ensures ok { OnOk result (count ≤ length self.new.places + self.new.spare) }
+        ensures room { length self.old.places + self.old.spare
+            ≤ length self.new.places + self.new.spare }
+        ensures memory { OnErr result ((length self.old.places + self.old.spare < count)
+            ⊎ ¬ (AreBare source.now.entities)) }
+        ensures err { OnErr result (self.new ≡ record self.old { spare = self.new.spare }) }
+    {
         self.living.try_clone_from(&source.living, count)?;
         Ok(())
     }
@@ -129,6 +149,13 @@ impl Rows {
         ensures { result ≡ self.now.spare }
     {
         self.living.capacity() - self.living.len()
+    }
+
+    /// For how many entities there is room in all.
+    pub(crate) fn capacity(&self) -> usize
+        ensures { result ≡ length self.now.places + self.now.spare }
+    {
+        self.living.capacity()
     }
 
     /// Makes room for `additional` more entities. If there is enough room already, it doesn't
@@ -312,6 +339,13 @@ impl Rows {
         ensures memory { OnErr result (self.now.entities ≢ map.empty) }
     {
         Ok(self.living.by_birth(self.alloc)?)
+    }
+
+    /// Whether the handle of that key is at the place.
+    pub(crate) fn has_key_at(&self, key: Key, place: usize) -> bool
+        ensures { result ≡ has_handle_at self.now.places key (Some place) }
+    {
+        has_key_at(&self.living, key, place)
     }
 
     /// The handle of the entity with that birth, if there is one. If several entities have

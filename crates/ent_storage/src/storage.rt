@@ -6,12 +6,12 @@ ghost use Rattle.ent_handle.specs.Handle.{Handle};
 ghost use Rattle.std.specs.FinMap as map;
 ghost use Rattle.ent_storage.specs.Components.{with_items, missing};
 ghost use Rattle.ent_storage.specs.EntityMap.{newborn, components_of, value_of, AreBare};
-ghost use Rattle.ent_storage.specs.EntityMap.{with_components, with_birth};
+ghost use Rattle.ent_storage.specs.EntityMap.{with_components};
 ghost use Rattle.ent_storage.specs.Places.{AreWithout};
 
 use super::fault::StorageFault;
 use super::index::Index;
-use super::living::Living;
+use super::rows::Rows;
 use ent_handle::{Birth, ComponentId, Handle, Memory};
 use std::alloc::Global;
 use std::marker::Model;
@@ -47,9 +47,9 @@ use std::marker::Model;
 /// (`spare`).
 #[derive(Drop)]
 pub struct Storage {
-    pub(crate) living: Living,
+    pub(crate) rows: Rows,
     pub(crate) index: Index,
-    pub(crate) alloc: Global,
+    alloc: Global,
 }
 
 impl Model for Storage {
@@ -60,16 +60,15 @@ impl Model for Storage {
 
     ghost coded = { store_code };
 
-    ghost use Rattle.ent_storage.specs.Indexed.{map_of, handles_by_place, IsKeptIndex};
+    ghost use Rattle.ent_storage.specs.Indexed.{IsKeptIndex};
 
     ghost view = { λ a. record {
-      entities = map_of a.living.entities;
-      places = handles_by_place a.living.entities;
-      spare = min a.living.room a.index.room - length a.living.entities;
+      entities = a.rows.entities;
+      places = a.rows.places;
+      spare = min a.rows.spare (a.index.room - length a.rows.places);
     } };
 
-    ghost invariant = { λ a. IsKeptIndex a.living.entities a.index.by_handle
-        (min a.living.room a.index.room) };
+    ghost invariant = { λ a. IsKeptIndex a.rows a.index.by_handle a.index.room };
 }
 
 impl Storage {
@@ -91,7 +90,7 @@ impl Storage {
         ensures places { result.places ≡ [] }
     {
         Storage {
-            living: Living::new(alloc),
+            rows: Rows::new(alloc),
             index: Index::new(alloc),
             alloc,
         }
@@ -124,11 +123,11 @@ impl Storage {
         ensures spare { IfOk result (λ copy. self.now.spare ≤ copy.spare) }
         ensures memory { OnErr result (0 < length self.now.places + self.now.spare) }
     {
-        if self.living.is_empty() && self.spare() == 0 {
+        if self.is_empty() && self.spare() == 0 {
             return Ok(Storage::new(self.alloc));
         }
         Ok(Storage {
-            living: self.living.try_clone()?,
+            rows: self.rows.try_clone()?,
             index: self.index.try_clone(self.alloc)?,
             alloc: self.alloc,
         })
@@ -176,10 +175,10 @@ impl Storage {
             ⊎ ¬ (AreBare source.now.entities)) }
         ensures err { OnErr result (self.new ≡ record self.old { spare = self.new.spare }) }
     {
-        let count = source.living.capacity().min(source.index.room());
+        let count = source.rows.capacity().min(source.index.room());
         self.index.reserve_or_more(count, source.index.room())?;
-        self.living.try_clone_from(&source.living, count)?;
-        self.index.take_over(&source.index, &self.living);
+        self.rows.clone_within(&source.rows, count)?;
+        self.index.take_over(&source.index, &self.rows);
         Ok(())
     }
 
@@ -201,7 +200,7 @@ impl Storage {
         ensures value { result ≡ map.len self.now.entities }
         ensures places { result ≡ length self.now.places }
     {
-        self.living.len()
+        self.rows.len()
     }
 
     /// Returns `true` if there are no entities.
@@ -219,7 +218,7 @@ impl Storage {
     pub fn is_empty(&self) -> bool
         ensures { IsTrue result ↔ (self.now.entities ≡ map.empty) }
     {
-        self.living.is_empty()
+        self.rows.is_empty()
     }
 
     /// Returns the number of further entities that there is room for.
@@ -244,8 +243,7 @@ impl Storage {
     pub fn spare(&self) -> usize
         ensures { result ≡ self.now.spare }
     {
-        let room = self.living.capacity().min(self.index.room());
-        room - self.living.len()
+        self.rows.spare().min(self.index.room() - self.rows.len())
     }
 
     /// Whether there is room for one more entity.
@@ -253,8 +251,7 @@ impl Storage {
     fn has_spare(&self) -> bool
         ensures { IsTrue result ↔ (0 < self.now.spare) }
     {
-        let len = self.living.len();
-        len < self.living.capacity() && len < self.index.room()
+        self.rows.spare() > 0 && self.rows.len() < self.index.room()
     }
 
     /// Makes room for `additional` more entities, so that `born` doesn't allocate for them. If
@@ -288,11 +285,11 @@ impl Storage {
         if additional <= self.spare() {
             return Ok(());
         }
-        self.living.reserve(additional)?;
+        self.rows.reserve(additional)?;
         // With twice the room, the index drops handles that are gone half of its length at a time.
-        let twice = self.living.capacity().saturating_mul(2);
+        let twice = self.rows.capacity().saturating_mul(2);
         if self.index.reserve(twice).is_err() {
-            self.index.reserve(self.living.len() + additional)?;
+            self.index.reserve(self.rows.len() + additional)?;
         }
         Ok(())
     }
@@ -402,8 +399,8 @@ impl Storage {
         ensures only_present { IfErr result (λ fault. fault ≡ StorageFault.Present) }
         ensures err { OnErr result (self.new ≡ self.old) }
     {
-        if self.index.put(&self.living, handle) {
-            self.living.push(handle, birth);
+        if self.index.put(&self.rows, handle) {
+            self.rows.push(handle, birth);
             Ok(())
         } else {
             Err(StorageFault::Present)
@@ -447,43 +444,12 @@ impl Storage {
         let Some(place) = self.place(handle) else {
             return Err(StorageFault::Absent);
         };
-        let _ = self.despawn_at(place, handle);
-        self.forget(handle);
-        Ok(())
-    }
-
-    /// Lets the index forget an entity that has gone, so that the next birth in its slot looks at
-    /// no entity.
-    #[inline(always)]
-    fn forget(&mut self, handle: Handle)
-        requires { map.get self.old.entities handle ≡ None }
-        ensures { self.new ≡ self.old }
-    {
-        self.index.forget(handle);
-    }
-
-    /// Takes out the entity at this place, which has to be that of the handle. Returns the handle
-    /// of the entity that has moved into the place, which was the last one; `None` if the entity
-    /// was the last one itself. It doesn't allocate, and raises `spare` by 1.
-    ///
-    /// The time is that of a look-up, for the entity that moves, and of a look at each component
-    /// that any entity has ever had.
-    #[inline(always)]
-    fn despawn_at(&mut self, place: usize, handle: Handle) -> Option<Handle>
-        requires { slice_get self.old.places place ≡ Some handle }
-        ensures entities { self.new.entities ≡ map.remove self.old.entities handle }
-        ensures spare { self.new.spare ≡ self.old.spare + 1 }
-        ensures places { AreWithout place self.old.places self.new.places }
-        ensures moved { result ≡ slice_get self.new.places place }
-    {
-        self.living.swap_remove(place);
-        if place < self.living.len() {
-            let moved = self.living.handle(place);
+        if let Some(moved) = self.rows.despawn_at(place, handle) {
             self.index.set_place(moved, place);
-            Some(moved)
-        } else {
-            None
         }
+        // So the next birth in its slot looks at no entity.
+        self.index.forget(handle);
+        Ok(())
     }
 
     /// Sets each of the components, and leaves the entity's others as they are. The list may be in
@@ -531,39 +497,7 @@ impl Storage {
         let Some(place) = self.place(handle) else {
             return Err(StorageFault::Absent);
         };
-        self.insert_at(place, handle, items)?;
-        Ok(())
-    }
-
-    /// Sets each of these components of the entity at this place, and leaves its others as they
-    /// are. The place has to be that of the handle. If a component is in the list twice, its last
-    /// value counts.
-    ///
-    /// It takes memory only for components that the entity does not have yet. The index is not
-    /// searched.
-    ///
-    /// # Errors
-    ///
-    /// Out of memory for the components that the entity does not have yet. Nothing has changed.
-    #[inline(always)]
-    fn insert_at(
-        &mut self,
-        place: usize,
-        handle: Handle,
-        items: &[(ComponentId, i64)],
-    ) -> Result<(), Memory>
-        requires { slice_get self.old.places place ≡ Some handle }
-        ensures ok { OnOk result (self.new.entities
-            ≡ with_components self.old.entities handle (λ held. with_items held items.now)) }
-        ensures spare { self.new.spare ≡ self.old.spare }
-        ensures places { self.new.places ≡ self.old.places }
-
-        ensures memory_to_grow { OnErr result
-            (IfSome (components_of self.old.entities handle)
-            (λ held. 0 < missing held items.now)) }
-        ensures err { OnErr result (self.new ≡ self.old) }
-    {
-        self.living.insert(place, items)?;
+        self.rows.insert_at(place, handle, items)?;
         Ok(())
     }
 
@@ -602,21 +536,6 @@ impl Storage {
         let Some(place) = self.place(handle) else {
             return Err(StorageFault::Absent);
         };
-        Ok(self.remove_at(place, handle, id))
-    }
-
-    /// Takes the component out of the entity at this place, which has to be that of the handle.
-    /// Returns the value that it had, or `None` if the entity does not have it. It takes constant
-    /// time and doesn't allocate.
-    #[inline(always)]
-    fn remove_at(&mut self, place: usize, handle: Handle, id: ComponentId) -> Option<i64>
-        requires { slice_get self.old.places place ≡ Some handle }
-        ensures value { result ≡ value_of self.old.entities handle id }
-        ensures entities { self.new.entities
-            ≡ with_components self.old.entities handle (λ held. map.remove held id) }
-        ensures spare { self.new.spare ≡ self.old.spare }
-        ensures places { self.new.places ≡ self.old.places }
-    {
-        self.living.remove(place, id)
+        Ok(self.rows.remove_at(place, handle, id))
     }
 }

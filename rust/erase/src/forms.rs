@@ -217,7 +217,7 @@ pub const OWN_CALLS: &[(&str, &[&str])] = &[
     ("lines", &["checking"]),
     ("read", &["applying"]),
     ("replace", &["calls"]),
-    ("width", &["storage"]),
+    ("width", &["rows", "storage"]),
     ("write", &["self"]),
 ];
 

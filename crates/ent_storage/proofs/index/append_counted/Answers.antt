@@ -11,7 +11,7 @@ pub push_reserved-requires : goal.push_reserved-requires
 push_reserved-requires c =
     let source = c.args.source.now in
     let i = c.loop-pair.pair-index in
-    let test = counts c.args.living.now.entities in
+    let test = counts c.args.rows.now.places in
     let inside : i < length source = omega (arith, c.loop-pair-test.true) in
     let counted : test (get_or source i c.pair-item.result) ≡ true =
     search (rules, c.has_key_at.ensures, c.if-has_key_at.true, c.pair-item.is) in
@@ -21,16 +21,16 @@ push_reserved-requires c =
       arith,
       more,
       first_fit test source (i + 1),
-      left_fits c.args.living.now.entities source c.requires.sorted,
+      left_fits c.args.rows.now.places source c.requires.sorted,
       ap length c.loop-pair.invariant.items,
     )
 
 -- all pairs were passed
 pub returns-clause-sorted : goal.returns-clause-sorted
 returns-clause-sorted c =
-    let whole = c.loop-pair.invariant.items ∙ ap (filter (counts c.args.living.now.entities))
+    let whole = c.loop-pair.invariant.items ∙ ap (filter (counts c.args.rows.now.places))
     (take_all c.loop-pair.pair-index c.args.source.now (omega (arith, c.loop-pair-test.false))) in
-    rw whole (is_sorted-filter total same (counts c.args.living.now.entities) _ c.requires.sorted)
+    rw whole (is_sorted-filter total same (counts c.args.rows.now.places) _ c.requires.sorted)
 
 pub returns-clause-counted : goal.returns-clause-counted
 returns-clause-counted c =

@@ -5,6 +5,6 @@ use Rattle.ent_storage.proofs.index.append_counted.Given as goal
 -- the pairs that were passed and count
 abbrev pub invariant-loop-pair : goal.invariant-loop-pair
 invariant-loop-pair l = record {
-  items : l.pairs.items ≡ filter (counts l.living.entities) (take l.pair-index l.source);
+  items : l.pairs.items ≡ filter (counts l.rows.places) (take l.pair-index l.source);
   capacity : vec_capacity l.pairs ≡ vec_capacity l.initial.pairs;
 }

@@ -15,7 +15,7 @@ loop-index-preserved c = elim c.match-new.branch [
   | in-Some w ↦
       let e = w.put_behind.ensures in
       let kept :
-      HasAll (counted c.args.living.now.entities (fin_from_sorted c.args.pairs.now.items))
+      HasAll (counted c.args.rows.now.places (fin_from_sorted c.args.pairs.now.items))
       (fin_from_sorted w.put_behind.new.pairs.items) =
       all_after _ _ _ _ _ w.put_behind.result c.loop-index.invariant.kept e.new e.kept e.refused in
       rw (w.pairs-is) (record {

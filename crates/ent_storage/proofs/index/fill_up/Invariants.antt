@@ -6,7 +6,7 @@ use Rattle.ent_storage.proofs.index.fill_up.Given as goal
 abbrev pub invariant-loop-index : goal.invariant-loop-index
 invariant-loop-index l = record {
   sorted : T (is_sorted handle_cmp l.pairs.items);
-  kept : HasAll (counted l.living.entities (fin_from_sorted l.initial.pairs.items))
+  kept : HasAll (counted l.rows.places (fin_from_sorted l.initial.pairs.items))
       (fin_from_sorted l.pairs.items);
   capacity : vec_capacity l.pairs ≡ vec_capacity l.initial.pairs;
 }

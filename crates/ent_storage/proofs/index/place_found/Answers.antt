@@ -15,10 +15,10 @@ pub returns-then-has_key_at : goal.returns-then-has_key_at
 returns-then-has_key_at c =
     let at = rw c.in-Ok.is at c.requires.found in
     let read = get_at total same _ c.requires.sorted _ _ c.index-pairs-position.result at in
-    search (rules, counted_has c.args.living.now.entities _ c.args.handle _ read)
+    search (rules, counted_has c.args.rows.now.places _ c.args.handle _ read)
 
 pub returns-else-has_key_at : goal.returns-else-has_key_at
 returns-else-has_key_at c =
     let at = rw c.in-Ok.is at c.requires.found in
     let read = get_at total same _ c.requires.sorted _ _ c.index-pairs-position.result at in
-    search (rules, counted_not c.args.living.now.entities _ c.args.handle _ read)
+    search (rules, counted_not c.args.rows.now.places _ c.args.handle _ read)

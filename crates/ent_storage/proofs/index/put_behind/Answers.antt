@@ -16,9 +16,9 @@ module _ (c : goal.After-push_reserved) where
 pub returns-then-is_gap : goal.returns-then-is_gap
 returns-then-is_gap c =
     let new =
-    counted_none c.args.living.now.entities _ _
+    counted_none c.args.rows.now.places _ _
     (get_in_gap total same _ c.requires _ _ (gap c)) in
     let put =
     rw (end c) at
-    (put_between c.args.living.now.entities _ c.requires _ c.args.pair.1 _ (gap c)) in
+    (put_between c.args.rows.now.places _ c.requires _ c.args.pair.1 _ (gap c)) in
     search (rules, new, put)

@@ -5,11 +5,11 @@ use Rattle.ent_storage.proofs.index.put_in_gap.Goals as goal
 -- over a pair beside the gap: those before it are smaller, and those after it are greater
 pub returns-in-Some : goal.returns-in-Some
 returns-in-Some c =
-    let free : IsFree c.args.living.now.entities c.args.pairs.now.items c.in-Some.other =
+    let free : IsFree c.args.rows.now.places c.args.pairs.now.items c.in-Some.other =
     rw c.deref.ensures.value at
     c.in-Some.ensures.free in
     let put =
-    put_over c.args.living.now.entities c.args.pairs.now.items c.requires.sorted c.args.pair.0
+    put_over c.args.rows.now.places c.args.pairs.now.items c.requires.sorted c.args.pair.0
     c.args.pair.1
     c.in-Some.other (search rules) (search rules) free in
     search (rules, put)
@@ -21,7 +21,7 @@ returns-in-None c =
     ≡ c.push_reserved.new.self.items = search (rules, insert_end) in
     let put =
     rw end at
-    (put_between c.args.living.now.entities c.args.pairs.now.items c.requires.sorted
+    (put_between c.args.rows.now.places c.args.pairs.now.items c.requires.sorted
     c.args.pair.0
     c.args.pair.1 c.args.position c.requires.gap) in
     search (rules, put)
@@ -31,7 +31,7 @@ pub returns-in-None-2 : goal.returns-in-None-2
 returns-in-None-2 c =
     let ok = c.insert.ensures.succeeds c.requires.room in
     let put =
-    put_between c.args.living.now.entities c.args.pairs.now.items c.requires.sorted
+    put_between c.args.rows.now.places c.args.pairs.now.items c.requires.sorted
     c.args.pair.0
     c.args.pair.1 c.args.position c.requires.gap in
     search (rules, put, c.insert.ensures.items, ok)

@@ -6,10 +6,10 @@ module _ (c : goal.After-pairs-1) where
   at : IsAt handle_cmp c.args.pairs.now.items c.args.pair.0 c.in-Some.position
   at = rw (c.deref.ensures.value, c.handle.ensures) at c.in-Some.ensures
 
-  free : IsFree c.args.living.now.entities c.args.pairs.now.items c.in-Some.position
+  free : IsFree c.args.rows.now.places c.args.pairs.now.items c.in-Some.position
   free = rw c.deref-2.ensures.value at c.is_free.ensures c.if-is_free.true
 
-  put : IsPut c.args.living.now.entities c.args.pairs.now.items
+  put : IsPut c.args.rows.now.places c.args.pairs.now.items
       (set c.args.pairs.now.items c.in-Some.position (c.args.pair.0, c.args.pair.1)) c.args.pair.0
       c.args.pair.1
   put = put_same _ _ c.requires _ _ _ at

@@ -9,10 +9,10 @@ module _ (c : goal.After-pairs-1) where
       rw (c.deref-then-is_own.ensures.value, c.handle-then-is_own.ensures) at c.is_gap.ensures
       c.if-is_gap.true
 
-  free : IsFree c.args.living.now.entities c.args.pairs.now.items c.index-slot.result
+  free : IsFree c.args.rows.now.places c.args.pairs.now.items c.index-slot.result
   free = rw c.deref.ensures.value at c.is_own.ensures c.if-is_own.true
 
-  put : IsPut c.args.living.now.entities c.args.pairs.now.items
+  put : IsPut c.args.rows.now.places c.args.pairs.now.items
       (set c.args.pairs.now.items c.index-slot.result (c.args.pair.0, c.args.pair.1)) c.args.pair.0
       c.args.pair.1
   put =

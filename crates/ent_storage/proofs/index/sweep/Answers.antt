@@ -6,21 +6,21 @@ use Rattle.ent_storage.proofs.index.sweep.Goals as goal
 
 -- what is left are the pairs that count
 left : (c : goal.After-retain) → c.retain.new.self.items
-    ≡ filter (counts c.args.living.now.entities) c.args.pairs.now.items
+    ≡ filter (counts c.args.rows.now.places) c.args.pairs.now.items
 left c = filter_same _ _ _ (λ x b f' k. search rules) _ _ c.retain.ensures.filtered
 
 pub returns-clause-sorted : goal.returns-clause-sorted
 returns-clause-sorted c =
-    rw (left c) (is_sorted-filter total same (counts c.args.living.now.entities) _ c.requires)
+    rw (left c) (is_sorted-filter total same (counts c.args.rows.now.places) _ c.requires)
 
 pub returns-clause-counted : goal.returns-clause-counted
-returns-clause-counted c = rw (left c) (from_sorted_left c.args.living.now.entities _ c.requires)
+returns-clause-counted c = rw (left c) (from_sorted_left c.args.rows.now.places _ c.requires)
 
 pub returns-clause-len : goal.returns-clause-len
 returns-clause-len c =
     omega (
       arith,
       ap length (left c),
-      left_fits c.args.living.now.entities c.args.pairs.now.items c.requires,
+      left_fits c.args.rows.now.places c.args.pairs.now.items c.requires,
       c.retain.new.self.ok.0,
     )

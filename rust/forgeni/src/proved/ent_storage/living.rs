@@ -356,7 +356,8 @@ impl Living {
 /// <details><summary>Contract</summary>
 ///
 /// <code style="display: block; tab-size: 4; white-space: pre-wrap">// In the words of [contracts](crate::contracts):
-/// ensures { result ≡ [has_handle_at](crate::contracts::ent_storage::indexed#has_handle_at) living.now.entities key ([Some](crate::contracts::logic#Some) place) }
+/// ensures { result
+/// &#9;≡ [has_handle_at](crate::contracts::ent_storage::indexed#has_handle_at) ([handles_by_place](crate::contracts::ent_storage::indexed#handles_by_place) living.now.entities) key ([Some](crate::contracts::logic#Some) place) }
 /// </code>
 ///
 /// </details>

@@ -3,9 +3,7 @@
 //! What a storage has: the look-ups, which change nothing.
 
 use alloc::vec::Vec;
-use crate::kit::prove_eq;
 use crate::components::items::Items;
-use crate::components::order::handles_in_order;
 use crate::components::storage::Storage;
 use crate::handles::{Birth, ComponentId, Handle, OutOfMemory};
 
@@ -39,7 +37,7 @@ impl Storage {
     #[inline]
     pub fn get(&self, handle: Handle, id: ComponentId) -> Option<i64> {
         let place = self.place(handle)?;
-        self.get_at(place, handle, id)
+        self.rows.get_at(place, handle, id)
     }
 
     /// Returns `true` if the storage has the entity.
@@ -91,7 +89,7 @@ impl Storage {
     #[inline]
     pub fn birth(&self, handle: Handle) -> Option<Birth> {
         let place = self.place(handle)?;
-        Some(self.living.birth(place))
+        Some(self.rows.birth_at(place, handle))
     }
 
     /// Returns the entity's components and their values, in ascending order of number, if the
@@ -120,7 +118,7 @@ impl Storage {
     #[inline]
     pub fn items(&self, handle: Handle) -> Option<Items<'_>> {
         let place = self.place(handle)?;
-        Some(self.items_at(place, handle))
+        Some(self.rows.items_at(place, handle))
     }
 
     /// Returns the place and the value of each entity that has the component, in no particular
@@ -153,7 +151,7 @@ impl Storage {
     #[must_use]
     #[inline]
     pub fn dense(&self, id: ComponentId) -> &[(usize, i64)] {
-        self.living.pairs(id)
+        self.rows.dense(id)
     }
 
     /// Returns the handles of the entities that have the component, ordered by birth and then by
@@ -189,8 +187,7 @@ impl Storage {
     /// </details>
     #[inline]
     pub fn with(&self, id: ComponentId) -> Result<Vec<Handle>, OutOfMemory> {
-        let births = self.living.births_at(self.living.pairs(id))?;
-        Ok(handles_in_order(births)?)
+        self.rows.with(id)
     }
 
     /// Returns the handles of all entities, ordered by birth and then by handle. It takes the time
@@ -221,7 +218,7 @@ impl Storage {
     /// </details>
     #[inline]
     pub fn by_birth(&self) -> Result<Vec<Handle>, OutOfMemory> {
-        Ok(self.living.by_birth()?)
+        self.rows.by_birth()
     }
 
     /// Returns the handle of the entity with that birth, if there is one. If several entities have
@@ -257,7 +254,7 @@ impl Storage {
     #[must_use]
     #[inline]
     pub fn of_birth(&self, birth: Birth) -> Option<Handle> {
-        self.living.of_birth(birth)
+        self.rows.of_birth(birth)
     }
 
     /// Returns the place of the entity in the vector of entities, if the storage has it. The place
@@ -288,39 +285,11 @@ impl Storage {
     #[must_use]
     #[inline(always)]
     pub fn place(&self, handle: Handle) -> Option<usize> {
-        self.index.place(&self.living, handle)
+        self.index.place(&self.rows, handle)
     }
 }
 
 impl Storage {
-    /// The value of a component of the entity at this place, which has to be that of the handle
-    /// (`place`). It takes constant time.
-    #[inline(always)]
-    fn get_at(&self, place: usize, handle: Handle, id: ComponentId) -> Option<i64>
-        // requires { slice_get self.now.places place ≡ Some handle }
-        // ensures { result ≡ value_of self.now.entities handle id }
-    {
-        self.living.value(place, id)
-    }
-
-    /// The components and their values, in ascending order of number, of the entity at this place,
-    /// which has to be that of the handle.
-    #[inline]
-    fn items_at(&self, place: usize, handle: Handle) -> Items<'_>
-        // requires { slice_get self.now.places place ≡ Some handle }
-        // ensures { option_map map.entries (components_of self.now.entities handle) ≡ Some result }
-    {
-        self.living.items(place)
-    }
-
-    /// Whether any entity has the component.
-    #[inline]
-    fn is_held(&self, id: ComponentId) -> bool
-        // ensures { result ≡ is_held self.now.entities self.now.places id.0 }
-    {
-        !self.dense(id).is_empty()
-    }
-
     /// Returns the number of components up to the last one that any entity has.
     ///
     /// ```
@@ -347,14 +316,6 @@ impl Storage {
     /// </details>
     #[inline]
     pub fn width(&self) -> u32 {
-        // Each component has a column, and there are no more than 256.
-        prove_eq!(self.living.beyond(), 0);
-        let mut width = 0;
-        for number in 0..256 {
-            if self.is_held(ComponentId(number as u8)) {
-                width = number + 1;
-            }
-        }
-        width
+        self.rows.width()
     }
 }

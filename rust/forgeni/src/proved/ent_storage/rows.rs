@@ -4,7 +4,8 @@
 
 use alloc::vec::Vec;
 use crate::components::items::Items;
-use crate::components::living::Living;
+use crate::components::key::Key;
+use crate::components::living::{Living, has_key_at};
 use crate::components::order::handles_in_order;
 use crate::handles::{Birth, ComponentId, Handle, OutOfMemory};
 
@@ -91,7 +92,26 @@ impl Rows {
     /// </details>
     #[inline]
     pub fn try_clone_from(&mut self, source: &Rows) -> Result<(), OutOfMemory> {
-        let count = source.living.capacity();
+        self.clone_within(source, source.capacity())
+    }
+
+    /// Does what `try_clone_from` does, with room for `count` entities in all.
+    ///
+    /// # Errors
+    ///
+    /// Out of memory for that room, or for values of components.
+    #[inline]
+    pub(super) fn clone_within(&mut self, source: &Rows, count: usize) -> Result<(), OutOfMemory>
+        // requires { length source.now.places ≤ count }
+        // ensures entities { OnOk result (self.new.entities ≡ source.now.entities) }
+        // ensures places { OnOk result (self.new.places ≡ source.now.places) }
+        // ensures ok { OnOk result (count ≤ length self.new.places + self.new.spare) }
+        // ensures room { length self.old.places + self.old.spare
+        //     ≤ length self.new.places + self.new.spare }
+        // ensures memory { OnErr result ((length self.old.places + self.old.spare < count)
+        //     ⊎ ¬ (AreBare source.now.entities)) }
+        // ensures err { OnErr result (self.new ≡ record self.old { spare = self.new.spare }) }
+    {
         self.living.try_clone_from(&source.living, count)?;
         Ok(())
     }
@@ -137,6 +157,14 @@ impl Rows {
     #[inline]
     pub fn spare(&self) -> usize {
         self.living.capacity() - self.living.len()
+    }
+
+    /// For how many entities there is room in all.
+    #[inline]
+    pub(super) fn capacity(&self) -> usize
+        // ensures { result ≡ length self.now.places + self.now.spare }
+    {
+        self.living.capacity()
     }
 
     /// Makes room for `additional` more entities. If there is enough room already, it doesn't
@@ -350,6 +378,14 @@ impl Rows {
     #[inline]
     pub fn by_birth(&self) -> Result<Vec<Handle>, OutOfMemory> {
         Ok(self.living.by_birth()?)
+    }
+
+    /// Whether the handle of that key is at the place.
+    #[inline]
+    pub(super) fn has_key_at(&self, key: Key, place: usize) -> bool
+        // ensures { result ≡ has_handle_at self.now.places key (Some place) }
+    {
+        has_key_at(&self.living, key, place)
     }
 
     /// The handle of the entity with that birth, if there is one. If several entities have

@@ -2,7 +2,7 @@
 
 use super::fault::StorageError;
 use super::index::Index;
-use super::living::Living;
+use super::rows::Rows;
 use crate::handles::{Birth, ComponentId, Handle, OutOfMemory};
 
 /// The births and components of living entities: for each handle its birth, and a value for each
@@ -35,7 +35,7 @@ use crate::handles::{Birth, ComponentId, Handle, OutOfMemory};
 /// each place of the vector of entities (`places`), and for how many more entities there is room
 /// (`spare`).
 pub struct Storage {
-    pub(super) living: Living,
+    pub(super) rows: Rows,
     pub(super) index: Index,
 }
 
@@ -66,7 +66,7 @@ impl Storage {
     #[inline]
     pub fn new() -> Self {
         Storage {
-            living: Living::new(),
+            rows: Rows::new(),
             index: Index::new(),
         }
     }
@@ -176,8 +176,11 @@ impl Storage {
         let Some(place) = self.place(handle) else {
             return Err(StorageError::Absent);
         };
-        let _ = self.despawn_at(place, handle);
-        self.forget(handle);
+        if let Some(moved) = self.rows.despawn_at(place, handle) {
+            self.index.set_place(moved, place);
+        }
+        // So the next birth in its slot looks at no entity.
+        self.index.forget(handle);
         Ok(())
     }
 
@@ -232,7 +235,7 @@ impl Storage {
         let Some(place) = self.place(handle) else {
             return Err(StorageError::Absent);
         };
-        self.insert_at(place, handle, items)?;
+        self.rows.insert_at(place, handle, items)?;
         Ok(())
     }
 
@@ -278,7 +281,7 @@ impl Storage {
         let Some(place) = self.place(handle) else {
             return Err(StorageError::Absent);
         };
-        Ok(self.remove_at(place, handle, id))
+        Ok(self.rows.remove_at(place, handle, id))
     }
 }
 
@@ -309,7 +312,7 @@ impl Storage {
     #[must_use]
     #[inline]
     pub fn len(&self) -> usize {
-        self.living.len()
+        self.rows.len()
     }
 
     /// Returns `true` if there are no entities.
@@ -334,7 +337,7 @@ impl Storage {
     #[must_use]
     #[inline]
     pub fn is_empty(&self) -> bool {
-        self.living.is_empty()
+        self.rows.is_empty()
     }
 
     /// Returns the number of further entities that there is room for.
@@ -366,8 +369,7 @@ impl Storage {
     #[must_use]
     #[inline]
     pub fn spare(&self) -> usize {
-        let room = self.living.capacity().min(self.index.room());
-        room - self.living.len()
+        self.rows.spare().min(self.index.room() - self.rows.len())
     }
 
     /// Makes room for `additional` more entities, so that `born` doesn't allocate for them. If
@@ -408,11 +410,11 @@ impl Storage {
         if additional <= self.spare() {
             return Ok(());
         }
-        self.living.reserve(additional)?;
+        self.rows.reserve(additional)?;
         // With twice the room, the index drops handles that are gone half of its length at a time.
-        let twice = self.living.capacity().saturating_mul(2);
+        let twice = self.rows.capacity().saturating_mul(2);
         if self.index.reserve(twice).is_err() {
-            self.index.reserve(self.living.len() + additional)?;
+            self.index.reserve(self.rows.len() + additional)?;
         }
         Ok(())
     }
@@ -495,11 +497,11 @@ impl Storage {
     /// </details>
     #[inline]
     pub fn try_clone(&self) -> Result<Self, OutOfMemory> {
-        if self.living.is_empty() && self.spare() == 0 {
+        if self.is_empty() && self.spare() == 0 {
             return Ok(Storage::new());
         }
         Ok(Storage {
-            living: self.living.try_clone()?,
+            rows: self.rows.try_clone()?,
             index: self.index.try_clone()?,
         })
     }
@@ -553,10 +555,10 @@ impl Storage {
     /// </details>
     #[inline]
     pub fn try_clone_from(&mut self, source: &Storage) -> Result<(), OutOfMemory> {
-        let count = source.living.capacity().min(source.index.room());
+        let count = source.rows.capacity().min(source.index.room());
         self.index.reserve_or_more(count, source.index.room())?;
-        self.living.try_clone_from(&source.living, count)?;
-        self.index.take_over(&source.index, &self.living);
+        self.rows.clone_within(&source.rows, count)?;
+        self.index.take_over(&source.index, &self.rows);
         Ok(())
     }
 }
@@ -567,8 +569,7 @@ impl Storage {
     fn has_spare(&self) -> bool
         // ensures { IsTrue result ↔ (0 < self.now.spare) }
     {
-        let len = self.living.len();
-        len < self.living.capacity() && len < self.index.room()
+        self.rows.spare() > 0 && self.rows.len() < self.index.room()
     }
 
     /// Does what [`Storage::born`] does, where there is room: a caller that adds many tests that
@@ -589,92 +590,11 @@ impl Storage {
         // ensures only_present { IfErr result (λ fault. fault ≡ StorageError.Present) }
         // ensures err { OnErr result (self.new ≡ self.old) }
     {
-        if self.index.put(&self.living, handle) {
-            self.living.push(handle, birth);
+        if self.index.put(&self.rows, handle) {
+            self.rows.push(handle, birth);
             Ok(())
         } else {
             Err(StorageError::Present)
         }
-    }
-
-    /// Lets the index forget an entity that has gone, so that the next birth in its slot looks at
-    /// no entity.
-    #[inline(always)]
-    fn forget(&mut self, handle: Handle)
-        // requires { map.get self.old.entities handle ≡ None }
-        // ensures { self.new ≡ self.old }
-    {
-        self.index.forget(handle);
-    }
-
-    /// Takes out the entity at this place, which has to be that of the handle. Returns the handle
-    /// of the entity that has moved into the place, which was the last one; `None` if the entity
-    /// was the last one itself. It doesn't allocate, and raises `spare` by 1.
-    ///
-    /// The time is that of a look-up, for the entity that moves, and of a look at each component
-    /// that any entity has ever had.
-    #[inline(always)]
-    fn despawn_at(&mut self, place: usize, handle: Handle) -> Option<Handle>
-        // requires { slice_get self.old.places place ≡ Some handle }
-        // ensures entities { self.new.entities ≡ map.remove self.old.entities handle }
-        // ensures spare { self.new.spare ≡ self.old.spare + 1 }
-        // ensures places { AreWithout place self.old.places self.new.places }
-        // ensures moved { result ≡ slice_get self.new.places place }
-    {
-        self.living.swap_remove(place);
-        if place < self.living.len() {
-            let moved = self.living.handle(place);
-            self.index.set_place(moved, place);
-            Some(moved)
-        } else {
-            None
-        }
-    }
-
-    /// Sets each of these components of the entity at this place, and leaves its others as they
-    /// are. The place has to be that of the handle. If a component is in the list twice, its last
-    /// value counts.
-    ///
-    /// It takes memory only for components that the entity does not have yet. The index is not
-    /// searched.
-    ///
-    /// # Errors
-    ///
-    /// Out of memory for the components that the entity does not have yet. Nothing has changed.
-    #[inline(always)]
-    fn insert_at(
-        &mut self,
-        place: usize,
-        handle: Handle,
-        items: &[(ComponentId, i64)],
-    ) -> Result<(), OutOfMemory>
-        // requires { slice_get self.old.places place ≡ Some handle }
-        // ensures ok { OnOk result (self.new.entities
-        //     ≡ with_components self.old.entities handle (λ held. with_items held items.now)) }
-        // ensures spare { self.new.spare ≡ self.old.spare }
-        // ensures places { self.new.places ≡ self.old.places }
-
-        // ensures memory_to_grow { OnErr result
-        //     (IfSome (components_of self.old.entities handle)
-        //     (λ held. 0 < missing held items.now)) }
-        // ensures err { OnErr result (self.new ≡ self.old) }
-    {
-        self.living.insert(place, items)?;
-        Ok(())
-    }
-
-    /// Takes the component out of the entity at this place, which has to be that of the handle.
-    /// Returns the value that it had, or `None` if the entity does not have it. It takes constant
-    /// time and doesn't allocate.
-    #[inline(always)]
-    fn remove_at(&mut self, place: usize, handle: Handle, id: ComponentId) -> Option<i64>
-        // requires { slice_get self.old.places place ≡ Some handle }
-        // ensures value { result ≡ value_of self.old.entities handle id }
-        // ensures entities { self.new.entities
-        //     ≡ with_components self.old.entities handle (λ held. map.remove held id) }
-        // ensures spare { self.new.spare ≡ self.old.spare }
-        // ensures places { self.new.places ≡ self.old.places }
-    {
-        self.living.remove(place, id)
     }
 }

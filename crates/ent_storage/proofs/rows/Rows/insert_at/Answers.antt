@@ -1,5 +1,4 @@
 use Rattle.ent_storage.proofs.Common.{rules, with_items, missing}
-use Rattle.ent_storage.proofs.Apart.{from_kept, to_kept}
 use Rattle.ent_storage.proofs.Indexed.{some_entity}
 use Rattle.ent_storage.proofs.Missing.{on_err}
 use Rattle.ent_storage.proofs.Placed.{found_at, placed_at}
@@ -10,10 +9,9 @@ use Rattle.ent_storage.proofs.rows.Rows.insert_at.Goals as goal
 -- the entity has the new components
 after : (c : In_ok-insert)
     → IsChanged c.args.self.now c.args.handle (λ held. with_items held c.args.items.now)
-    c.insert.new.self.entities c.self.invariant.index c.insert.new.self.room
+    c.insert.new.self.entities c.insert.new.self.room
 after c =
-    let kept = to_kept _ _ c.self.invariant in
-    changed _ _ _ kept _ _ (placed_at _ _ _ _ kept.indexed c.self.view_is _ _ c.requires) _
+    changed _ _ c.self.invariant _ _ (placed_at _ _ _ _ c.self.invariant.indexed c.self.view_is _ _ c.requires) _
     c.self.view_is _ _ _ c.in_ok-insert.ensures.ok c.insert.ensures.room
 
 -- memory was refused, for a component that is missing
@@ -29,4 +27,4 @@ returns c = let now = after (goal.at.returns c).In_ok-insert in search (rules, n
 
 pub invariant_of-self-2 : goal.invariant_of-self-2
 invariant_of-self-2 c =
-    from_kept _ _ _ (after (goal.at.invariant_of-self-2 c).In_ok-insert).kept
+    (after (goal.at.invariant_of-self-2 c).In_ok-insert).apart

@@ -1,5 +1,5 @@
-use Rattle.ent_storage.proofs.Common.{◌≡◌, ◌<◌, length, None, ap, ◌∙◌, arith, fin_empty, fin_get}
-use Rattle.ent_storage.proofs.Common.{fin_insert, rules, LivingEntity, Store, map_of}
+use Rattle.ent_storage.proofs.Common.{◌≡◌, None, ap, ◌∙◌, arith, fin_empty, fin_get}
+use Rattle.ent_storage.proofs.Common.{fin_insert, LivingEntity, Store, map_of}
 use Rattle.ent_storage.specs.EntityMap.{newborn}
 use Rattle.ent_storage.proofs.Apart.{apart_push, no_place}
 use Rattle.ent_storage.proofs.Indexed.{entities_push}

@@ -1,5 +1,4 @@
 use Rattle.ent_storage.proofs.Common.{rules, fin_remove}
-use Rattle.ent_storage.proofs.Apart.{from_kept, to_kept}
 use Rattle.ent_storage.proofs.Indexed.{some_entity}
 use Rattle.ent_storage.proofs.Placed.{found_at, placed_at}
 use Rattle.ent_storage.proofs.Changed.{IsChanged, changed}
@@ -9,10 +8,9 @@ use Rattle.ent_storage.proofs.rows.Rows.remove_at.Goals as goal
 -- the entity has the new components
 after : (c : After-remove)
     → IsChanged c.args.self.now c.args.handle (λ held. fin_remove held c.args.id)
-    c.remove.new.self.entities c.self.invariant.index c.remove.new.self.room
+    c.remove.new.self.entities c.remove.new.self.room
 after c =
-    let kept = to_kept _ _ c.self.invariant in
-    changed _ _ _ kept _ _ (placed_at _ _ _ _ kept.indexed c.self.view_is _ _ c.requires) _
+    changed _ _ c.self.invariant _ _ (placed_at _ _ _ _ c.self.invariant.indexed c.self.view_is _ _ c.requires) _
     c.self.view_is _ _ _ c.remove.ensures.entities c.remove.ensures.room
 
 -- the component is that of the entity
@@ -34,4 +32,4 @@ returns-clause-places c = (after (goal.at.returns-clause-places c).After-remove)
 
 pub invariant_of-self : goal.invariant_of-self
 invariant_of-self c =
-    from_kept _ _ _ (after (goal.at.invariant_of-self c).After-remove).kept
+    (after (goal.at.invariant_of-self c).After-remove).apart

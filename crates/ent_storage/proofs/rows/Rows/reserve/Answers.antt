@@ -1,4 +1,4 @@
-use Rattle.ent_storage.proofs.Common.{arith, ◌≤◌, length}
+use Rattle.ent_storage.proofs.Common.{arith}
 use Rattle.ent_storage.proofs.rows.Rows.reserve.Goals as goal
 
 pub invariant_of-self-2 : goal.invariant_of-self-2

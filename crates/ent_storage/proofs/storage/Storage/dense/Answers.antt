@@ -1,12 +1,8 @@
 use Rattle.ent_storage.proofs.Common.{ap, sym, ◌∙◌, Store, value_at_place}
-use Rattle.ent_storage.proofs.WithComponent.{same_value}
 use Rattle.ent_storage.proofs.storage.Storage.dense.Goals as goal
 
 pub returns-clause-has : goal.returns-clause-has
 returns-clause-has c place value =
-    let same = same_value _ _ c.self.invariant.indexed _ place
-    ∙ ap (λ (s : Store). value_at_place s place c.args.id)
-    c.self.view_is in (
-      λ at. sym same ∙ c.pairs.ensures.has place value at,
-      λ is. c.pairs.ensures.all place value (same ∙ is),
-    )
+    let same = ap (λ (s : Store). value_at_place s place c.args.id) c.self.view_is in
+    let has = c.dense.ensures.has place value in
+    (λ at. sym same ∙ has.0 at, λ is. has.1 (same ∙ is))

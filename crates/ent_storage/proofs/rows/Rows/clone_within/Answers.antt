@@ -1,8 +1,8 @@
-use Rattle.ent_storage.proofs.Common.{◌≤◌, ◌<◌, ◌+◌, ◌⊎◌, length, ap, sym, subst, arith, inl}
+use Rattle.ent_storage.proofs.Common.{◌<◌, ◌+◌, ◌⊎◌, length, ap, sym, subst, arith, inl}
 use Rattle.ent_storage.proofs.Common.{inr, length-map, Store, AreBare, LivingEntity}
 use Rattle.ent_storage.proofs.Copied.{bare_list}
 use Rattle.ent_storage.proofs.Missing.{on_err}
-use Rattle.ent_storage.proofs.rows.Rows.try_clone_from.Goals as goal
+use Rattle.ent_storage.proofs.rows.Rows.clone_within.Goals as goal
 
 -- what is left after an `Err` has the same residents
 pub invariant_of-self : goal.invariant_of-self
@@ -21,8 +21,9 @@ invariant_of-self-2 c =
       fits =
           omega (
             arith,
-            c.source.invariant.fits,
-            c.capacity-count.ensures,
+            c.requires,
+            ap (λ (s : Store). length s.places) c.source.view_is,
+            length-map c.source.inside.living.entities (λ (e : LivingEntity). e.handle),
             c.in_ok-try_clone_from.ensures.room,
           );
     })
@@ -34,8 +35,7 @@ returns-in_err-try_clone_from-clause-memory c =
     let others = c.source.inside.living.entities in
     on_err
     {P =
-    (length c.args.self.now.places + c.args.self.now.spare < length c.args.source.now.places
-    + c.args.source.now.spare) ⊎ (AreBare c.args.source.now.entities → ⊥)} _
+    (length c.args.self.now.places + c.args.self.now.spare < c.args.count) ⊎ (AreBare c.args.source.now.entities → ⊥)} _
     (elim c.in_err-try_clone_from.ensures.memory [
       | inl full ↦ inl
           (omega (
@@ -43,9 +43,6 @@ returns-in_err-try_clone_from-clause-memory c =
             ap (λ (s : Store). length s.places) c.self.view_is,
             ap (λ (s : Store). s.spare) c.self.view_is,
             length-map own (λ (e : LivingEntity). e.handle),
-            ap (λ (s : Store). length s.places) c.source.view_is,
-            ap (λ (s : Store). s.spare) c.source.view_is,
-            length-map others (λ (e : LivingEntity). e.handle),
           ))
       | inr some ↦ inr
           (λ bare. some (bare_list others c.source.invariant.index
