@@ -34,8 +34,8 @@ returns-in_err-try_clone_from-clause-memory c =
     let own = c.self.inside.living.entities in
     let others = c.source.inside.living.entities in
     on_err
-    {P =
-    (length c.args.self.now.places + c.args.self.now.spare < c.args.count) ⊎ (AreBare c.args.source.now.entities → ⊥)} _
+    {P = (length c.args.self.now.places + c.args.self.now.spare < c.args.count)
+    ⊎ (AreBare c.args.source.now.entities → ⊥)} _
     (elim c.in_err-try_clone_from.ensures.memory [
       | inl full ↦ inl
           (omega (

@@ -11,8 +11,9 @@ after : (c : In_ok-insert)
     → IsChanged c.args.self.now c.args.handle (λ held. with_items held c.args.items.now)
     c.insert.new.self.entities c.insert.new.self.room
 after c =
-    changed _ _ c.self.invariant _ _ (placed_at _ _ _ _ c.self.invariant.indexed c.self.view_is _ _ c.requires) _
-    c.self.view_is _ _ _ c.in_ok-insert.ensures.ok c.insert.ensures.room
+    changed _ _ c.self.invariant _ _
+    (placed_at _ _ _ _ c.self.invariant.indexed c.self.view_is _ _ c.requires) _ c.self.view_is _ _
+    _ c.in_ok-insert.ensures.ok c.insert.ensures.room
 
 -- memory was refused, for a component that is missing
 pub returns-in_err-insert-clause-memory_to_grow : goal.returns-in_err-insert-clause-memory_to_grow

@@ -10,8 +10,9 @@ after : (c : After-remove)
     → IsChanged c.args.self.now c.args.handle (λ held. fin_remove held c.args.id)
     c.remove.new.self.entities c.remove.new.self.room
 after c =
-    changed _ _ c.self.invariant _ _ (placed_at _ _ _ _ c.self.invariant.indexed c.self.view_is _ _ c.requires) _
-    c.self.view_is _ _ _ c.remove.ensures.entities c.remove.ensures.room
+    changed _ _ c.self.invariant _ _
+    (placed_at _ _ _ _ c.self.invariant.indexed c.self.view_is _ _ c.requires) _ c.self.view_is _ _
+    _ c.remove.ensures.entities c.remove.ensures.room
 
 -- the component is that of the entity
 pub returns-clause-value : goal.returns-clause-value
