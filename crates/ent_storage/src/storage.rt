@@ -251,7 +251,8 @@ impl Storage {
     fn has_spare(&self) -> bool
         ensures { IsTrue result ↔ (0 < self.now.spare) }
     {
-        self.rows.spare() > 0 && self.rows.len() < self.index.room()
+        let len = self.rows.len();
+        len < self.rows.capacity() && len < self.index.room()
     }
 
     /// Makes room for `additional` more entities, so that `born` doesn't allocate for them. If

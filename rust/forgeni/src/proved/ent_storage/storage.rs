@@ -569,7 +569,8 @@ impl Storage {
     fn has_spare(&self) -> bool
         // ensures { IsTrue result ↔ (0 < self.now.spare) }
     {
-        self.rows.spare() > 0 && self.rows.len() < self.index.room()
+        let len = self.rows.len();
+        len < self.rows.capacity() && len < self.index.room()
     }
 
     /// Does what [`Storage::born`] does, where there is room: a caller that adds many tests that
