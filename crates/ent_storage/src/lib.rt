@@ -1,9 +1,9 @@
 //! Birth and components of living entities: a finite map from handles.
 //!
-//! `Storage` keeps the entities in one vector. An entity's *place* is its position there. Beside
-//! the vector an index has the place of each handle, and for each component number a sparse set has
-//! the values, by places. `Rows` has no index: its caller keeps the places, as a world does in the
-//! rows of its allocator.
+//! `Rows` keeps the entities in one vector. An entity's *place* is its position there. For each
+//! component number a sparse set has the values, by places. The caller keeps the place of each
+//! handle, as a world does in the rows of its allocator. `Storage` is `Rows` with an index, which
+//! has the places.
 //!
 //! [`Bundle`] has components and their values by themselves, as commands carry them. And [`search`]
 //! finds the position of a key among pairs of a key and a value, by strictly rising key.

@@ -1,4 +1,4 @@
-//! Entities at places that the caller keeps: a storage without an index.
+//! Entities at places that the caller keeps.
 ghost use Rattle.std.specs.Prelude.{◌≡◌, ◌≢◌, ◌+◌, ◌≤◌, ◌<◌, ◌⊎◌, ◌↔◌, ℕ, ℤ, IsTrue, IfOk, IfSome};
 ghost use Rattle.std.specs.Prelude.{IfNone, IsOk, OnOk, OnErr, IsSome, Contains, None, Some, []};
 ghost use Rattle.std.specs.Prelude.{◌∷◌, ◌++◌, slice_get, length};

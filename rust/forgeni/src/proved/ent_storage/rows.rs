@@ -1,6 +1,6 @@
 // Made of crates/ent_storage/src/rows.rt by rust/erase. It isn't edited by hand.
 
-//! Entities at places that the caller keeps: a storage without an index.
+//! Entities at places that the caller keeps.
 
 use alloc::vec::Vec;
 use crate::components::items::Items;
