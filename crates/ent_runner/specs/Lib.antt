@@ -4,4 +4,5 @@ pub mod Frame
 pub mod Logs
 pub mod Blocks
 pub mod Refusing
+pub mod RunErrors
 pub mod Stage

@@ -13,8 +13,6 @@ use Rattle.ent_alloc.specs.Serving.{Request}
 use Rattle.ent_queue.specs.Logging.{request_of}
 use Rattle.ent_runner.specs.Frame.{requests_by}
 use Rattle.ent_runner.specs.Runs.{AreRun, StopShort}
-use Rattle.ent_runner.specs.declared.logs.log_error.LogError.{LogError}
-use Rattle.ent_runner.specs.declared.logs.log_error.LogError.TheVariants as failed
 use Rattle.ent_shared.specs.Requests.{stands_for, FitQuota}
 
 -- the handles that one caller was given in a history, in order
@@ -104,21 +102,3 @@ module _ {C : Type 0} where
     pub entries_are : entries ≡ entries_of logs
     pub after_is : after ≡ after_flush filled
     pub list_is : list ≡ listed ++ born filled
-
--- what holds if the systems were broken off, with this error if there is one
-abbrev pub IfLost : {E : Type 0} → (Option E → Type 0) → LogError E → Type 0
-IfLost P failed.NeedsFlush = Unit {0}
-IfLost P failed.Workers = Unit {0}
-IfLost P failed.Systems = Unit {0}
-IfLost P failed.Memory = Unit {0}
-IfLost P (failed.Lost error) = P error
-IfLost P failed.Unborn = Unit {0}
-
--- what holds of another error
-abbrev pub IfNotLost : {E : Type 0} → Type 0 → LogError E → Type 0
-IfNotLost P failed.NeedsFlush = P
-IfNotLost P failed.Workers = P
-IfNotLost P failed.Systems = P
-IfNotLost P failed.Memory = P
-IfNotLost P (failed.Lost error) = Unit {0}
-IfNotLost P failed.Unborn = P

@@ -2,15 +2,15 @@
 ghost use Rattle.std.specs.Prelude.{◌≡◌, ◌≢◌, ◌<◌, ◌≤◌, ◌^◌, ◌↔◌, ◌⊎◌, length};
 ghost use Rattle.std.specs.Prelude.{IfOk, IfErr, IsErrOf, Err, None};
 ghost use Rattle.ent_log.specs.Logs.{entries_of, spawned_in, first_unreserved};
-ghost use Rattle.ent_runner.specs.Logs.{HaveLogged, IfLost, IfNotLost, IsBrokenOff};
+ghost use Rattle.ent_runner.specs.Logs.{HaveLogged, IsBrokenOff};
+ghost use Rattle.ent_runner.specs.RunErrors.{IfLost, IfNotLost, IsOfAllocator};
 
 pub(super) mod beginning;
-pub(super) mod log_error;
 pub(super) mod system;
 
 use crate::crew::{Crew, first_error};
-use crate::logs::log_error::LogError;
 use crate::logs::system::LogSystem;
+use crate::run_error::RunError;
 use crate::stage::SharedStage;
 use crate::systems::Loggers;
 use ent_alloc::{Entities, Limits};
@@ -37,9 +37,9 @@ const SYSTEMS: usize = 65_536;
 ///
 /// It is the first of these that holds.
 ///
-/// - [`LogError::NeedsFlush`], [`LogError::Workers`], [`LogError::Systems`], [`LogError::Memory`]:
+/// - [`RunError::NeedsFlush`], [`RunError::Workers`], [`RunError::Systems`], [`RunError::Memory`]:
 ///   no system ran, and the allocator is as it was.
-/// - [`LogError::Lost`]: a system returned an error, and this has the first one in the order of the
+/// - [`RunError::Lost`]: a system returned an error, and this has the first one in the order of the
 ///   systems. Or some systems didn't run, since no worker has memory for the log of another one:
 ///   then it has none. The logs are dropped. What the systems that ran had reserved stays reserved,
 ///   and nothing else is: [`Entities::flush`] brings it to life.
@@ -49,7 +49,7 @@ pub fn run_logs<R, C, S, E>(
     entities: &mut Entities,
     systems: &[S],
     workers: usize,
-) -> Result<Vec<Log<C>>, LogError<E>>
+) -> Result<Vec<Log<C>>, RunError<E>>
 where
     R: Threads + Sync,
     C: Drop + Send,
@@ -63,43 +63,44 @@ where
     ensures reserved { IfOk result (λ logs. first_unreserved entities.new.allocator
         (spawned_in (entries_of logs.items)) ≡ None) }
 
-    ensures needs_flush { IsErrOf result LogError.NeedsFlush
+    ensures needs_flush { IsErrOf result RunError.NeedsFlush
         ↔ (0 < entities.old.allocator.asked) }
-    ensures no_crew { IsErrOf result LogError.Workers
+    ensures no_crew { IsErrOf result RunError.Workers
         ↔ ((entities.old.allocator.asked ≡ 0) × ((workers ≡ 0) ⊎ (64 < workers))) }
-    ensures too_many { IsErrOf result LogError.Systems
+    ensures too_many { IsErrOf result RunError.Systems
         ↔ ((entities.old.allocator.asked ≡ 0) × (0 < workers) × (workers ≤ 64)
         × (2 ^ 16 < length systems.now)) }
-    ensures memory_some { IsErrOf result LogError.Memory → 0 < length systems.now }
+    ensures memory_some { IsErrOf result RunError.Memory → 0 < length systems.now }
     ensures nothing { IfErr result (IfNotLost (entities.new ≡ entities.old)) }
 
     // What is left of a run that was broken off.
     ensures lost { IfErr result (IfLost (IsBrokenOff S.may_log S.may_leave systems.now workers
         entities.old.allocator entities.new.allocator)) }
     ensures lost_some { IfErr result (IfLost (λ _. 0 < length systems.now)) }
-    ensures unborn { result ≢ Err LogError.Unborn }
+    ensures unborn { result ≢ Err RunError.Unborn }
+    ensures of_allocator { IfErr result IsOfAllocator }
 {
     if entities.needs_flush() {
-        return Err(LogError::NeedsFlush);
+        return Err(RunError::NeedsFlush);
     }
     if workers == 0 || workers > WORKERS {
-        return Err(LogError::Workers);
+        return Err(RunError::Workers);
     }
     if systems.len() > SYSTEMS {
-        return Err(LogError::Systems);
+        return Err(RunError::Systems);
     }
     if systems.is_empty() {
         return Ok(Vec::new(alloc));
     }
     let Ok(crew) = Crew::new(alloc, systems.len(), workers) else {
-        return Err(LogError::Memory);
+        return Err(RunError::Memory);
     };
     let flushed = mem::replace(entities, Entities::new(alloc, Limits::default_limits()));
     let (shared, mut reservers) = match share(alloc, flushed, workers) {
         Ok(made) => made,
         Err((flushed, _)) => {
             *entities = flushed;
-            return Err(LogError::Memory);
+            return Err(RunError::Memory);
         }
     };
     let loggers = Loggers { systems };
@@ -114,6 +115,6 @@ where
     *entities = shared.close(reservers);
     match logs {
         Ok(logs) => Ok(logs),
-        Err(left) => Err(LogError::Lost(first_error(left))),
+        Err(left) => Err(RunError::Lost(first_error(left))),
     }
 }

@@ -5,9 +5,9 @@ use Rattle.ent_total.specs.Lending.{AreFrom, lent_out, returned}
 use Rattle.ent_total.specs.Phases.{Reserver, reservers_of}
 use Rattle.std.specs.Prelude.{suc, ◌⊎◌}
 use Rattle.std.proofs.Common.{inl, inr, ⊎_elim}
-use Rattle.ent_runner.specs.Blocks.Refusing.{IfLost, IfNotLost}
-use Rattle.ent_runner.specs.declared.blocks.run_error.RunError.{RunError}
-use Rattle.ent_runner.specs.declared.blocks.run_error.RunError.TheVariants as failed
+use Rattle.ent_runner.specs.RunErrors.{IfLost, IfNotLost}
+use Rattle.ent_runner.specs.declared.run_error.RunError.{RunError}
+use Rattle.ent_runner.specs.declared.run_error.RunError.TheVariants as failed
 use Rattle.std.proofs.lemmas.List.Elements.{All-cons, All-map, All-nil, All-same, All-tail}
 use Rattle.ent_blocks.specs.Blocks.{Reserver as BlockReserver}
 use Rattle.std.proofs.Common.{get_or, set}
@@ -124,28 +124,16 @@ module _ {E : Type 0} where
   -- a run that failed hands back all as they were, or none
   pub all_or_none : {X : Type 0} (e : RunError E) (back lent : List X) → IfNotLost (back ≡ lent) e
       → IfLost (λ _. back ≡ []) e → (back ≡ lent) ⊎ (back ≡ [])
-  all_or_none failed.Workers back lent same none = inl same
-  all_or_none failed.Systems back lent same none = inl same
-  all_or_none failed.Reservers back lent same none = inl same
-  all_or_none failed.OtherPhase back lent same none = inl same
-  all_or_none failed.Memory back lent same none = inl same
   all_or_none (failed.Lost error) back lent same none = inr none
+  all_or_none _ back lent same none = inl same
 
   pub if_not_lost : {A B : Type 0} (e : RunError E) → (A → B) → IfNotLost A e → IfNotLost B e
-  if_not_lost failed.Workers f a = f a
-  if_not_lost failed.Systems f a = f a
-  if_not_lost failed.Reservers f a = f a
-  if_not_lost failed.OtherPhase f a = f a
-  if_not_lost failed.Memory f a = f a
   if_not_lost (failed.Lost error) f a = tt
+  if_not_lost _ f a = f a
 
   pub if_lost : {A B : Type 0} (e : RunError E) → (A → B) → IfLost (λ _. A) e → IfLost (λ _. B) e
-  if_lost failed.Workers f a = tt
-  if_lost failed.Systems f a = tt
-  if_lost failed.Reservers f a = tt
-  if_lost failed.OtherPhase f a = tt
-  if_lost failed.Memory f a = tt
   if_lost (failed.Lost error) f a = f a
+  if_lost _ f a = tt
 
 -- so each of those is what each of these is, and there are no more
 module _ {X : Type 0} (back lent : List X) (are : (back ≡ lent) ⊎ (back ≡ [])) where

@@ -1,8 +1,9 @@
 ghost use Rattle.std.specs.Prelude.{◌≡◌, ◌<◌, length, map, IfOk, IfErr, IsErrOf};
 ghost use Rattle.ent_blocks.specs.Blocks.{blocks_of};
 ghost use Rattle.ent_runner.specs.Blocks.Queues.{HaveIssued, HaveStopped};
-ghost use Rattle.ent_runner.specs.Blocks.Refusing.{IfLost, IfNotLost, IsRefused};
-ghost use Rattle.ent_runner.specs.declared.blocks.run_error.RunError.TheVariants as failed;
+ghost use Rattle.ent_runner.specs.Blocks.Refusing.{IsRefused};
+ghost use Rattle.ent_runner.specs.RunErrors.{IfLost, IfNotLost, IsOfBlocks};
+ghost use Rattle.ent_runner.specs.declared.run_error.RunError.TheVariants as failed;
 ghost use Rattle.ent_total.specs.InWorld.{view_in};
 ghost use Rattle.ent_total.specs.Lending.{lent_out, returned};
 ghost use Rattle.ent_total.specs.Phases.{AreOf, reservers_of};
@@ -82,6 +83,7 @@ where
     ensures same { reservers.new ≡ returned reservers.old (reservers_of reservers.new) }
     ensures refused { IsRefused workers (length systems.now) (length reservers.old)
         (AreOf phase.now.number reservers.old) (λ why. IsErrOf result why) }
+    ensures of_blocks { IfErr result IsOfBlocks }
     ensures memory_some { IsErrOf result failed.Memory → 0 < length systems.now }
     ensures as_they_were { IfErr result (IfNotLost (reservers.new ≡ reservers.old)) }
 

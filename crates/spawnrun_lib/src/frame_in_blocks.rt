@@ -2,7 +2,7 @@
 ghost use Rattle.std.specs.Prelude.{◌≡◌, ◌<◌, ◌≤◌, length, List, Option, IfOk, IsErrOf};
 ghost use Rattle.ent_handle.specs.declared.memory.Memory.{Memory};
 ghost use Rattle.ent_queue.specs.Command.{Command};
-ghost use Rattle.ent_runner.specs.declared.blocks.run_error.RunError.TheVariants as failed;
+ghost use Rattle.ent_runner.specs.declared.run_error.RunError.TheVariants as failed;
 ghost use Rattle.ent_script.specs.Sizes.{most_systems};
 ghost use Rattle.spawnrun_lib.specs.ReportInBlocks.{sizes_of};
 ghost use Rattle.spawnrun_lib.specs.CourseInBlocks.{EndsInBlocks, StopsInBlocks};

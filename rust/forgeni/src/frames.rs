@@ -11,7 +11,7 @@ pub use crate::kit::thread::{Join, StdThreads};
 #[cfg(feature = "rayon")]
 pub use crate::on_rayon::Rayon;
 pub use crate::phases::{fill_in_blocks, run_in_blocks, FrameError};
-pub use crate::running::{LogError, RunError};
+pub use crate::running::RunError;
 pub use crate::system::*;
 
 /// Runs each system once, on that many workers side by side, and then the sync point. It returns
@@ -193,10 +193,10 @@ pub fn run_frame_on<J: Join + Sync, S: System<SharedSource, E> + Sync, E: Send>(
 ///
 /// # Errors
 ///
-/// - [`NeedsFlush`](LogError::NeedsFlush), [`Workers`](LogError::Workers),
-///   [`Systems`](LogError::Systems) and [`Memory`](LogError::Memory): no system ran, and the
+/// - [`NeedsFlush`](RunError::NeedsFlush), [`Workers`](RunError::Workers),
+///   [`Systems`](RunError::Systems) and [`Memory`](RunError::Memory): no system ran, and the
 ///   allocator is as it was.
-/// - [`Lost`](LogError::Lost): a system returned an error, and this has the first one in the order
+/// - [`Lost`](RunError::Lost): a system returned an error, and this has the first one in the order
 ///   of the systems. Or some systems didn't run, since no worker has memory for the log of another
 ///   one: then it has none. The logs are dropped. What the systems that ran had reserved stays
 ///   reserved, and nothing else is: [`Entities::flush`] brings it to life.
@@ -204,7 +204,7 @@ pub fn run_frame_on<J: Join + Sync, S: System<SharedSource, E> + Sync, E: Send>(
 /// # Panics
 ///
 /// If a system panics, its panic is propagated when all workers have ended, and the allocator is as
-/// it is after [`Lost`](LogError::Lost). If several systems panic, the panic of the first one in
+/// it is after [`Lost`](RunError::Lost). If several systems panic, the panic of the first one in
 /// the order of the systems is propagated. Without the feature `std`, a panic can't be caught: the
 /// allocator is dropped, and an empty one takes its place.
 ///
@@ -218,7 +218,7 @@ pub fn run_logs<C: Send, S: LogSystem<C, SharedSource, E> + Sync, E: Send>(
     entities: &mut Entities,
     systems: &[S],
     workers: usize,
-) -> Result<Vec<Log<C>>, LogError<E>> {
+) -> Result<Vec<Log<C>>, RunError<E>> {
     run_logs_on(&StdThreads, entities, systems, workers)
 }
 
@@ -257,8 +257,8 @@ pub fn run_logs_on<J: Join + Sync, C: Send, S: LogSystem<C, SharedSource, E> + S
     entities: &mut Entities,
     systems: &[S],
     workers: usize,
-) -> Result<Vec<Log<C>>, LogError<E>> {
-    guarded(join, systems, LogError::Memory, |join, systems| {
+) -> Result<Vec<Log<C>>, RunError<E>> {
+    guarded(join, systems, RunError::Memory, |join, systems| {
         caught(|| running::run_logs(join, entities, systems, workers).map_err(of_logs))
     })
 }
@@ -298,7 +298,7 @@ pub fn run_logs_on<J: Join + Sync, C: Send, S: LogSystem<C, SharedSource, E> + S
 /// [`HandedBack`] has the logs that the sync point didn't take, and the error. `born` is unchanged.
 ///
 /// - Those of [`run_logs`]. There are no logs.
-/// - [`Unborn`](LogError::Unborn): all systems ran, and there isn't enough memory for what is born.
+/// - [`Unborn`](RunError::Unborn): all systems ran, and there isn't enough memory for what is born.
 ///   What they reserved stays reserved, and the logs are those of all systems, for
 ///   [`SyncPoint::begin`].
 ///
@@ -313,11 +313,11 @@ pub fn run_to_sync_point<J: Join + Sync, C: Send, S, E: Send>(
     systems: &[S],
     workers: usize,
     born: &mut Vec<Handle>,
-) -> Result<SyncPoint<C>, HandedBack<Vec<Log<C>>, LogError<E>>>
+) -> Result<SyncPoint<C>, HandedBack<Vec<Log<C>>, RunError<E>>>
 where
     S: LogSystem<C, SharedSource, E> + Sync,
 {
-    let memory = HandedBack::new(Vec::new(), LogError::Memory);
+    let memory = HandedBack::new(Vec::new(), RunError::Memory);
     guarded(join, systems, memory, |join, systems| {
         caught(|| {
             let begun = running::run_to_sync_point(join, entities, systems, workers, born);

@@ -1,7 +1,7 @@
 //! Systems whose panics are caught.
 
 use crate::frames::Join;
-use crate::{FrameError, LogCommands, LogError, LogSystem, Source, System, View, WorldCommands};
+use crate::{FrameError, LogCommands, RunError, LogSystem, Source, System, View, WorldCommands};
 use alloc::boxed::Box;
 use alloc::vec::Vec;
 use core::any::Any;
@@ -105,7 +105,7 @@ macro_rules! unguarded {
 }
 
 unguarded!(of_frame, FrameError: NeedsFlush Workers Systems Memory; Unapplied Stopped);
-unguarded!(of_logs, LogError: NeedsFlush Workers Systems Memory Unborn;);
+unguarded!(of_logs, RunError: NeedsFlush Workers Systems Reservers OtherPhase Memory Unborn;);
 
 impl<J: Join> Join for Guarded<'_, J> {
     fn join(&self, first: &mut (dyn FnMut() + Send), second: &mut (dyn FnMut() + Send)) {

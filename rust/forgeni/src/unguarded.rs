@@ -1,6 +1,6 @@
 //! Without the standard library, nothing catches a panic, so systems run as they are.
 
-use crate::{FrameError, LogError};
+use crate::{FrameError, RunError};
 use core::convert::Infallible;
 
 /// The error of a frame, as it is.
@@ -9,7 +9,7 @@ pub(crate) fn of_frame<E>(error: FrameError<E>) -> FrameError<E> {
 }
 
 /// The error of a run of logs, as it is.
-pub(crate) fn of_logs<E>(error: LogError<E>) -> LogError<E> {
+pub(crate) fn of_logs<E>(error: RunError<E>) -> RunError<E> {
     error
 }
 

@@ -6,7 +6,7 @@
 use crate::common::{flushed, seeds, Numbers};
 use forgeni::{run_frame_on, run_logs_on, run_to_sync_point, Entities, Handle, Join, Log};
 use forgeni::{
-    ComponentId, FrameError, LogCommands, LogError, OutOfMemory, ShareError, StdThreads,
+    ComponentId, FrameError, LogCommands, RunError, OutOfMemory, ShareError, StdThreads,
 };
 use forgeni::{SyncPoint, SystemCommands, View, World};
 use std::collections::HashSet;
@@ -151,7 +151,7 @@ fn three(end: End) -> [System; 3] {
 }
 
 /// What the calls that fill logs end with: the words of a panic, or an error.
-type Filled = Result<Option<LogError>, &'static str>;
+type Filled = Result<Option<RunError>, &'static str>;
 
 /// Each call that fills logs, on an allocator with two entities. What it returns is dropped.
 fn each_call(systems: &[System], joiner: &'static str, workers: usize, expect: impl Fn(Filled)) {

@@ -2,7 +2,7 @@
 
 use crate::common::{flushed, small};
 use forgeni::{run_logs, run_logs_on, run_to_sync_point, Entities, Entry, Handle, HandleMap, Join};
-use forgeni::{Log, LogCommands, LogError, LogSystem, OutOfMemory, StdThreads, SyncPoint};
+use forgeni::{Log, LogCommands, RunError, LogSystem, OutOfMemory, StdThreads, SyncPoint};
 use std::convert::Infallible;
 use std::panic::{catch_unwind, resume_unwind, AssertUnwindSafe};
 use std::sync::{Barrier, Mutex};
@@ -145,15 +145,15 @@ fn the_sync_point_begins_at_once() {
 fn a_sync_point_that_does_not_begin() {
     let (mut entities, mut born) = (Entities::new(), vec![]);
     for (systems, workers, wanted) in [
-        (vec![Does::Spawn(1); 2], 0, LogError::Workers),
-        (vec![Does::Spawn(1); 2], 65, LogError::Workers),
-        (vec![Does::Spawn(1); 65_537], 1, LogError::Systems),
+        (vec![Does::Spawn(1); 2], 0, RunError::Workers),
+        (vec![Does::Spawn(1); 2], 65, RunError::Workers),
+        (vec![Does::Spawn(1); 65_537], 1, RunError::Systems),
         (
             vec![Does::Spawn(2), Does::Stop],
             1,
-            LogError::Lost(Some(OutOfMemory)),
+            RunError::Lost(Some(OutOfMemory)),
         ),
-        (vec![Does::Spawn(1)], 1, LogError::NeedsFlush),
+        (vec![Does::Spawn(1)], 1, RunError::NeedsFlush),
     ] {
         let systems = numbered(&systems);
         let sync = run_to_sync_point(&StdThreads, &mut entities, &systems, workers, &mut born);
@@ -234,14 +234,14 @@ fn refusals() {
     entities.request().expect("a handle");
     for (systems, workers) in [(0, 0), (1, 1), (65_537, 65)] {
         let refused = run_logs(&mut entities, &many[..systems], workers).expect_err("not flushed");
-        assert_eq!(refused, LogError::NeedsFlush);
+        assert_eq!(refused, RunError::NeedsFlush);
     }
     assert_eq!(flushed(&mut entities).len(), 1);
     for (systems, workers, wanted) in [
-        (0, 0, LogError::Workers),
-        (1, 65, LogError::Workers),
-        (65_537, 0, LogError::Workers),
-        (65_537, 64, LogError::Systems),
+        (0, 0, RunError::Workers),
+        (1, 65, RunError::Workers),
+        (65_537, 0, RunError::Workers),
+        (65_537, 64, RunError::Systems),
     ] {
         let refused = run_logs(&mut entities, &many[..systems], workers).expect_err("refused");
         assert_eq!(refused, wanted);
@@ -260,7 +260,7 @@ fn a_system_that_stops() {
         let mut entities = Entities::new();
         let systems = numbered(&[Does::Spawn(2), Does::Stop, Does::Spawn(2)]);
         let lost = run_logs(&mut entities, &systems, workers).expect_err("it stopped");
-        assert_eq!(lost, LogError::Lost(Some(OutOfMemory)));
+        assert_eq!(lost, RunError::Lost(Some(OutOfMemory)));
         let born = flushed(&mut entities).len();
         // A worker that stopped leaves the third system to another one.
         assert!(born == 5 || (workers < 3 && born == 3), "{workers}: {born}");

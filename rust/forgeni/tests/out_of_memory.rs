@@ -11,7 +11,7 @@ mod refusing;
 use common::{handle, this_program};
 use forgeni::trace::{Call, CheckError, Checker, FreeReply, Log, Reservation};
 #[cfg(feature = "std")]
-use forgeni::{run_to_sync_point, LogCommands, LogError, StdThreads};
+use forgeni::{run_to_sync_point, LogCommands, RunError, StdThreads};
 use forgeni::{
     tables, AllocError, AnyMap, BeginError, Birth, Change, Commands, ComponentId, Entities, Entry,
     Fault, Follows, FreeError, GoOnError, Handle, HandleMap, History, ImageFault, InsertError,
@@ -1568,10 +1568,10 @@ fn a_sync_point_of_systems() {
         assert_eq!(born, [handle(7, 7)]);
         let (mut logs, error) = unbegun.into_parts();
         match error {
-            LogError::Memory => assert_eq!(told(&entities), before),
-            LogError::Lost(_) => assert_eq!(entities.len(), 2),
+            RunError::Memory => assert_eq!(told(&entities), before),
+            RunError::Lost(_) => assert_eq!(entities.len(), 2),
             error => {
-                assert_eq!((error, logs.len()), (LogError::Unborn, 2));
+                assert_eq!((error, logs.len()), (RunError::Unborn, 2));
                 let sync = SyncPoint::begin(&mut entities, &mut logs, &mut born);
                 assert!(sync.is_ok() && entities.len() == 100);
                 return refused;

@@ -4,7 +4,7 @@
 use crate::common::small;
 use forgeni::{fill_in_blocks, run_frame, run_in_blocks, run_logs};
 use forgeni::{run_to_sync_point, Blocks, Entities, FrameError, LogCommands, WorldCommands};
-use forgeni::{LogError, LogSystem, OutOfMemory, ReserveError, RunError, SharedSource, StdThreads};
+use forgeni::{LogSystem, OutOfMemory, ReserveError, RunError, SharedSource, StdThreads};
 use forgeni::{System, SystemCommands, View, World};
 use std::error::Error;
 use std::io;
@@ -87,11 +87,11 @@ fn logs_return_the_first_error() {
     for workers in WORKERS {
         let mut entities = Entities::new();
         let lost = run_logs(&mut entities, &systems, workers).expect_err("system 7 stops");
-        assert_eq!(lost, LogError::Lost(Some(first())));
+        assert_eq!(lost, RunError::Lost(Some(first())));
         let mut born = vec![];
         let unbegun = run_to_sync_point(&StdThreads, &mut entities, &systems, workers, &mut born);
         let (logs, error) = unbegun.map(drop).expect_err("system 7 stops").into_parts();
-        assert_eq!((logs.len(), error), (0, LogError::Lost(Some(first()))));
+        assert_eq!((logs.len(), error), (0, RunError::Lost(Some(first()))));
     }
 }
 
@@ -129,7 +129,7 @@ fn a_refused_spawn_as_an_error() {
     let refused = ReserveError::Space { wanted: 1, left: 0 };
     for workers in WORKERS {
         let lost = run_logs(&mut small(7, 9), &[spawn; 5], workers).expect_err("seven slots");
-        assert_eq!(lost, LogError::Lost(Some(Stop::Full(refused))));
+        assert_eq!(lost, RunError::Lost(Some(Stop::Full(refused))));
     }
 }
 
@@ -168,7 +168,7 @@ fn out_of_memory_as_an_error() {
     let stops = |_: &mut LogCommands<'_, ()>| -> Result<(), Stop> { Ok(Err(OutOfMemory)?) };
     for workers in WORKERS {
         let lost = run_logs(&mut Entities::new(), &[stops; 5], workers).expect_err("it stops");
-        assert_eq!(lost, LogError::Lost(Some(Stop::Memory)));
+        assert_eq!(lost, RunError::Lost(Some(Stop::Memory)));
     }
 }
 
@@ -188,8 +188,8 @@ fn a_run_without_an_error() {
 /// finds it for a system in a `Mutex` and behind each pointer.
 #[test]
 fn the_error_that_is_not_named() {
-    fn lost(ran: Result<Vec<forgeni::Log<u8>>, LogError>) {
-        assert_eq!(ran.err(), Some(LogError::Lost(Some(OutOfMemory))));
+    fn lost(ran: Result<Vec<forgeni::Log<u8>>, RunError>) {
+        assert_eq!(ran.err(), Some(RunError::Lost(Some(OutOfMemory))));
     }
     fn last(_: &mut LogCommands<'_, u8>) -> Result<(), OutOfMemory> {
         Err(OutOfMemory)
@@ -254,9 +254,9 @@ fn systems_behind_pointers() {
     let lent: &(dyn LogSystem<(), SharedSource, Own> + Sync) = &stops;
     let boxed: Box<dyn LogSystem<(), SharedSource, Own> + Sync> = Box::new(stops);
     let shared: Arc<dyn LogSystem<(), SharedSource, Own> + Send + Sync> = Arc::new(stops);
-    let is_own = |lost: LogError<Own>| {
+    let is_own = |lost: RunError<Own>| {
         assert_eq!(lost.to_string(), "a system stopped: own");
-        assert!(matches!(lost, LogError::Lost(Some(_))));
+        assert!(matches!(lost, RunError::Lost(Some(_))));
     };
     let mut entities = Entities::new();
     is_own(run_logs(&mut entities, &[lent], 1).expect_err("it stops"));

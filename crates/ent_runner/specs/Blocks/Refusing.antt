@@ -1,8 +1,8 @@
 -- When systems in blocks are refused before any of them runs, as one fact: each field is a clause
 -- of `fill_in_blocks` and `run_in_blocks`.
 use Rattle.std.specs.Prelude.{◌≡◌, ◌≢◌, ◌<◌, ◌≤◌, ◌^◌, ◌↔◌, ◌⊎◌, ℕ, Option}
-use Rattle.ent_runner.specs.declared.blocks.run_error.RunError.{RunError}
-use Rattle.ent_runner.specs.declared.blocks.run_error.RunError.TheVariants as failed
+use Rattle.ent_runner.specs.declared.run_error.RunError.{RunError}
+use Rattle.ent_runner.specs.declared.run_error.RunError.TheVariants as failed
 
 -- That many systems run on that many workers, with so many reservers, which are of the phase if
 -- that is so. The run is refused for an error if this holds of it.
@@ -16,21 +16,3 @@ pub record IsRefused {E : Type 0} (workers systems reservers : ℕ) (AreOf : Typ
   pub other_phase : refuses failed.OtherPhase
       ↔ ((0 < workers) × (workers ≤ 64) × (systems ≤ 2 ^ 16) × (reservers ≡ systems)
       × ¬ AreOf)
-
--- what holds if the systems were broken off, with this error if there is one
-abbrev pub IfLost : {E : Type 0} → (Option E → Type 0) → RunError E → Type 0
-IfLost P failed.Workers = Unit {0}
-IfLost P failed.Systems = Unit {0}
-IfLost P failed.Reservers = Unit {0}
-IfLost P failed.OtherPhase = Unit {0}
-IfLost P failed.Memory = Unit {0}
-IfLost P (failed.Lost error) = P error
-
--- what holds of another error
-abbrev pub IfNotLost : {E : Type 0} → Type 0 → RunError E → Type 0
-IfNotLost P failed.Workers = P
-IfNotLost P failed.Systems = P
-IfNotLost P failed.Reservers = P
-IfNotLost P failed.OtherPhase = P
-IfNotLost P failed.Memory = P
-IfNotLost P (failed.Lost error) = Unit {0}

@@ -3,15 +3,15 @@ ghost use Rattle.std.specs.Prelude.{IfErr, IsErrAnd};
 ghost use Rattle.ent_blocks.specs.Blocks.{blocks_of};
 ghost use Rattle.ent_blocks.specs.Drawing.{IsOfPhase};
 ghost use Rattle.ent_runner.specs.Blocks.Queues.{HaveIssued, HaveStopped};
-ghost use Rattle.ent_runner.specs.Blocks.Refusing.{IfLost, IfNotLost};
-ghost use Rattle.ent_runner.specs.declared.blocks.run_error.RunError.TheVariants as failed;
+ghost use Rattle.ent_runner.specs.RunErrors.{IfLost, IfNotLost, IsOfBlocks};
+ghost use Rattle.ent_runner.specs.declared.run_error.RunError.TheVariants as failed;
 
 use crate::blocks::room::{Room, WORKERS, check_run, prepare};
-use crate::blocks::run_error::RunError;
 use crate::blocks::splitting::split;
 use crate::crew::first_error;
 use crate::frame::gate::NoGate;
 use crate::frame::system::System;
+use crate::run_error::RunError;
 use crate::stage::BlockStage;
 use crate::systems::Issuers;
 use ent_blocks::{BlockReserver, Blocks};
@@ -66,6 +66,7 @@ where
         ↔ ((0 < workers) × (workers ≤ 64) × (length systems.now ≤ 2 ^ 16)
         × (length reservers.items ≢ length systems.now)) }
     ensures not_other { IfErr result (λ h. h.error ≢ failed.OtherPhase) }
+    ensures of_blocks { IfErr result (λ h. IsOfBlocks h.error) }
     ensures memory_some { IsErrAnd result (λ h. h.error ≡ failed.Memory)
         → 0 < length systems.now }
     ensures handed_back { IfErr result (λ h.

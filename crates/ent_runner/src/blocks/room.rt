@@ -3,11 +3,11 @@
 ghost use Rattle.std.specs.Prelude.{◌≡◌, ◌≢◌, ◌<◌, ◌≤◌, ◌^◌, ◌↔◌, ◌⊎◌, [], length, All, IfOk};
 ghost use Rattle.std.specs.Prelude.{IfErr, OnOk, IsErrOf};
 ghost use Rattle.std.specs.Prelude.{IsTrue, vec_capacity};
-ghost use Rattle.ent_runner.specs.Blocks.Refusing.{IfLost};
-ghost use Rattle.ent_runner.specs.declared.blocks.run_error.RunError.TheVariants as failed;
+ghost use Rattle.ent_runner.specs.RunErrors.{IfLost, IsOfBlocks};
+ghost use Rattle.ent_runner.specs.declared.run_error.RunError.TheVariants as failed;
 
-use crate::blocks::run_error::RunError;
 use crate::crew::Crew;
+use crate::run_error::RunError;
 use ent_blocks::BlockReserver;
 use ent_handle::Memory;
 use std::alloc::Global;
@@ -46,6 +46,7 @@ pub fn check_run<E>(reservers: usize, systems: usize, workers: usize) -> Result<
     ensures not_other { ¬ (IsErrOf result failed.OtherPhase) }
     ensures not_memory { ¬ (IsErrOf result failed.Memory) }
     ensures not_lost { IfErr result (IfLost (λ _. ⊥)) }
+    ensures of_blocks { IfErr result IsOfBlocks }
 {
     if workers == 0 || workers > WORKERS {
         return Err(RunError::Workers);

@@ -5,12 +5,13 @@ ghost use Rattle.std.specs.Prelude.{IfOk, IfErr, IsErrAnd, OnErr, None};
 ghost use Rattle.ent_alloc.specs.Sequential.{made_at_flush};
 ghost use Rattle.ent_alloc.specs.Sound.{IsLive};
 ghost use Rattle.ent_log.specs.Logs.{entries_of, spawned_in, first_unreserved};
-ghost use Rattle.ent_runner.specs.Logs.{HaveBegun, HaveLogged, IfLost, IfNotLost, IsBrokenOff};
-ghost use Rattle.ent_runner.specs.declared.logs.log_error.LogError.TheVariants as failed;
+ghost use Rattle.ent_runner.specs.Logs.{HaveBegun, HaveLogged, IsBrokenOff};
+ghost use Rattle.ent_runner.specs.RunErrors.{IfLost, IfNotLost, IsOfAllocator};
+ghost use Rattle.ent_runner.specs.declared.run_error.RunError.TheVariants as failed;
 
-use crate::logs::log_error::LogError;
 use crate::logs::run_logs;
 use crate::logs::system::LogSystem;
+use crate::run_error::RunError;
 use ent_alloc::Entities;
 use ent_handle::{HandedBack, Handle, Memory};
 use ent_log::{Log, SyncPoint};
@@ -31,7 +32,7 @@ use std::thread::Threads;
 /// applies. The list is as it was.
 ///
 /// - Those of [`run_logs`]. There are no logs.
-/// - [`LogError::Unborn`]: all systems ran, and there isn't enough memory for what is born. The
+/// - [`RunError::Unborn`]: all systems ran, and there isn't enough memory for what is born. The
 ///   logs are those of all systems, for [`SyncPoint::begin`]. What the systems reserved stays
 ///   reserved.
 pub fn run_to_sync_point<R, C, S, E>(
@@ -41,7 +42,7 @@ pub fn run_to_sync_point<R, C, S, E>(
     systems: &[S],
     workers: usize,
     out: &mut Vec<Handle>,
-) -> Result<SyncPoint<C>, HandedBack<Vec<Log<C>>, LogError<E>>>
+) -> Result<SyncPoint<C>, HandedBack<Vec<Log<C>>, RunError<E>>>
 where
     R: Threads + Sync,
     C: Drop + Send,
@@ -63,6 +64,7 @@ where
     ensures nothing { IfErr result (λ h. h.error ≢ failed.Unborn
         → IfNotLost (entities.new ≡ entities.old) h.error) }
     ensures none { IfErr result (λ h. h.error ≢ failed.Unborn → h.value.items ≡ []) }
+    ensures of_allocator { IfErr result (λ h. IsOfAllocator h.error) }
     ensures unlisted { OnErr result (out.new.items ≡ out.old.items) }
 
     // What is left of a run that was broken off.
@@ -85,6 +87,6 @@ where
     };
     match SyncPoint::begin_reserved(alloc, entities, &mut logs, out) {
         Ok(point) => Ok(point),
-        Err(Memory) => Err(HandedBack::new(logs, LogError::Unborn)),
+        Err(Memory) => Err(HandedBack::new(logs, RunError::Unborn)),
     }
 }

@@ -371,8 +371,8 @@ mod systems {
         });
         let ran = ran.load(Ordering::Relaxed);
         match done {
-            Err(LogError::Memory) => assert_eq!(ran, 0),
-            Err(LogError::Lost(None)) => assert!((1..1_100).contains(&ran)),
+            Err(RunError::Memory) => assert_eq!(ran, 0),
+            Err(RunError::Lost(None)) => assert!((1..1_100).contains(&ran)),
             Ok(()) => assert_eq!(ran, 1_100),
             Err(other) => panic!("{other}"),
         }
