@@ -1,7 +1,7 @@
 // Made of crates/ent_runner/specs by .ci/contracts.py. It isn't edited by hand.
 
 //! The definitions of crate `ent_runner`, in the order in which one reads them:
-//! [`runs`], [`frame`], [`logs`], [`blocks_filling`], [`blocks`], [`blocks_queues`], [`blocks_refusing`].
+//! [`runs`], [`frame`], [`logs`], [`blocks_filling`], [`blocks`], [`blocks_queues`], [`blocks_refusing`], [`run_errors`].
 
 #[doc(alias("AreRun", "HasReturned", "StopShort", "first_some"))]
 /// Which systems workers have run, and how far the systems came if they were broken off.
@@ -249,7 +249,7 @@ pub mod blocks {}
 /// </pre>
 pub mod blocks_queues {}
 
-#[doc(alias("IfLost", "IfNotLost", "IsRefused"))]
+#[doc(alias("IsRefused"))]
 /// When systems in blocks are refused before any of them runs, as one fact: each field is a clause of `fill_in_blocks` and `run_in_blocks`.
 ///
 /// <pre>
@@ -266,26 +266,30 @@ pub mod blocks_queues {}
 ///       ↔ ((0 &lt; workers) × (workers ≤ 64) × (systems ≤ 2 ^ 16) × (reservers ≡ systems)
 ///       × ¬ AreOf)
 /// </pre>
+pub mod blocks_refusing {}
+
+#[doc(alias("IfLost", "IfNotLost", "IsOfBlocks"))]
+/// How a run of systems fails.
 ///
 /// <pre>
 /// -- what holds if the systems were broken off, with this error if there is one
 /// abbrev pub <b id="IfLost">IfLost</b> : {E : Type 0} → (<a href="../../logic/index.html#Option">Option</a> E → Type 0) → RunError E → Type 0
-/// <a href="#IfLost">IfLost</a> P failed.Workers = Unit {0}
-/// <a href="#IfLost">IfLost</a> P failed.Systems = Unit {0}
-/// <a href="#IfLost">IfLost</a> P failed.Reservers = Unit {0}
-/// <a href="#IfLost">IfLost</a> P failed.OtherPhase = Unit {0}
-/// <a href="#IfLost">IfLost</a> P failed.Memory = Unit {0}
 /// <a href="#IfLost">IfLost</a> P (failed.Lost error) = P error
+/// <a href="#IfLost">IfLost</a> P _ = Unit {0}
 /// </pre>
 ///
 /// <pre>
 /// -- what holds of another error
 /// abbrev pub <b id="IfNotLost">IfNotLost</b> : {E : Type 0} → Type 0 → RunError E → Type 0
-/// <a href="#IfNotLost">IfNotLost</a> P failed.Workers = P
-/// <a href="#IfNotLost">IfNotLost</a> P failed.Systems = P
-/// <a href="#IfNotLost">IfNotLost</a> P failed.Reservers = P
-/// <a href="#IfNotLost">IfNotLost</a> P failed.OtherPhase = P
-/// <a href="#IfNotLost">IfNotLost</a> P failed.Memory = P
 /// <a href="#IfNotLost">IfNotLost</a> P (failed.Lost error) = Unit {0}
+/// <a href="#IfNotLost">IfNotLost</a> P _ = P
 /// </pre>
-pub mod blocks_refusing {}
+///
+/// <pre>
+/// -- an error of a run in blocks
+/// abbrev pub <b id="IsOfBlocks">IsOfBlocks</b> : {E : Type 0} → RunError E → Type 0
+/// <a href="#IsOfBlocks">IsOfBlocks</a> failed.NeedsFlush = ⊥
+/// <a href="#IsOfBlocks">IsOfBlocks</a> failed.Unborn = ⊥
+/// <a href="#IsOfBlocks">IsOfBlocks</a> _ = Unit {0}
+/// </pre>
+pub mod run_errors {}

@@ -5,6 +5,5 @@
 
 pub(super) mod filling;
 pub(super) mod room;
-pub(super) mod run_error;
 pub(super) mod running;
 mod splitting;

@@ -3,13 +3,12 @@
 //! Logs that systems fill side by side, over an allocator of the caller's.
 
 pub(super) mod beginning;
-pub(super) mod log_error;
 pub(super) mod system;
 
 use alloc::vec::Vec;
 use crate::running::crew::{Crew, first_error};
-use crate::running::logs::log_error::LogError;
 use crate::running::logs::system::LogSystem;
+use crate::running::run_error::RunError;
 use crate::running::stage::SharedStage;
 use crate::running::systems::Loggers;
 use crate::allocator::{Entities, Limits};
@@ -35,9 +34,9 @@ const SYSTEMS: usize = 65_536;
 ///
 /// It is the first of these that holds.
 ///
-/// - [`LogError::NeedsFlush`], [`LogError::Workers`], [`LogError::Systems`], [`LogError::Memory`]:
+/// - [`RunError::NeedsFlush`], [`RunError::Workers`], [`RunError::Systems`], [`RunError::Memory`]:
 ///   no system ran, and the allocator is as it was.
-/// - [`LogError::Lost`]: a system returned an error, and this has the first one in the order of the
+/// - [`RunError::Lost`]: a system returned an error, and this has the first one in the order of the
 ///   systems. Or some systems didn't run, since no worker has memory for the log of another one:
 ///   then it has none. The logs are dropped. What the systems that ran had reserved stays reserved,
 ///   and nothing else is: [`Entities::flush`] brings it to life.
@@ -53,21 +52,22 @@ const SYSTEMS: usize = 65_536;
 /// ensures reserved { [IfOk](crate::contracts::logic#IfOk) result (λ logs. [first_unreserved](crate::contracts::ent_log::logs#first_unreserved) entities.new.allocator
 /// &#9;([spawned_in](crate::contracts::ent_log::logs#spawned_in) ([entries_of](crate::contracts::ent_log::logs#entries_of) logs.items)) ≡ [None](crate::contracts::logic#None)) }
 /// &#32;
-/// ensures needs_flush { [IsErrOf](crate::contracts::logic#IsErrOf) result LogError.NeedsFlush
+/// ensures needs_flush { [IsErrOf](crate::contracts::logic#IsErrOf) result RunError.NeedsFlush
 /// &#9;↔ (0 \< entities.old.allocator.asked) }
-/// ensures no_crew { [IsErrOf](crate::contracts::logic#IsErrOf) result LogError.Workers
+/// ensures no_crew { [IsErrOf](crate::contracts::logic#IsErrOf) result RunError.Workers
 /// &#9;↔ ((entities.old.allocator.asked ≡ 0) × ((workers ≡ 0) ⊎ (64 \< workers))) }
-/// ensures too_many { [IsErrOf](crate::contracts::logic#IsErrOf) result LogError.Systems
+/// ensures too_many { [IsErrOf](crate::contracts::logic#IsErrOf) result RunError.Systems
 /// &#9;↔ ((entities.old.allocator.asked ≡ 0) × (0 \< workers) × (workers ≤ 64)
 /// &#9;× (2 ^ 16 \< [length](crate::contracts::logic#length) systems.now)) }
-/// ensures memory_some { [IsErrOf](crate::contracts::logic#IsErrOf) result LogError.Memory → 0 \< [length](crate::contracts::logic#length) systems.now }
-/// ensures nothing { [IfErr](crate::contracts::logic#IfErr) result ([IfNotLost](crate::contracts::ent_runner::logs#IfNotLost) (entities.new ≡ entities.old)) }
+/// ensures memory_some { [IsErrOf](crate::contracts::logic#IsErrOf) result RunError.Memory → 0 \< [length](crate::contracts::logic#length) systems.now }
+/// ensures nothing { [IfErr](crate::contracts::logic#IfErr) result ([IfNotLost](crate::contracts::ent_runner::run_errors#IfNotLost) (entities.new ≡ entities.old)) }
 /// &#32;
 /// // What is left of a run that was broken off.
-/// ensures lost { [IfErr](crate::contracts::logic#IfErr) result ([IfLost](crate::contracts::ent_runner::logs#IfLost) ([IsBrokenOff](crate::contracts::ent_runner::logs#IsBrokenOff) S.may_log S.may_leave systems.now workers
+/// ensures lost { [IfErr](crate::contracts::logic#IfErr) result ([IfLost](crate::contracts::ent_runner::run_errors#IfLost) ([IsBrokenOff](crate::contracts::ent_runner::logs#IsBrokenOff) S.may_log S.may_leave systems.now workers
 /// &#9;entities.old.allocator entities.new.allocator)) }
-/// ensures lost_some { [IfErr](crate::contracts::logic#IfErr) result ([IfLost](crate::contracts::ent_runner::logs#IfLost) (λ \_. 0 \< [length](crate::contracts::logic#length) systems.now)) }
-/// ensures unborn { result ≢ [Err](crate::contracts::logic#Err) LogError.Unborn }
+/// ensures lost_some { [IfErr](crate::contracts::logic#IfErr) result ([IfLost](crate::contracts::ent_runner::run_errors#IfLost) (λ \_. 0 \< [length](crate::contracts::logic#length) systems.now)) }
+/// ensures unborn { result ≢ [Err](crate::contracts::logic#Err) RunError.Unborn }
+/// ensures of_allocator { [IfErr](crate::contracts::logic#IfErr) result [IsOfAllocator](crate::contracts::ent_runner::run_errors#IsOfAllocator) }
 /// </code>
 ///
 /// </details>
@@ -77,7 +77,7 @@ pub fn run_logs<R, C, S, E>(
     entities: &mut Entities,
     systems: &[S],
     workers: usize,
-) -> Result<Vec<Log<C>>, LogError<E>>
+) -> Result<Vec<Log<C>>, RunError<E>>
 where
     R: Join + Sync,
     C: Send,
@@ -85,26 +85,26 @@ where
     E: Send,
 {
     if entities.needs_flush() {
-        return Err(LogError::NeedsFlush);
+        return Err(RunError::NeedsFlush);
     }
     if workers == 0 || workers > WORKERS {
-        return Err(LogError::Workers);
+        return Err(RunError::Workers);
     }
     if systems.len() > SYSTEMS {
-        return Err(LogError::Systems);
+        return Err(RunError::Systems);
     }
     if systems.is_empty() {
         return Ok(Vec::new());
     }
     let Ok(crew) = Crew::new(systems.len(), workers) else {
-        return Err(LogError::Memory);
+        return Err(RunError::Memory);
     };
     let flushed = mem::replace(entities, Entities::with_exact_limits(Limits::default_limits()));
     let (shared, mut reservers) = match share(flushed, workers) {
         Ok(made) => made,
         Err((flushed, _)) => {
             *entities = flushed;
-            return Err(LogError::Memory);
+            return Err(RunError::Memory);
         }
     };
     let loggers = Loggers { systems };
@@ -118,6 +118,6 @@ where
     *entities = shared.close(reservers);
     match logs {
         Ok(logs) => Ok(logs),
-        Err(left) => Err(LogError::Lost(first_error(left))),
+        Err(left) => Err(RunError::Lost(first_error(left))),
     }
 }

@@ -87,13 +87,14 @@ use crate::kit::thread::Join;
 /// ensures same { reservers.new ≡ [returned](crate::contracts::ent_total::lending#returned) reservers.old ([reservers_of](crate::contracts::ent_total::phases#reservers_of) reservers.new) }
 /// ensures refused { [IsRefused](crate::contracts::ent_runner::blocks_refusing#IsRefused) workers ([length](crate::contracts::logic#length) systems.now) ([length](crate::contracts::logic#length) reservers.old)
 /// &#9;([AreOf](crate::contracts::ent_total::phases#AreOf) phase.now.number reservers.old) (λ why. [IsErrOf](crate::contracts::logic#IsErrOf) result why) }
+/// ensures of_blocks { [IfErr](crate::contracts::logic#IfErr) result [IsOfBlocks](crate::contracts::ent_runner::run_errors#IsOfBlocks) }
 /// ensures memory_some { [IsErrOf](crate::contracts::logic#IsErrOf) result failed.Memory → 0 \< [length](crate::contracts::logic#length) systems.now }
-/// ensures as_they_were { [IfErr](crate::contracts::logic#IfErr) result ([IfNotLost](crate::contracts::ent_runner::blocks_refusing#IfNotLost) (reservers.new ≡ reservers.old)) }
+/// ensures as_they_were { [IfErr](crate::contracts::logic#IfErr) result ([IfNotLost](crate::contracts::ent_runner::run_errors#IfNotLost) (reservers.new ≡ reservers.old)) }
 /// &#32;
 /// // What is left if the systems were broken off.
-/// ensures lost { [IfErr](crate::contracts::logic#IfErr) result ([IfLost](crate::contracts::ent_runner::blocks_refusing#IfLost) ([IsBrokenOff](crate::contracts::ent_runner::blocks#IsBrokenOff) T.may_log T.may_leave systems.now workers
+/// ensures lost { [IfErr](crate::contracts::logic#IfErr) result ([IfLost](crate::contracts::ent_runner::run_errors#IfLost) ([IsBrokenOff](crate::contracts::ent_runner::blocks#IsBrokenOff) T.may_log T.may_leave systems.now workers
 /// &#9;(S.of phase.now.source).start.pool ([blocks_of](crate::contracts::ent_blocks::blocks#blocks_of) ([reservers_of](crate::contracts::ent_total::phases#reservers_of) reservers.old)))) }
-/// ensures used_up { [IfErr](crate::contracts::logic#IfErr) result ([IfLost](crate::contracts::ent_runner::blocks_refusing#IfLost) (λ \_. reservers.new ≡ [map](crate::contracts::logic#map) [lent_out](crate::contracts::ent_total::lending#lent_out) reservers.old)) }
+/// ensures used_up { [IfErr](crate::contracts::logic#IfErr) result ([IfLost](crate::contracts::ent_runner::run_errors#IfLost) (λ \_. reservers.new ≡ [map](crate::contracts::logic#map) [lent_out](crate::contracts::ent_total::lending#lent_out) reservers.old)) }
 /// </code>
 ///
 /// </details>

@@ -2,11 +2,11 @@
 
 use alloc::vec::Vec;
 use crate::running::blocks::room::{Room, WORKERS, check_run, prepare};
-use crate::running::blocks::run_error::RunError;
 use crate::running::blocks::splitting::split;
 use crate::running::crew::first_error;
 use crate::running::frame::gate::NoGate;
 use crate::running::frame::system::System;
+use crate::running::run_error::RunError;
 use crate::running::stage::BlockStage;
 use crate::running::systems::Issuers;
 use crate::in_blocks::{BlockReserver, Blocks};
@@ -60,6 +60,7 @@ where
     //     ↔ ((0 < workers) × (workers ≤ 64) × (length systems.now ≤ 2 ^ 16)
     //     × (length reservers.items ≢ length systems.now)) }
     // ensures not_other { IfErr result (λ h. h.error ≢ failed.OtherPhase) }
+    // ensures of_blocks { IfErr result (λ h. IsOfBlocks h.error) }
     // ensures memory_some { IsErrAnd result (λ h. h.error ≡ failed.Memory)
     //     → 0 < length systems.now }
     // ensures handed_back { IfErr result (λ h.

@@ -5,8 +5,8 @@
 
 use alloc::vec::Vec;
 use crate::kit::vec::FallibleVec;
-use crate::running::blocks::run_error::RunError;
 use crate::running::crew::Crew;
+use crate::running::run_error::RunError;
 use crate::in_blocks::BlockReserver;
 use crate::handles::OutOfMemory;
 
@@ -45,7 +45,8 @@ pub(super) struct Room<O, E> {
 /// &#9;× (reservers ≢ systems)) }
 /// ensures not_other { ¬ ([IsErrOf](crate::contracts::logic#IsErrOf) result failed.OtherPhase) }
 /// ensures not_memory { ¬ ([IsErrOf](crate::contracts::logic#IsErrOf) result failed.Memory) }
-/// ensures not_lost { [IfErr](crate::contracts::logic#IfErr) result ([IfLost](crate::contracts::ent_runner::blocks_refusing#IfLost) (λ \_. ⊥)) }
+/// ensures not_lost { [IfErr](crate::contracts::logic#IfErr) result ([IfLost](crate::contracts::ent_runner::run_errors#IfLost) (λ \_. ⊥)) }
+/// ensures of_blocks { [IfErr](crate::contracts::logic#IfErr) result [IsOfBlocks](crate::contracts::ent_runner::run_errors#IsOfBlocks) }
 /// </code>
 ///
 /// </details>

@@ -3,9 +3,9 @@
 //! Systems fill logs, and the sync point of these logs begins.
 
 use alloc::vec::Vec;
-use crate::running::logs::log_error::LogError;
 use crate::running::logs::run_logs;
 use crate::running::logs::system::LogSystem;
+use crate::running::run_error::RunError;
 use crate::allocator::Entities;
 use crate::handles::{HandedBack, Handle, OutOfMemory};
 use crate::logs::{Log, SyncPoint};
@@ -25,7 +25,7 @@ use crate::kit::thread::Join;
 /// applies. The list is as it was.
 ///
 /// - Those of [`run_logs`]. There are no logs.
-/// - [`LogError::Unborn`]: all systems ran, and there isn't enough memory for what is born. The
+/// - [`RunError::Unborn`]: all systems ran, and there isn't enough memory for what is born. The
 ///   logs are those of all systems, for [`SyncPoint::begin`]. What the systems reserved stays
 ///   reserved.
 ///
@@ -46,14 +46,15 @@ use crate::kit::thread::Join;
 /// ensures memory_some { [IsErrAnd](crate::contracts::logic#IsErrAnd) result (λ h. h.error ≡ failed.Memory)
 /// &#9;→ 0 \< [length](crate::contracts::logic#length) systems.now }
 /// ensures nothing { [IfErr](crate::contracts::logic#IfErr) result (λ h. h.error ≢ failed.Unborn
-/// &#9;→ [IfNotLost](crate::contracts::ent_runner::logs#IfNotLost) (entities.new ≡ entities.old) h.error) }
+/// &#9;→ [IfNotLost](crate::contracts::ent_runner::run_errors#IfNotLost) (entities.new ≡ entities.old) h.error) }
 /// ensures none { [IfErr](crate::contracts::logic#IfErr) result (λ h. h.error ≢ failed.Unborn → h.value.items ≡ \[\]) }
+/// ensures of_allocator { [IfErr](crate::contracts::logic#IfErr) result (λ h. [IsOfAllocator](crate::contracts::ent_runner::run_errors#IsOfAllocator) h.error) }
 /// ensures unlisted { [OnErr](crate::contracts::logic#OnErr) result (out.new.items ≡ out.old.items) }
 /// &#32;
 /// // What is left of a run that was broken off.
-/// ensures lost { [IfErr](crate::contracts::logic#IfErr) result (λ h. [IfLost](crate::contracts::ent_runner::logs#IfLost) ([IsBrokenOff](crate::contracts::ent_runner::logs#IsBrokenOff) S.may_log S.may_leave systems.now workers
+/// ensures lost { [IfErr](crate::contracts::logic#IfErr) result (λ h. [IfLost](crate::contracts::ent_runner::run_errors#IfLost) ([IsBrokenOff](crate::contracts::ent_runner::logs#IsBrokenOff) S.may_log S.may_leave systems.now workers
 /// &#9;entities.old.allocator entities.new.allocator) h.error) }
-/// ensures lost_some { [IfErr](crate::contracts::logic#IfErr) result (λ h. [IfLost](crate::contracts::ent_runner::logs#IfLost) (λ \_. 0 \< [length](crate::contracts::logic#length) systems.now) h.error) }
+/// ensures lost_some { [IfErr](crate::contracts::logic#IfErr) result (λ h. [IfLost](crate::contracts::ent_runner::run_errors#IfLost) (λ \_. 0 \< [length](crate::contracts::logic#length) systems.now) h.error) }
 /// &#32;
 /// // What holds if only what was reserved isn\'t born.
 /// ensures unborn { [IfErr](crate::contracts::logic#IfErr) result (λ h. h.error ≡ failed.Unborn → [HaveLogged](crate::contracts::ent_runner::logs#HaveLogged) S.may_log systems.now
@@ -73,7 +74,7 @@ pub fn run_to_sync_point<R, C, S, E>(
     systems: &[S],
     workers: usize,
     out: &mut Vec<Handle>,
-) -> Result<SyncPoint<C>, HandedBack<Vec<Log<C>>, LogError<E>>>
+) -> Result<SyncPoint<C>, HandedBack<Vec<Log<C>>, RunError<E>>>
 where
     R: Join + Sync,
     C: Send,
@@ -86,6 +87,6 @@ where
     };
     match SyncPoint::begin_reserved(entities, &mut logs, out) {
         Ok(point) => Ok(point),
-        Err(OutOfMemory) => Err(HandedBack::new(logs, LogError::Unborn)),
+        Err(OutOfMemory) => Err(HandedBack::new(logs, RunError::Unborn)),
     }
 }
