@@ -196,7 +196,7 @@ fn parts_are_found_by_their_keys_and_places() {
 
 #[test]
 fn out_of_memory_is_said() {
-    for text in ["[1]", "{\"a\":1}", "\"a\"", "1"] {
+    for text in ["[1]", "{\"a\":1}", "\"a\"", "\"\\n\""] {
         let refused = refuse(|| Value::from_slice(text.as_bytes())).expect_err("no memory");
         assert_eq!(
             (refused.is_memory(), refused.to_string()),
