@@ -42,7 +42,7 @@ pub enum RunError<E = Memory> {
     /// Handles were requested since the last flush. No system ran, and the allocator is as it was.
     /// Only a run over an allocator returns it.
     NeedsFlush,
-    /// The number of workers isn't one from 1 to 64. No system ran.
+    /// The number of workers isn't one from 1 to 64. No system ran, and nothing has changed.
     Workers,
     /// There are more than 65,536 systems. None of them ran.
     Systems,
@@ -50,7 +50,7 @@ pub enum RunError<E = Memory> {
     Reservers,
     /// One of the reservers is of another phase. Only a run in blocks returns it.
     OtherPhase,
-    /// Memory ran out before any system ran. The allocator is as it was.
+    /// Memory ran out before any system ran. The allocator and the reservers are as they were.
     Memory,
     /// A system returned an error, and this is the first one in the order of the systems. Without
     /// one, some systems didn't run, since no worker has memory for another one. The logs or
