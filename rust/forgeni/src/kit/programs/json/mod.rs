@@ -81,8 +81,7 @@ pub struct Reader<'a> {
 
 impl<'a> Reader<'a> {
     /// The contract: a reader of all tokens of the text, or an `Err` if the scratch can't grow to
-    /// the length of the text. A text without a backslash needs no
-    /// scratch.
+    /// the length of the text. A text without a backslash needs no scratch.
     pub fn new(text: &'a str, scratch: &'a mut Scratch) -> Result<Self, AllocError> {
         if scratch.text.len() < text.len() && text.as_bytes().contains(&b'\\') {
             scratch.text.resize_fallibly(text.len(), 0)?;
