@@ -1,4 +1,4 @@
-ghost use Rattle.std.specs.Prelude.{◌≡◌, ◌↔◌, ◌<◌, ℕ, List, All, IsTrue, length};
+ghost use Rattle.std.specs.Prelude.{◌≡◌, ◌↔◌, ◌≤◌, ℕ, List, All, IsTrue, length};
 ghost use Rattle.ent_alloc.specs.Entities.{Entities as EntitiesValue};
 
 use crate::entities::Entities;
@@ -65,5 +65,6 @@ pub trait Phased: Source + Drop {
     fn end_with_some(self, reservers: Vec<Self::Reserver>) -> Self::Closed
         requires own { All (Self.serves self) reservers.items }
         requires takes { takes self reservers.items }
+        requires few { length reservers.items ≤ count self }
         ensures { closes_lost self reservers.items result };
 }

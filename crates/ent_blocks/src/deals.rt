@@ -13,23 +13,20 @@ use std::alloc::Global;
 /// block, and [`Overflow`](forgeni::Overflow), whose reservers go on to handles that all share.
 ///
 /// ```
-/// use forgeni::{Blocks, Deals, Entities};
+/// use forgeni::{Deals, Entities, Phase, Reserver};
 ///
-/// /// What blocks of either kind end with.
-/// fn past<S: Deals>(closed: S::Closed) -> u64 {
-///     S::into_ended(closed).requested_past()
+/// /// Ends a phase in blocks of either kind, if all of its reservers are there.
+/// fn end<S: Deals>(phase: Phase<S>, all: Vec<Reserver<S>>) -> Option<Entities> {
+///     phase.close(all).ok()?.into_entities().ok()
 /// }
 ///
 /// let (phase, reservers) = Entities::new().share_in_blocks(&[10])?;
-/// assert_eq!(past::<Blocks>(phase.close(reservers)?), 0);
+/// assert!(end(phase, reservers).is_some());
 /// # Ok::<(), Box<dyn std::error::Error + Send + Sync>>(())
 /// ```
-pub trait Deals: InBlocks {
+pub trait Deals: InBlocks<Closed = Ended> {
     /// Whether there may be so many blocks.
     ghost may_have: { ℕ → Type 0 };
-
-    /// What a phase ended with.
-    ghost ended: { Self.Closed → EndedValue };
 
     /// Returns `true` if there may be so many blocks.
     fn fits(count: usize) -> bool
@@ -62,20 +59,16 @@ pub trait Deals: InBlocks {
         ensures fresh { IfOk result (λ made. All Self.fresh made.1.items) }
         ensures err { IfErr result (λ refused. refused.0 ≡ entities) };
 
-    /// What a phase ended with.
-    fn into_ended(closed: Self::Closed) -> Ended
-        ensures { result ≡ ended closed };
-
     // A phase that has ended began with the same allocator.
-    ghost start_is: { (s : Self) (all : List Self.Reserver) (c : Self.Closed)
-        → Self.Phased.closes s all c → (ended c).phase.start ≡ Self.Source.start s };
+    ghost start_is: { (s : Self) (all : List Self.Reserver) (c : EndedValue)
+        → Self.Phased.closes s all c → c.phase.start ≡ Self.Source.start s };
 
-    ghost start_lost_is: { (s : Self) (all : List Self.Reserver) (c : Self.Closed)
-        → Self.Phased.closes_lost s all c → (ended c).phase.start ≡ Self.Source.start s };
+    ghost start_lost_is: { (s : Self) (all : List Self.Reserver) (c : EndedValue)
+        → Self.Phased.closes_lost s all c → c.phase.start ≡ Self.Source.start s };
 
-    ghost rows_lost_are: { (s : Self) (all : List Self.Reserver) (c : Self.Closed)
-        → Self.Phased.closes_lost s all c → (ended c).phase.rows ≡ Self.Source.rows s };
+    ghost rows_lost_are: { (s : Self) (all : List Self.Reserver) (c : EndedValue)
+        → Self.Phased.closes_lost s all c → c.phase.rows ≡ Self.Source.rows s };
 
-    ghost rows_are: { (s : Self) (all : List Self.Reserver) (c : Self.Closed)
-        → Self.Phased.closes s all c → (ended c).phase.rows ≡ Self.Source.rows s };
+    ghost rows_are: { (s : Self) (all : List Self.Reserver) (c : EndedValue)
+        → Self.Phased.closes s all c → c.phase.rows ≡ Self.Source.rows s };
 }

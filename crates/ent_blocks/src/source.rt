@@ -124,8 +124,6 @@ impl Deals for Blocks {
 
     ghost may_have = { λ _. Unit {0} };
 
-    ghost ended = { λ ended. ended };
-
     ghost start_is = { λ phase reservers ended is. rw is.is refl };
 
     ghost start_lost_is = { λ phase reservers ended is. rw is refl };
@@ -144,9 +142,5 @@ impl Deals for Blocks {
         sizes: &[u32],
     ) -> Result<(Self, Vec<BlockReserver>), (Entities, Memory)> {
         open_in_blocks(alloc, entities, sizes)
-    }
-
-    fn into_ended(closed: Ended) -> Ended {
-        closed
     }
 }

@@ -127,8 +127,6 @@ impl Deals for Overflow {
 
     ghost may_have = { λ count. count < 1024 };
 
-    ghost ended = { λ ended. ended };
-
     ghost start_is = { λ phase callers ended is. is.start };
 
     ghost start_lost_is = { λ phase callers ended is. is.start };
@@ -147,9 +145,5 @@ impl Deals for Overflow {
         sizes: &[u32],
     ) -> Result<(Self, Vec<OverflowReserver>), (Entities, Memory)> {
         open_with_overflow(alloc, entities, sizes)
-    }
-
-    fn into_ended(closed: Ended) -> Ended {
-        closed
     }
 }
