@@ -24,7 +24,7 @@ CRATES = {
     "ent_log": "",
     "ent_runner": "",
     "ent_replay": "pub struct Log;\n",
-    "ent_total": "pub struct Commands;\npub struct Reserver;\n",
+    "ent_total": "pub struct Reserver;\n",
 }
 CASE = "ent_runner"
 KEYS = ("edition: ", "refused: ", "erased: ")

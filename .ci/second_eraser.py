@@ -141,7 +141,7 @@ READS, WITHOUT_METHODS = {"beyond", "cursor"}, {"", "either::Either"}
 # Types with a layout of their own, the one of which the results derive the equality, and those of
 # data, which derives more in the results.
 LAYOUTS = dict.fromkeys(
-    named("ent_blocks: BlockReserver; ent_replay: Log; ent_total: Commands Reserver"),
+    named("ent_blocks: BlockReserver; ent_replay: Log; ent_total: Reserver"),
     "#[repr(align(128))]",
 )
 LAYOUTS |= {"ent_handle::Handle": "#[repr(transparent)]"}

@@ -6,8 +6,10 @@ pub use Rattle.std.proofs.Common.{drop, subst, sym, take, vec_len, ℕ, ◌++◌
 pub use Rattle.std.proofs.Common.{◌∷◌, ◌≡◌, ◌≢◌, ◌≤◌, ◌⊎◌}
 pub use Rattle.std.proofs.lemmas.Grind.{common_steps}
 pub use Rattle.std.proofs.lemmas.List.{append-nil, length-append, length-take-le, map-append}
-pub use Rattle.std.proofs.lemmas.List.{nil_from_length, take-append-drop, take_all, take_at}
-pub use Rattle.std.proofs.lemmas.List.Elements.{All-head, All-more, All-push, All-same, All-tail}
+pub use Rattle.std.proofs.lemmas.List.{nil_from_length, reverse-reverse, take-append-drop}
+pub use Rattle.std.proofs.lemmas.List.{take_all, take_at}
+pub use Rattle.std.proofs.lemmas.List.Elements.{All-head, All-map, All-more, All-push, All-same}
+pub use Rattle.std.proofs.lemmas.List.Elements.{All-tail}
 pub use Rattle.std.specs.Prelude.{IfOk, IsErrOf, OnErr, Option, Some, vec_capacity}
 pub use Rattle.ent_alloc.specs.History.{after_history}
 pub use Rattle.ent_alloc.specs.Sequential.{Allocator, listed_alone}
@@ -26,10 +28,9 @@ pub use Rattle.ent_handle.specs.Bytes.{word}
 pub use Rattle.ent_world.proofs.ImageRead.{bounded as world_bounded, read_is, refused_is}
 pub use Rattle.ent_world.specs.FirstFault.{HasFault, MayTakeMemory}
 pub use Rattle.ent_world.specs.Image.{HasImage, image as world_image, least, magic}
-pub use Rattle.ent_world.specs.OpenWorld.{OpenWorld}
 pub use Rattle.ent_world.specs.World.{World as WorldValue}
 pub use Rattle.ent_world.specs.declared.image_fault.WorldImageFault.{WorldImageFault}
 pub use Rattle.ent_world.specs.declared.image_fault.WorldImageFault.TheVariants.{Memory}
 pub use Rattle.ent_total.specs.Image.{before_count, image}
-pub use Rattle.ent_total.specs.Issuing.{AreCommandsOf, AreNew, Commands, IsRefused, issued, issuing}
+pub use Rattle.ent_total.specs.Issuing.{Commands, IsRefused}
 pub use Rattle.ent_total.specs.Phases.{AreOf, all_returned, reservers_of}

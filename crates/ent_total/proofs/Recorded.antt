@@ -6,11 +6,11 @@ use Rattle.ent_total.proofs.Common.{Refused, Space, Quota, handles_given, Shared
 use Rattle.ent_total.proofs.Common.{given_more, given_no_more, ReserveError, IsReturned, IsRefused}
 use Rattle.ent_total.proofs.Common.{queued, as_list}
 use Rattle.ent_queue.proofs.Gaining.{gains_added}
-use Rattle.ent_queue.specs.Commands.{output_of, reserver_of}
+use Rattle.ent_queue.specs.Commands.{output_of, reserver_of as lent_to}
 use Rattle.ent_queue.specs.OfShared.{Issued}
 use Rattle.ent_queue.specs.OfShared as issued
 use Rattle.ent_shared.specs.Phase.{IsOf}
-use Rattle.ent_total.specs.Issuing.{Commands, Extends}
+use Rattle.ent_total.specs.Issuing.{Commands, Extends, queue_of, reserver_of, shared_of}
 use Rattle.ent_alloc.specs.declared.reserve_error.ReserveError.TheVariants as fault
 
 module _ (s : Shared) (b a : Reserver) where
@@ -52,16 +52,16 @@ module _ (s : Shared) (b a : Reserver) where
   recorded_one (Ok h) replies = given_more s b a 1 (h ∷ []) (replies (Ok h) refl)
   recorded_one (Err why) replies = tt
 
--- What a system issued of a phase.
+-- What a caller issued of a phase.
 pub extends_issued : (a b : Issued) → issued.Extends a b → (before after : Commands)
-    → after.number ≡ before.number → after.world ≡ before.world
-    → IsOf after.world.shared after.reserver → output_of a ≡ before.queue
-    → output_of b ≡ after.queue → reserver_of a ≡ before.reserver → reserver_of b ≡ after.reserver
-    → Extends before after
-extends_issued a b e before after number world ready queue_before queue_after reserver_before
+    → after.number ≡ before.number → after.source ≡ before.source
+    → IsOf (shared_of after) (reserver_of after) → output_of a ≡ queue_of before
+    → output_of b ≡ queue_of after → lent_to a ≡ reserver_of before
+    → lent_to b ≡ reserver_of after → Extends before after
+extends_issued a b e before after number source ready queue_before queue_after reserver_before
     reserver_after = record {
       number = number;
-      world = world;
+      source = source;
       ready = ready;
       added = e.adds.added;
       queue = rw (queue_before, queue_after) at e.adds.queue;

@@ -1,8 +1,10 @@
 -- An allocator that was shared, and from which nobody reserved, is as it was.
 use Rattle.ent_total.proofs.Common.{rules, ◌≡◌, List, [], ◌∷◌, refl, All, All-head, All-tail}
 use Rattle.ent_total.proofs.Common.{Allocator, after_history, Reserver, records_of, own_of_all}
-use Rattle.ent_total.proofs.Common.{history_of}
+use Rattle.ent_total.proofs.Common.{history_of, map, All-map}
 use Rattle.ent_alloc.specs.Entities.{Entities}
+use Rattle.ent_total.specs.Issuing.{new_issuer, reservers_in}
+use Rattle.ent_total.specs.declared.issuer.Issuer.{Issuer}
 use Rattle.ent_total.specs.declared.world.World.{World}
 
 abbrev IsUnused : Reserver → Type 0
@@ -27,3 +29,18 @@ pub same_world : (a b : World) → a.world ≡ b.world → a.number ≡ b.number
     → a ≡ b
 same_world a b worlds numbers spawned =
     λ i. record { world = worlds i; number = numbers i; spawned = spawned i }
+
+-- callers that were given an empty queue each
+pub reservers-new : (rs : List Reserver) → reservers_in (map new_issuer rs) ≡ rs
+reservers-new [] = refl
+reservers-new (r ∷ rs) = search (rules, reservers-new rs)
+
+pub none_issued : (rs : List Reserver)
+    → All (λ (c : Issuer). c.queue ≡ []) (map new_issuer rs)
+none_issued [] = search rules
+none_issued (r ∷ rs) = search (rules, none_issued rs)
+
+-- What they reserve with is unused if it is of each of them.
+pub unused_reservers : (cs : List Issuer)
+    → All (λ (c : Issuer). c.reserver.own.entries ≡ []) cs → All IsUnused (reservers_in cs)
+unused_reservers cs unused = All-map IsUnused (λ (c : Issuer). c.reserver) cs unused

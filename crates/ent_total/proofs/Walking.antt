@@ -8,6 +8,10 @@ pub one_phase : {X : Type 0} (of : ℕ → Option X) (m n : ℕ) (a b : X) → m
 one_phase of m n a b same first second = grind (arith, common_steps, same, first, second)
 
 module _ {X : Type 0} (yielded : List X) (x : X) where
+  pub went_on : (old rest : List X) → old ≡ x ∷ rest → (all : List X) → yielded ++ old ≡ all
+      → ((yielded ++ x ∷ []) ++ rest ≡ all) × (length old ≡ length rest + 1)
+  went_on old rest front all e = search (rules, arith, append_assoc)
+
   pub walked : (old rest : List X) → old ≡ x ∷ rest → (all : List X) → yielded ++ old ≡ all
       → (P : X → Type 0) → All P old
       → ((yielded ++ x ∷ []) ++ rest ≡ all) × P x × All P rest × (length old ≡ length rest + 1)

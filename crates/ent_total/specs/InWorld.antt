@@ -24,12 +24,10 @@ pub record EndedWorld : Type 0 where
 abbrev pub view_in : {S : Type 0} → InWorld S → View
 view_in w = record { phase = w.rest.phase; entities = w.rest.store.entities }
 
--- The phase of the world ended so, with a source that ended as this says.
-pub record IsEndOf {S C : Type 0} (w : InWorld S) (end : EndedWorld) (Closes : C → Type 0)
-    (ended_of : C → Ended) : Type 0 where
-  pub closed : C
-  pub closes : Closes closed
-  pub ended : end.ended ≡ ended_of closed
+-- The phase of the world ended so: what it ended with is this of its source.
+pub record IsEndOf {S : Type 0} (w : InWorld S) (end : EndedWorld) (Closes : Ended → Type 0)
+    : Type 0 where
+  pub closes : Closes end.ended
   pub rest : end.rest ≡ w.rest
   pub of_world : end.of_world ≡ w.of_world
   pub spawned : end.spawned ≡ w.spawned

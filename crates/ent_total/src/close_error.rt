@@ -1,7 +1,7 @@
 use thiserror::Error;
 
-/// Why a phase of an allocator or of a world was not closed. A caller of a phase has a reserver or
-/// [`Commands`](crate::Commands) of its own.
+/// Why a phase of an allocator or of a world was not closed. A caller of a phase has a
+/// [`Reserver`](crate::Reserver) of its own.
 ///
 /// ```
 /// use forgeni::{CloseError, Entities};

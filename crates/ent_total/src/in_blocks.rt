@@ -59,7 +59,7 @@ pub fn share_in<J: Numbering, S: Deals>(
     match begin(alloc, source, callers, reservers) {
         Ok(opening) => Ok(opening),
         Err((source, callers)) => {
-            let entities = S::into_ended(source.end_with_all(callers)).cancel();
+            let entities = source.end_with_all(callers).cancel();
             Err(HandedBack::new(entities, ShareError::Memory))
         }
     }

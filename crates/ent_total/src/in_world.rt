@@ -94,7 +94,7 @@ impl<S: Deals> Source for InWorld<S> {
 }
 
 impl<S: Deals> Phased for InWorld<S> {
-    ghost use Rattle.std.specs.Prelude.{◌≡◌, All, length};
+    ghost use Rattle.std.specs.Prelude.{◌≡◌, ◌≤◌, All, length};
     ghost use Rattle.ent_total.specs.InWorld.{IsEndOf};
 
     type Closed = EndedWorld;
@@ -104,10 +104,10 @@ impl<S: Deals> Phased for InWorld<S> {
     ghost takes = { λ w reservers. S.takes w.source reservers };
 
     ghost closes = { λ w reservers end.
-        IsEndOf w end (λ closed. S.closes w.source reservers closed) S.ended };
+        IsEndOf w end (S.closes w.source reservers) };
 
     ghost closes_lost = { λ w reservers end.
-        IsEndOf w end (λ closed. S.closes_lost w.source reservers closed) S.ended };
+        IsEndOf w end (S.closes_lost w.source reservers) };
 
     fn callers(&self) -> usize {
         self.dealt.dealer().callers()
@@ -125,8 +125,7 @@ impl<S: Deals> Phased for InWorld<S> {
         requires own { All (S.serves self.source) reservers.items }
         requires takes { S.takes self.source reservers.items }
         requires all { length reservers.items ≡ S.count self.source }
-        ensures { IsEndOf self result (λ closed. S.closes self.source reservers.items closed)
-            S.ended }
+        ensures { IsEndOf self result (S.closes self.source reservers.items) }
     {
         let InWorld {
             dealt,
@@ -135,7 +134,7 @@ impl<S: Deals> Phased for InWorld<S> {
         } = self;
         let (source, rest) = dealt.into_parts();
         EndedWorld {
-            ended: S::into_ended(source.end_with_all(reservers)),
+            ended: source.end_with_all(reservers),
             rest,
             of_world,
             spawned,
@@ -145,8 +144,8 @@ impl<S: Deals> Phased for InWorld<S> {
     fn end_with_some(self, reservers: Vec<S::Reserver>) -> EndedWorld
         requires own { All (S.serves self.source) reservers.items }
         requires takes { S.takes self.source reservers.items }
-        ensures { IsEndOf self result (λ closed. S.closes_lost self.source reservers.items closed)
-            S.ended }
+        requires few { length reservers.items ≤ S.count self.source }
+        ensures { IsEndOf self result (S.closes_lost self.source reservers.items) }
     {
         let InWorld {
             dealt,
@@ -155,7 +154,7 @@ impl<S: Deals> Phased for InWorld<S> {
         } = self;
         let (source, rest) = dealt.into_parts();
         EndedWorld {
-            ended: S::into_ended(source.end_with_some(reservers)),
+            ended: source.end_with_some(reservers),
             rest,
             of_world,
             spawned,

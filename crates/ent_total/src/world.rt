@@ -22,7 +22,7 @@ const NO_SYSTEM: u32 = 0xffff_ffff;
 /// The living entities and their components.
 ///
 /// A component is a number ([`ComponentId`]) and a value of 64 bits. Systems that run side by side
-/// don't touch the world: `open` gives each its [`Commands`](crate::Commands), and
+/// don't touch the world: `open` gives each a [`Reserver`](crate::Reserver), and
 /// [`apply`](World::apply) lets their queues take effect. Outside of phases, entities come and go
 /// at once ([`spawn`](World::spawn), [`despawn`](World::despawn)), and the components of a living
 /// entity change only by commands.
@@ -415,7 +415,7 @@ impl World {
     }
 
     /// Returns `true` if any handle was requested since the last flush. That is the case between
-    /// [`OpenWorld::close`](crate::OpenWorld::close) and [`apply`](World::apply), if a system has
+    /// [`Phase::close`](crate::Phase::close) and [`apply`](World::apply), if a system has
     /// spawned.
     ///
     /// ```

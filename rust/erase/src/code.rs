@@ -294,7 +294,9 @@ impl Walk<'_> {
             }
             self.need(at)?;
             let is_field = self.source.at(at + 1) == ":";
-            if !is_field && !self.is_known(name) {
+            // What a bound says of an associated type of the trait.
+            let is_bound = self.source.before(at) == "<" && self.source.at(at + 1) == "=";
+            if !is_field && !is_bound && !self.is_known(name) {
                 return Err(self.unknown_name(at));
             }
         }

@@ -452,8 +452,8 @@ pub const LAYOUTS: &[Layout] = &[
         name: "Handle",
         attribute: "#[repr(transparent)]",
     },
-    // A reservation writes the reserver, so two of them in a list share no line of a processor's
-    // cache.
+    // A reservation writes the reserver, and a command its queue, so two of them in a list share no
+    // line of a processor's cache.
     Layout {
         krate: "ent_blocks",
         name: "BlockReserver",
@@ -462,12 +462,6 @@ pub const LAYOUTS: &[Layout] = &[
     Layout {
         krate: "ent_total",
         name: "Reserver",
-        attribute: "#[repr(align(128))]",
-    },
-    // A command writes the queue, so two systems in a list share none either.
-    Layout {
-        krate: "ent_total",
-        name: "Commands",
         attribute: "#[repr(align(128))]",
     },
     // Each thread writes to a log of its own.

@@ -36,7 +36,7 @@
 //! 1 thread and 4 threads agree
 //! ```
 
-use forgeni::{Commands, ComponentId, Handle, Lent, OutOfMemory, ReserveError, World};
+use forgeni::{ComponentId, Handle, Lent, OpenWorld, OutOfMemory, ReserveError, Reserver, World};
 use std::error::Error;
 use std::fmt::Write;
 use std::thread;
@@ -72,7 +72,7 @@ const SYSTEMS: [System; 6] = [
 ];
 
 impl System {
-    fn run(self, commands: &mut Lent<'_, Commands>) -> Result<(), OutOfMemory> {
+    fn run(self, commands: &mut Lent<'_, OpenWorld>) -> Result<(), OutOfMemory> {
         match self {
             // The queue keeps a refusal, and the sync point reports it.
             System::Launch(count) => commands
@@ -90,11 +90,11 @@ impl System {
 }
 
 /// The projectiles, by birth.
-fn projectiles(commands: &Commands) -> Result<Vec<Handle>, OutOfMemory> {
+fn projectiles(commands: &Reserver<OpenWorld>) -> Result<Vec<Handle>, OutOfMemory> {
     commands.view().with(AGE)
 }
 
-fn age_one(commands: &mut Lent<'_, Commands>, one: Handle) -> Result<(), OutOfMemory> {
+fn age_one(commands: &mut Lent<'_, OpenWorld>, one: Handle) -> Result<(), OutOfMemory> {
     match commands.view().get(one, AGE) {
         Some(age) if age < LIMIT => commands.insert(one, &[(AGE, age + 1)]),
         _ => commands.despawn(one),
@@ -102,7 +102,7 @@ fn age_one(commands: &mut Lent<'_, Commands>, one: Handle) -> Result<(), OutOfMe
 }
 
 /// Runs the systems on that many threads, each those of its part of the list.
-fn run_all(all: &mut [Lent<'_, Commands>], threads: usize) -> Result<(), OutOfMemory> {
+fn run_all(all: &mut [Lent<'_, OpenWorld>], threads: usize) -> Result<(), OutOfMemory> {
     let each = SYSTEMS.len().div_ceil(threads);
     thread::scope(|scope| {
         let parts = SYSTEMS.chunks(each).zip(all.chunks_mut(each));

@@ -1,14 +1,14 @@
-//! What a phase lends: reservers, and the commands of systems.
+//! What a phase lends: its reservers.
 
-use crate::{Commands, ComponentId, Handle, OtherPhase, OutOfMemory, Phased, Refused};
-use crate::{ReserveError, Reserver};
+use crate::{ComponentId, Handle, OpenWorld, OtherPhase, OutOfMemory, Phased, Refused};
+use crate::{ReserveError, Reserver, SharedSource};
 use alloc::vec::Vec;
 use core::fmt;
 use core::ops::Deref;
 
-/// A [`Reserver`] that is lent by a [`phase`](crate::Entities::phase) or by a pool of reservers, or
-/// the [`Commands`] of a system, lent by the [`phase`](crate::World::phase) of a world. It has the
-/// same calls, at no extra cost.
+/// A [`Reserver`] that is lent, by a [`phase`](crate::Entities::phase) of an allocator, by a
+/// [`phase`](crate::World::phase) of a world, or by a pool of reservers. It has the same calls, at
+/// no extra cost.
 ///
 /// The borrower can neither keep nor replace what is lent. So the phase has all of it at its end,
 /// even if a `Lent` is dropped or forgotten.
@@ -32,12 +32,12 @@ use core::ops::Deref;
 /// # Ok::<(), Box<dyn std::error::Error>>(())
 /// ```
 ///
-/// A phase of a world lends the commands of its systems:
+/// Those of a world issue commands too:
 ///
 /// ```
-/// use forgeni::{Commands, ComponentId, Handle, Lent, ReserveError, World};
+/// use forgeni::{ComponentId, Handle, Lent, OpenWorld, ReserveError, World};
 ///
-/// fn launch(commands: &mut Lent<'_, Commands>) -> Result<Handle, ReserveError> {
+/// fn launch(commands: &mut Lent<'_, OpenWorld>) -> Result<Handle, ReserveError> {
 ///     commands.spawn(&[(ComponentId(0), 100)])
 /// }
 ///
@@ -47,31 +47,34 @@ use core::ops::Deref;
 /// assert!(world.contains(drone?));
 /// # Ok::<(), Box<dyn std::error::Error>>(())
 /// ```
-pub struct Lent<'a, T = Reserver>(&'a mut T);
+pub struct Lent<'a, S: Phased = SharedSource>(&'a mut Reserver<S>);
 
-impl<'a, T> Lent<'a, T> {
-    pub(crate) fn of(lent: &'a mut T) -> Self {
+impl<'a, S: Phased> Lent<'a, S> {
+    pub(crate) fn of(lent: &'a mut Reserver<S>) -> Self {
         Self(lent)
     }
 
     /// The same, for a shorter time.
     #[cfg(feature = "std")]
-    pub(crate) fn again(&mut self) -> Lent<'_, T> {
+    pub(crate) fn again(&mut self) -> Lent<'_, S> {
         Lent(self.0)
     }
 }
 
 /// What can be read from it.
-impl<T> Deref for Lent<'_, T> {
-    type Target = T;
+impl<S: Phased> Deref for Lent<'_, S> {
+    type Target = Reserver<S>;
 
     #[inline]
-    fn deref(&self) -> &T {
+    fn deref(&self) -> &Reserver<S> {
         self.0
     }
 }
 
-impl<T: fmt::Debug> fmt::Debug for Lent<'_, T> {
+impl<S: Phased> fmt::Debug for Lent<'_, S>
+where
+    Reserver<S>: fmt::Debug,
+{
     fn fmt(&self, out: &mut fmt::Formatter<'_>) -> fmt::Result {
         self.0.fmt(out)
     }
@@ -80,17 +83,17 @@ impl<T: fmt::Debug> fmt::Debug for Lent<'_, T> {
 /// What is lent has these calls that change it.
 macro_rules! lends {
     (
-        $Of:ident $([$S:ident: $Bound:path])?;
+        [$($S:ident: $Bound:path)?] $Of:ty;
         $($(#[$example:meta])* $call:ident($($name:ident: $type:ty),*) -> $returns:ty;)*
     ) => {
-        impl $(<$S: $Bound>)? Lent<'_, $Of $(<$S>)?> {$(
-            #[doc = concat!("The same as [`", stringify!($Of), "::", stringify!($call), "`].")]
+        impl $(<$S: $Bound>)? Lent<'_, $Of> {$(
+            #[doc = concat!("The same as [`Reserver::", stringify!($call), "`].")]
             ///
             $(#[$example])*
             ///
             /// # Errors
             ///
-            #[doc = concat!("Those of [`", stringify!($Of), "::", stringify!($call), "`].")]
+            #[doc = concat!("Those of [`Reserver::", stringify!($call), "`].")]
             #[inline]
             pub fn $call(&mut self, $($name: $type),*) -> $returns {
                 self.0.$call($($name),*)
@@ -100,7 +103,7 @@ macro_rules! lends {
 }
 
 lends! {
-    Reserver[S: Phased];
+    [S: Phased] S;
     /// ```
     /// use forgeni::Entities;
     ///
@@ -134,7 +137,7 @@ lends! {
 }
 
 lends! {
-    Commands;
+    [] OpenWorld;
     /// ```
     /// use forgeni::{ComponentId, World};
     ///

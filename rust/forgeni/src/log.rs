@@ -30,12 +30,12 @@
 //! ```
 
 use crate::lent::Lent;
-use crate::{Handle, Phased, Refused, Reserver};
+use crate::{Handle, Phased, Refused};
 use core::fmt;
 
 pub use crate::logs::{BeginError, Entry, Log, Reserves, SyncPoint};
 
-impl<S: Phased> Reserves for Lent<'_, Reserver<S>> {
+impl<S: Phased> Reserves for Lent<'_, S> {
     #[inline]
     fn reserve_one(&mut self) -> Result<Handle, Refused> {
         self.reserve()

@@ -92,7 +92,7 @@ pub(crate) fn opened<S: Phased, T>(
 }
 
 /// What a phase ended with that had all its reservers.
-fn closed<S: Phased>((phase, reservers): (Phase<S>, Vec<Reserver<S>>)) -> S::Closed {
+pub(crate) fn closed<S: Phased>((phase, reservers): (Phase<S>, Vec<Reserver<S>>)) -> S::Closed {
     let closed = phase.close(reservers);
     closed.expect("all reservers of the phase are here, and nobody else has one")
 }

@@ -103,23 +103,23 @@ mod sealed {
     pub trait Lends {
         type Source: Phased;
 
-        fn lend(&mut self) -> Lent<'_, Reserver<Self::Source>>;
+        fn lend(&mut self) -> Lent<'_, Self::Source>;
     }
 
     impl<S: Phased> Lends for Reserver<S> {
         type Source = S;
 
         #[inline]
-        fn lend(&mut self) -> Lent<'_, Reserver<S>> {
+        fn lend(&mut self) -> Lent<'_, S> {
             Lent::of(self)
         }
     }
 
-    impl<S: Phased> Lends for Lent<'_, Reserver<S>> {
+    impl<S: Phased> Lends for Lent<'_, S> {
         type Source = S;
 
         #[inline]
-        fn lend(&mut self) -> Lent<'_, Reserver<S>> {
+        fn lend(&mut self) -> Lent<'_, S> {
             self.again()
         }
     }
@@ -128,7 +128,7 @@ mod sealed {
         type Source = R::Source;
 
         #[inline]
-        fn lend(&mut self) -> Lent<'_, Reserver<R::Source>> {
+        fn lend(&mut self) -> Lent<'_, R::Source> {
             (**self).lend()
         }
     }
@@ -193,7 +193,7 @@ impl<R: Lends> Reservers<R> {
     ///
     /// If the pool has no reservers. A panic in `run` is propagated, and the reserver is as good as
     /// before.
-    pub fn with<T>(&self, run: impl FnOnce(&mut Lent<'_, Reserver<R::Source>>) -> T) -> T {
+    pub fn with<T>(&self, run: impl FnOnce(&mut Lent<'_, R::Source>) -> T) -> T {
         let mut loan = self.free().unwrap_or_else(|| self.awaited());
         run(&mut loan.reserver.lend())
     }
@@ -219,7 +219,7 @@ impl<R: Lends> Reservers<R> {
     /// A panic in `run` is propagated, and the reserver is as good as before.
     pub fn try_with<T>(
         &self,
-        run: impl FnOnce(&mut Lent<'_, Reserver<R::Source>>) -> T,
+        run: impl FnOnce(&mut Lent<'_, R::Source>) -> T,
     ) -> Option<T> {
         let mut loan = self.free()?;
         Some(run(&mut loan.reserver.lend()))

@@ -28,7 +28,7 @@
 use crate::phase::opened;
 use crate::phases::share;
 use crate::shown::shows;
-use crate::{Entities, HandedBack, InBlocks, SharedSource};
+use crate::{Entities, HandedBack, InBlocks, OpenWorld, SharedSource};
 use alloc::vec::Vec;
 
 pub use crate::allocator::Phased;
@@ -87,5 +87,6 @@ shows! {
     Phase[S: Phased]: count returned;
     SharedSource: count len;
     Reserver(SharedSource): number quota_left;
+    Reserver(OpenWorld): number;
     Reserver[S: InBlocks]: size used;
 }

@@ -12,7 +12,7 @@ use crate::Limits;
 
 pub use crate::component::{Birth, ComponentId};
 pub use crate::components::StorageImageFault;
-pub use crate::phases::{Commands, EndedWorld, InWorld, OpenWorld, World};
+pub use crate::phases::{EndedWorld, InWorld, OpenWorld, World};
 pub use crate::phases::{GoOnError, Queues, Stop, Stopped, SyncError};
 pub use crate::storage::{Bundle, InlineBundle, Items, Storage, StorageError};
 pub use crate::worlds::{Fault, FaultKind, Report, View, WorldImageFault};
@@ -59,8 +59,6 @@ impl Copy for View<'_> {}
 
 shows! {
     World: len frame;
-    OpenWorld: count returned;
     EndedWorld: requested_past;
-    Commands: number;
     View<'_>: phase;
 }

@@ -2,7 +2,8 @@
 
 use crate::lending::Lending;
 use crate::lent::Lent;
-use crate::{Commands, HandedBack, OpenWorld, Queues, ShareError, World};
+use crate::phase::closed;
+use crate::{HandedBack, OpenWorld, Phase, Queues, ShareError, World};
 use alloc::vec::Vec;
 
 /// # Phases
@@ -45,7 +46,7 @@ impl World {
     pub fn phase<T>(
         &mut self,
         count: usize,
-        run: impl FnOnce(&OpenWorld, &mut [Lent<'_, Commands>]) -> T,
+        run: impl FnOnce(&Phase<OpenWorld>, &mut [Lent<'_, OpenWorld>]) -> T,
     ) -> Result<(T, Queues), ShareError> {
         let mut lending = Lending::begin(
             self,
@@ -60,10 +61,4 @@ impl World {
         let done = run(open, &mut lent);
         Ok((done, lending.end(closed)))
     }
-}
-
-/// The world after a phase that had all its systems, and their queues.
-pub(crate) fn closed((open, systems): (OpenWorld, Vec<Commands>)) -> (World, Queues) {
-    let closed = open.close(systems);
-    closed.expect("all systems of the phase are here, and nobody else has one")
 }

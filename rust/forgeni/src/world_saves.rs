@@ -4,8 +4,7 @@
 use crate::numbers::next_number;
 use crate::phase::opened;
 use crate::phases::{clone_world, clone_world_from, open, open_in, read_world, read_world_within};
-use crate::world_phase::closed;
-use crate::{Blocks, Commands, EndedWorld, HandedBack, InWorld, OpenWorld, OutOfMemory, Overflow};
+use crate::{Blocks, EndedWorld, HandedBack, InWorld, OpenWorld, OutOfMemory, Overflow};
 use crate::{Phase, Reserver, ShareError, World, WorldImageFault};
 use alloc::vec::Vec;
 
@@ -137,8 +136,9 @@ impl World {
 
 /// # Opening it
 impl World {
-    /// Opens the world for `count` systems, 1 to 1,024, each with its [`Commands`]. They can go to
-    /// other threads. [`OpenWorld::close`] gives the world back, with the queues of the systems.
+    /// Opens the world for `count` systems, 1 to 1,024, each with a [`Reserver`] that also issues
+    /// its commands. They can go to other threads. [`Phase::close`] gives the world back, with the
+    /// queues of the systems.
     ///
     /// ```
     /// use forgeni::{ComponentId, World};
@@ -172,9 +172,8 @@ impl World {
     pub fn open(
         self,
         count: usize,
-    ) -> Result<(OpenWorld, Vec<Commands>), HandedBack<World, ShareError>> {
-        let parts = open(self, count)?.numbered(next_number());
-        parts.map_err(|parts| HandedBack::new(closed(parts).0, ShareError::Memory))
+    ) -> Result<(Phase<OpenWorld>, Vec<Reserver<OpenWorld>>), HandedBack<World, ShareError>> {
+        opened(open(self, count), |(world, _queues)| world)
     }
 
     /// Opens the world in blocks of these sizes: each caller gets a reserver of its own block, so

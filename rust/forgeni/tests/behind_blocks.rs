@@ -340,7 +340,7 @@ fn all_and_one<S: InBlocks>((phase, mut reservers): PartsOf<S>) -> (S::Closed, [
 #[test]
 fn one_function_for_all_kinds_of_blocks() {
     fn past<S: Deals>(of: S::Closed) -> u64 {
-        S::into_ended(of).requested_past()
+        of.requested_past()
     }
     let sizes = [3, 0, 4];
     let parts = Entities::new().share_in_blocks(&sizes).expect("memory");

@@ -188,8 +188,9 @@ fn phases() {
 fn worlds() {
     let mut world = World::new();
     for count in [1, 10, 1_000] {
-        // The systems, their reservers, and the list that a sync point reads.
-        let most = (APART + 32 + 32) * count + 1_024;
+        // The reservers, what is in them once more, and the two lists into which a close takes it
+        // apart, one of which a sync point reads.
+        let most = (APART + 64 + 32 + 32) * count + 1_024;
         let (open, systems) = at_most(most, || world.open(count).expect("memory"));
         // The opening has made room for the list that a sync point reads.
         let (closed, queues) = exactly(0, || open.close(systems).expect("closed"));

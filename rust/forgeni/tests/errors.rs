@@ -1,7 +1,7 @@
 //! Errors travel: by `?` into a box for any thread, and apart from what they hand back.
 
 use forgeni::{
-    Absent, AllocError, CloseError, Commands, ComponentId, Entities, Fault, FreeError, Freed,
+    Absent, AllocError, CloseError, ComponentId, Entities, Fault, FreeError, Freed,
     GoOnError, HandedBack, Handle, HandleMap, ImageFault, InsertError, Lent, Limits, OpenWorld,
     OtherPhase, OutOfMemory, ParseHandleError, Phase, Queues, Refused, Report, ReserveError,
     Reserver, ShareError, State, Stop, Stopped, Storage, StorageError, SyncError, Tracked, View,
@@ -36,7 +36,7 @@ fn each_error_travels() {
     travels::<SyncError>();
     travels::<Stop>();
     travels::<HandedBack<(Phase, Vec<Reserver>), CloseError>>();
-    travels::<HandedBack<(OpenWorld, Vec<Commands>), CloseError>>();
+    travels::<HandedBack<(Phase<OpenWorld>, Vec<Reserver<OpenWorld>>), CloseError>>();
     travels::<HandedBack<Entities, ShareError>>();
     travels::<HandedBack<World, ShareError>>();
     #[cfg(feature = "std")]
@@ -50,7 +50,8 @@ fn each_error_travels() {
 fn each_type_is_send_and_sync() {
     shared_by_threads::<(Handle, Limits, State, Freed, ComponentId)>();
     shared_by_threads::<(Entities, Phase, Reserver, Lent<'_>)>();
-    shared_by_threads::<(World, OpenWorld, Commands, Lent<'_, Commands>, Queues)>();
+    shared_by_threads::<(World, Phase<OpenWorld>, Reserver<OpenWorld>)>();
+    shared_by_threads::<(Lent<'_, OpenWorld>, Queues)>();
     shared_by_threads::<(Storage, Report, Fault, Stopped)>();
     shared_by_threads::<HandleMap<String>>();
     shared_by_threads::<Tracked<HandleMap<String>>>();

@@ -4,8 +4,8 @@
 
 use crate::common::{handle, seeds, Numbers};
 use forgeni::{
-    run_frame, Birth, Commands, ComponentId, FaultKind, FrameError, Handle, Limits, OutOfMemory,
-    Report, ReserveError, System, SystemCommands, View, World,
+    run_frame, Birth, ComponentId, FaultKind, FrameError, Handle, Limits, OpenWorld, OutOfMemory,
+    Report, ReserveError, Reserver, System, SystemCommands, View, World,
 };
 use std::sync::atomic::{AtomicUsize, Ordering};
 use std::sync::Barrier;
@@ -58,7 +58,7 @@ macro_rules! issues {
     };
 }
 
-issues!(Commands, spawn, spawn_many, insert);
+issues!(Reserver<OpenWorld>, spawn, spawn_many, insert);
 issues!(SystemCommands<'_>, spawn_with, spawn_many_with, insert_with);
 
 /// The living when the phase began: by birth, and the age of each that has one.
@@ -184,7 +184,7 @@ fn in_turn(world: World, scripts: &[Script]) -> (World, Report) {
     let age = |one: &Handle| open.view().get(*one, AGE).map(|age| (*one, age));
     let aged = all.iter().filter_map(age).collect();
     let living = Living { all, aged };
-    let run = |(mut commands, script): (Commands, &Script)| {
+    let run = |(mut commands, script): (Reserver<OpenWorld>, &Script)| {
         run_steps(&script.0, &living, &mut commands);
         commands
     };

@@ -13,10 +13,11 @@ use forgeni::trace::{Call, CheckError, Checker, FreeReply, Log, Reservation};
 #[cfg(feature = "std")]
 use forgeni::{run_to_sync_point, LogCommands, RunError, StdThreads};
 use forgeni::{
-    tables, AllocError, AnyMap, BeginError, Birth, Change, Commands, ComponentId, Entities, Entry,
+    tables, AllocError, AnyMap, BeginError, Birth, Change, ComponentId, Entities, Entry,
     Fault, Follows, FreeError, GoOnError, Handle, HandleMap, History, ImageFault, InsertError,
-    JoinMaps, Limits, OpenWorld, OutOfMemory, Queues, Report, ReserveError, ShareError, SparseMap,
-    State, Stop, Storage, StorageError, SyncError, SyncPoint, Tracked, World, WorldImageFault,
+    JoinMaps, Limits, OpenWorld, OutOfMemory, Phase, Queues, Report, ReserveError, Reserver,
+    ShareError, SparseMap, State, Stop, Storage, StorageError, SyncError, SyncPoint, Tracked, World,
+    WorldImageFault,
 };
 use refusing::{asked, held, most_held, refusing, Refusal};
 use std::fmt::Debug;
@@ -1695,14 +1696,14 @@ fn open_gives_the_world_back() {
 }
 
 /// A phase of one system of that world.
-fn phase() -> (OpenWorld, Commands) {
+fn phase() -> (Phase<OpenWorld>, Reserver<OpenWorld>) {
     let (open, mut systems) = two().open(1).expect("opened");
     (open, systems.pop().expect("a system"))
 }
 
 /// Ends the phase and lets its queue take effect. What every command has done, each of which was
 /// issued once.
-fn applied(open: OpenWorld, only: Commands) -> (World, Report) {
+fn applied(open: Phase<OpenWorld>, only: Reserver<OpenWorld>) -> (World, Report) {
     let (mut world, queues) = open.close(vec![only]).expect("closed");
     let report = world.apply(queues).expect("memory");
     assert_eq!(report.faults, []);
@@ -2252,7 +2253,6 @@ mod frames {
                 let close = || phase.close(reservers).expect("all are here");
                 let (ended, unasked) = refusing(Refusal::All { after: 0 }, close);
                 assert_eq!(unasked, 0);
-                let ended = S::into_ended(ended);
                 let (entities, more) = refusing(refusal, || ended.into_entities());
                 let entities = entities.or_else(|unended| {
                     assert!(more > 0);

@@ -2,7 +2,7 @@
 //! it found half done is a state that the package speaks of, with nothing lost.
 
 use crate::common::{flushed, handle, small};
-use forgeni::{CloseError, Commands, ComponentId, Entities, World};
+use forgeni::{CloseError, ComponentId, Entities, OpenWorld, Reserver, World};
 use std::fmt::{self, Write};
 use std::panic::{catch_unwind, resume_unwind, AssertUnwindSafe};
 use std::thread;
@@ -215,7 +215,7 @@ mod frames {
 fn a_phase_goes_on_without_the_system_that_panicked() {
     let (open, systems) = one().open(4).expect("opened");
     let joined: Vec<_> = thread::scope(|scope| {
-        let run = |mut commands: Commands| {
+        let run = |mut commands: Reserver<OpenWorld>| {
             scope.spawn(move || {
                 commands.spawn(&[(HP, 2)]).expect("a handle");
                 if commands.number() == 2 {

@@ -103,7 +103,7 @@ fn all_are_given_out() {
     for callers in 1..=1024 {
         let (shared, reservers) = shared(Entities::new(), callers);
         assert_eq!((shared.count(), shared.returned()), (callers, 0));
-        assert!(reservers.iter().map(Reserver::number).eq(0..callers));
+        assert!(reservers.iter().map(|one| one.number()).eq(0..callers));
         assert!(shared.close(reservers).is_ok());
     }
 }

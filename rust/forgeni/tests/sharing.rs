@@ -303,7 +303,7 @@ fn an_allocator_moves() {
 }
 
 fn numbers(reservers: &[Reserver]) -> Vec<usize> {
-    reservers.iter().map(Reserver::number).collect()
+    reservers.iter().map(|one| one.number()).collect()
 }
 
 /// The reservers are given out, and come back, in their order.

@@ -5,9 +5,9 @@
 //! `examples/at_size.sh` runs them. Without optimisation they would take a minute.
 
 use forgeni::trace::{Call, Checker, FreeReply, Recorder, Reservation};
-use forgeni::{Birth, Commands, ComponentId, Entities, Fault, FaultKind};
+use forgeni::{Birth, ComponentId, Entities, Fault, FaultKind};
 use forgeni::{Freed, Handle, HandleMap, Limits, Queues, ReserveError, ShareError, State};
-use forgeni::{Storage, World};
+use forgeni::{OpenWorld, Reserver, Storage, World};
 
 /// How many there are of most things.
 const MANY: u32 = 70_001;
@@ -302,7 +302,11 @@ fn births_listed_by_order() {
 }
 
 /// The world and queues of a phase, each of whose systems did this.
-fn issued(world: World, count: usize, issue: impl Fn(&mut Commands)) -> (World, Queues) {
+fn issued(
+    world: World,
+    count: usize,
+    issue: impl Fn(&mut Reserver<OpenWorld>),
+) -> (World, Queues) {
     let (open, mut systems) = world.open(count).expect("memory is ample");
     systems.iter_mut().for_each(issue);
     open.close(systems).expect("all are there")

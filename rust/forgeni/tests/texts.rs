@@ -257,11 +257,8 @@ fn values_of_worlds() {
     systems[1].spawn(&[]).expect("a handle");
     systems[1].despawn(handle(7, 1)).expect("memory");
     debugs([
-        (
-            &open as &dyn Debug,
-            "OpenWorld { count: 2, returned: 0, .. }",
-        ),
-        (&systems[1], "Commands { number: 1, .. }"),
+        (&open as &dyn Debug, "Phase { count: 2, returned: 0, .. }"),
+        (&systems[1], "Reserver { number: 1, .. }"),
     ]);
     let (mut world, queues) = open.close(systems).expect("closed");
     let report = world.apply(queues).expect("memory");

@@ -3,8 +3,8 @@
 use crate::common::{handle, seeds, Numbers};
 use crate::worlds::{any_components, pick, Command, WorldModel};
 use forgeni::{
-    AllocError, Birth, Commands, ComponentId, FaultKind, FreeError, Freed, Handle, Limits,
-    ReserveError, World,
+    AllocError, Birth, ComponentId, FaultKind, FreeError, Freed, Handle, Limits, OpenWorld,
+    ReserveError, Reserver, World,
 };
 use std::collections::BTreeSet;
 use std::thread;
@@ -64,13 +64,13 @@ fn any_handle(numbers: &mut Numbers, model: &WorldModel) -> Handle {
 
 /// A system while it issues commands: what it issued, and what it knows.
 struct System {
-    commands: Commands,
+    commands: Reserver<OpenWorld>,
     issued: Vec<Command>,
     known: Vec<Handle>,
 }
 
 impl System {
-    fn new(commands: Commands, model: &WorldModel) -> Self {
+    fn new(commands: Reserver<OpenWorld>, model: &WorldModel) -> Self {
         System {
             commands,
             issued: vec![],
@@ -114,7 +114,7 @@ impl System {
         self.issued.push(command);
     }
 
-    fn into_parts(self) -> (Commands, Vec<Command>) {
+    fn into_parts(self) -> (Reserver<OpenWorld>, Vec<Command>) {
         (self.commands, self.issued)
     }
 }
@@ -202,7 +202,7 @@ fn phase(world: World, model: &mut WorldModel, seed: u64, way: Way, place: &str)
 }
 
 /// What a system reads while others run is the world as it was opened.
-fn view(commands: &Commands, model: &WorldModel, numbers: &mut Numbers) {
+fn view(commands: &Reserver<OpenWorld>, model: &WorldModel, numbers: &mut Numbers) {
     let any = any_handle(numbers, model);
     let there = model.live.get(&any);
     assert_eq!(commands.view().birth(any), there.map(|entity| entity.0));

@@ -715,7 +715,7 @@ pub mod fault {}
 /// </pre>
 pub mod spent {}
 
-#[doc(alias("Call", "IsLegal", "after_history", "given_in", "handles_in"))]
+#[doc(alias("Call", "given_in", "handles_in"))]
 /// Histories: the reservations of many callers in one order, and what the sequential allocator says to them.
 ///
 /// <pre>
@@ -724,23 +724,6 @@ pub mod spent {}
 ///   pub caller : <a href="../../logic/index.html#ℕ">ℕ</a>
 ///   pub requested : <a href="../../logic/index.html#ℕ">ℕ</a>
 ///   pub reply : <a href="../../logic/index.html#Result">Result</a> (<a href="../../logic/index.html#List">List</a> <a href="../../ent_handle/handle/index.html#Handle">Handle</a>) Space
-/// </pre>
-///
-/// <pre>
-/// -- Each call in turn gets the reply of the allocator at that point of the history.
-/// abbrev pub <b id="IsLegal">IsLegal</b> : <a href="../sequential/index.html#Allocator">Allocator</a> → <a href="../../logic/index.html#List">List</a> <a href="#Call">Call</a> → Type 0
-/// <a href="#IsLegal">IsLegal</a> s [] = Unit {0}
-/// <a href="#IsLegal">IsLegal</a> s (call ∷ calls) =
-///     (0 &lt; call.requested)
-///     × (call.reply ≡ <a href="../sequential/index.html#reply_to">reply_to</a> s call.requested)
-///     × <a href="#IsLegal">IsLegal</a> (<a href="../sequential/index.html#after_take">after_take</a> s call.requested) calls
-/// </pre>
-///
-/// <pre>
-/// -- the allocator after all calls
-/// abbrev pub <b id="after_history">after_history</b> : <a href="../sequential/index.html#Allocator">Allocator</a> → <a href="../../logic/index.html#List">List</a> <a href="#Call">Call</a> → <a href="../sequential/index.html#Allocator">Allocator</a>
-/// <a href="#after_history">after_history</a> s [] = s
-/// <a href="#after_history">after_history</a> s (call ∷ calls) = <a href="#after_history">after_history</a> (<a href="../sequential/index.html#after_take">after_take</a> s call.requested) calls
 /// </pre>
 ///
 /// <pre>

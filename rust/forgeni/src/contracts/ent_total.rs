@@ -1,7 +1,7 @@
 // Made of crates/ent_total/specs by .ci/contracts.py. It isn't edited by hand.
 
 //! The definitions of crate `ent_total`, in the order in which one reads them:
-//! [`batch`], [`applying`], [`births`], [`closing`], [`issuing`], [`phases`], [`reserving`], [`image`], [`in_world`], [`lending`].
+//! [`batch`], [`applying`], [`births`], [`closing`], [`phases`], [`issuing`], [`reserving`], [`image`], [`in_world`], [`lending`].
 
 #[doc(alias("IsFinished", "IsLeftUntil", "IsSynced", "IsSyncedUntil", "Queues", "Stopped"))]
 /// Queues that are applied together, and where their sync point stopped.
@@ -221,118 +221,6 @@ pub mod births {}
 /// </pre>
 pub mod closing {}
 
-#[doc(alias("AreCommandsOf", "Commands", "Extends", "IsClosed", "IsClosedLost", "IsRefused", "IsWorldOf", "MayReturn", "OpenWorld", "issued", "queues_returned", "reservers_returned", "with_returned"))]
-/// What contracts see of a world in a phase, and of a system that issues commands in it.
-///
-/// <pre>
-/// -- the number that distinguishes phases, the number of the world and how many entities were spawned
-/// -- in it since the last flush, the world that is open, the reservers that no system has, and the
-/// -- queues that came back
-/// pub record <b id="OpenWorld">OpenWorld</b> : Type 0 where
-///   pub number : <a href="../../logic/index.html#ℕ">ℕ</a>
-///   pub of_world : <a href="../../logic/index.html#ℕ">ℕ</a>
-///   pub spawned : <a href="../../logic/index.html#ℕ">ℕ</a>
-///   pub world : <a href="../../ent_world/open_world/index.html#OpenWorld">Opened</a>
-///   pub returned : <a href="../../logic/index.html#List">List</a> <a href="../../ent_shared/phase/index.html#Reserver">Reserver</a>
-///   pub queues : <a href="../../logic/index.html#List">List</a> (<a href="../../logic/index.html#List">List</a> <a href="../../ent_queue/command/index.html#Command">Command</a>)
-/// </pre>
-///
-/// <pre>
-/// -- the number of its phase, the world that it views, its reserver, and its commands so far
-/// pub record <b id="Commands">Commands</b> : Type 0 where
-///   pub number : <a href="../../logic/index.html#ℕ">ℕ</a>
-///   pub world : <a href="../../ent_world/open_world/index.html#OpenWorld">Opened</a>
-///   pub reserver : <a href="../../ent_shared/phase/index.html#Reserver">Reserver</a>
-///   pub queue : <a href="../../logic/index.html#List">List</a> <a href="../../ent_queue/command/index.html#Command">Command</a>
-/// </pre>
-///
-/// <pre>
-/// -- all of them are of the phase of this number
-/// abbrev pub <b id="AreCommandsOf">AreCommandsOf</b> : <a href="../../logic/index.html#ℕ">ℕ</a> → <a href="../../logic/index.html#List">List</a> <a href="#Commands">Commands</a> → Type 0
-/// <a href="#AreCommandsOf">AreCommandsOf</a> number all = <a href="../../logic/index.html#All">All</a> (λ (i : <a href="#Commands">Commands</a>). i.number ≡ number) all
-/// </pre>
-///
-/// <pre>
-/// -- the reservers of these systems, and their queues
-/// abbrev pub <b id="issuing">issuing</b> : <a href="../../logic/index.html#List">List</a> <a href="#Commands">Commands</a> → <a href="../../logic/index.html#List">List</a> <a href="../../ent_shared/phase/index.html#Reserver">Reserver</a>
-/// <a href="#issuing">issuing</a> all = <a href="../../logic/index.html#map">map</a> (λ (i : <a href="#Commands">Commands</a>). i.reserver) all
-/// </pre>
-///
-/// <pre>
-/// abbrev pub <b id="issued">issued</b> : <a href="../../logic/index.html#List">List</a> <a href="#Commands">Commands</a> → <a href="../../logic/index.html#List">List</a> (<a href="../../logic/index.html#List">List</a> <a href="../../ent_queue/command/index.html#Command">Command</a>)
-/// <a href="#issued">issued</a> all = <a href="../../logic/index.html#map">map</a> (λ (i : <a href="#Commands">Commands</a>). i.queue) all
-/// </pre>
-///
-/// <pre>
-/// -- what is returned and what these bring, behind it
-/// abbrev pub <b id="reservers_returned">reservers_returned</b> : <a href="#OpenWorld">OpenWorld</a> → <a href="../../logic/index.html#List">List</a> <a href="#Commands">Commands</a> → <a href="../../logic/index.html#List">List</a> <a href="../../ent_shared/phase/index.html#Reserver">Reserver</a>
-/// <a href="#reservers_returned">reservers_returned</a> p all = p.returned ++ <a href="#issuing">issuing</a> all
-/// </pre>
-///
-/// <pre>
-/// abbrev pub <b id="queues_returned">queues_returned</b> : <a href="#OpenWorld">OpenWorld</a> → <a href="../../logic/index.html#List">List</a> <a href="#Commands">Commands</a> → <a href="../../logic/index.html#List">List</a> (<a href="../../logic/index.html#List">List</a> <a href="../../ent_queue/command/index.html#Command">Command</a>)
-/// <a href="#queues_returned">queues_returned</a> p all = p.queues ++ <a href="#issued">issued</a> all
-/// </pre>
-///
-/// <pre>
-/// -- They are all of this phase, and with those returned no more than it has.
-/// abbrev pub <b id="MayReturn">MayReturn</b> : <a href="#OpenWorld">OpenWorld</a> → <a href="../../logic/index.html#List">List</a> <a href="#Commands">Commands</a> → Type 0
-/// <a href="#MayReturn">MayReturn</a> p all =
-///     <a href="#AreCommandsOf">AreCommandsOf</a> p.number all × (<a href="../../logic/index.html#length">length</a> (<a href="#reservers_returned">reservers_returned</a> p all) ≤ p.world.shared.count)
-/// </pre>
-///
-/// <pre>
-/// abbrev pub <b id="with_returned">with_returned</b> : <a href="#OpenWorld">OpenWorld</a> → <a href="../../logic/index.html#List">List</a> <a href="#Commands">Commands</a> → <a href="#OpenWorld">OpenWorld</a>
-/// <a href="#with_returned">with_returned</a> p all = record p {
-///   returned = <a href="#reservers_returned">reservers_returned</a> p all;
-///   queues = <a href="#queues_returned">queues_returned</a> p all;
-/// }
-/// </pre>
-///
-/// <pre>
-/// -- Commands were added, and the reserver has gained their reservations and no others. Nothing else
-/// -- has changed.
-/// pub record <b id="Extends">Extends</b> (before after : <a href="#Commands">Commands</a>) : Type 0 where
-///   pub number : after.number ≡ before.number
-///   pub world : after.world ≡ before.world
-///   pub ready : <a href="../../ent_shared/phase/index.html#IsOf">IsOf</a> after.world.shared after.reserver
-///   pub added : <a href="../../logic/index.html#List">List</a> <a href="../../ent_queue/command/index.html#Command">Command</a>
-///   pub queue : after.queue ≡ before.queue ++ added
-///   pub gains : <a href="../../ent_queue/reserving/index.html#Gains">Gains</a> before.reserver.own added after.reserver.own
-/// </pre>
-///
-/// <pre>
-/// -- A refusal is the result of a request for n handles, unless memory ran out before.
-/// abbrev pub <b id="IsRefused">IsRefused</b> : <a href="../../ent_shared/phase/index.html#Shared">Shared</a> → <a href="../../ent_shared/phase/index.html#Reserver">Reserver</a> → <a href="../../ent_shared/phase/index.html#Reserver">Reserver</a> → <a href="../../logic/index.html#ℕ">ℕ</a> → ReserveError → Type 0
-/// <a href="#IsRefused">IsRefused</a> shared before after n (fault.Space wanted left) =
-///     <a href="../../ent_shared/replies/index.html#IsReturned">IsReturned</a> shared before after n (<a href="../../logic/index.html#Err">Err</a> (Space wanted left))
-/// <a href="#IsRefused">IsRefused</a> shared before after n (fault.Quota left) =
-///     <a href="../../ent_shared/replies/index.html#IsReturned">IsReturned</a> shared before after n (<a href="../../logic/index.html#Err">Err</a> (Quota left))
-/// <a href="#IsRefused">IsRefused</a> shared before after n fault.Memory = Unit {0}
-/// </pre>
-///
-/// <pre>
-/// -- The world is the one that was opened, but for its allocator.
-/// pub record <b id="IsWorldOf">IsWorldOf</b> (opened : <a href="../../ent_world/open_world/index.html#OpenWorld">Opened</a>) (after : <a href="../../ent_world/world/index.html#World">World</a>) : Type 0 where
-///   pub phase : after.phase ≡ opened.phase
-///   pub entities : after.entities ≡ opened.entities
-///   pub world : <a href="../../ent_world/world/index.html#IsWorld">IsWorld</a> after
-/// </pre>
-///
-/// <pre>
-/// -- The phase ended with all its reservers, or with those that are returned.
-/// pub record <b id="IsClosed">IsClosed</b> (opened : <a href="../../ent_world/open_world/index.html#OpenWorld">Opened</a>) (returned : <a href="../../logic/index.html#List">List</a> <a href="../../ent_shared/phase/index.html#Reserver">Reserver</a>) (after : <a href="../../ent_world/world/index.html#World">World</a>) : Type 0 where
-///   pub same : <a href="#IsWorldOf">IsWorldOf</a> opened after
-///   pub ended : <a href="../../ent_shared/ending/index.html#EndsWithAll">EndsWithAll</a> opened.shared returned after.allocator
-/// </pre>
-///
-/// <pre>
-/// pub record <b id="IsClosedLost">IsClosedLost</b> (opened : <a href="../../ent_world/open_world/index.html#OpenWorld">Opened</a>) (returned : <a href="../../logic/index.html#List">List</a> <a href="../../ent_shared/phase/index.html#Reserver">Reserver</a>) (after : <a href="../../ent_world/world/index.html#World">World</a>) : Type 0 where
-///   pub same : <a href="#IsWorldOf">IsWorldOf</a> opened after
-///   pub ended : <a href="../../ent_shared/ending/index.html#EndsWithSome">EndsWithSome</a> opened.shared returned after.allocator
-/// </pre>
-pub mod issuing {}
-
 #[doc(alias("AreOf", "MayReturn", "Phase", "Reserver", "all_returned", "reservers_of"))]
 /// What contracts see of a phase and of its reservers, for any source.
 ///
@@ -378,6 +266,79 @@ pub mod issuing {}
 ///       <a href="#AreOf">AreOf</a> p.number reservers × (<a href="../../logic/index.html#length">length</a> (<a href="#all_returned">all_returned</a> p reservers) ≤ count)
 /// </pre>
 pub mod phases {}
+
+#[doc(alias("Commands", "Extends", "IsRefused", "OpenWorld", "issued", "queue_of", "reserver_of", "shared_of", "view_of", "with_queue"))]
+/// What contracts see of a world in a phase, and of its reservers, which issue commands in it.
+///
+/// <pre>
+/// -- the world that is open, its number, and how many entities were spawned in it since the last flush
+/// pub record <b id="OpenWorld">OpenWorld</b> : Type 0 where
+///   pub world : <a href="../../ent_world/open_world/index.html#OpenWorld">Opened</a>
+///   pub of_world : <a href="../../logic/index.html#ℕ">ℕ</a>
+///   pub spawned : <a href="../../logic/index.html#ℕ">ℕ</a>
+/// </pre>
+///
+/// <pre>
+/// -- a reserver of a world's phase
+/// abbrev pub <b id="Commands">Commands</b> : Type 0
+/// <a href="#Commands">Commands</a> = <a href="../phases/index.html#Reserver">Reserver</a> <a href="#OpenWorld">OpenWorld</a> Issuer
+/// </pre>
+///
+/// <pre>
+/// -- the shared allocator of its world, its own right to reserve from it, and its commands so far
+/// abbrev pub <b id="shared_of">shared_of</b> : <a href="#Commands">Commands</a> → <a href="../../ent_shared/phase/index.html#Shared">Shared</a>
+/// <a href="#shared_of">shared_of</a> c = c.source.world.shared
+/// </pre>
+///
+/// <pre>
+/// abbrev pub <b id="reserver_of">reserver_of</b> : <a href="#Commands">Commands</a> → <a href="../../ent_shared/phase/index.html#Reserver">SharedReserver</a>
+/// <a href="#reserver_of">reserver_of</a> c = c.reserver.reserver
+/// </pre>
+///
+/// <pre>
+/// abbrev pub <b id="queue_of">queue_of</b> : <a href="#Commands">Commands</a> → <a href="../../logic/index.html#List">List</a> <a href="../../ent_queue/command/index.html#Command">Command</a>
+/// <a href="#queue_of">queue_of</a> c = c.reserver.queue
+/// </pre>
+///
+/// <pre>
+/// -- with these commands instead, or with one more
+/// abbrev pub <b id="with_queue">with_queue</b> : <a href="#Commands">Commands</a> → <a href="../../logic/index.html#List">List</a> <a href="../../ent_queue/command/index.html#Command">Command</a> → <a href="#Commands">Commands</a>
+/// <a href="#with_queue">with_queue</a> c queue = record c { reserver = record c.reserver { queue = queue } }
+/// </pre>
+///
+/// <pre>
+/// abbrev pub <b id="issued">issued</b> : <a href="#Commands">Commands</a> → <a href="../../ent_queue/command/index.html#Command">Command</a> → <a href="#Commands">Commands</a>
+/// <a href="#issued">issued</a> c command = <a href="#with_queue">with_queue</a> c (<a href="#queue_of">queue_of</a> c ++ command ∷ [])
+/// </pre>
+///
+/// <pre>
+/// -- what systems see of the world
+/// abbrev pub <b id="view_of">view_of</b> : <a href="#OpenWorld">OpenWorld</a> → <a href="../../ent_world/open_world/index.html#View">View</a>
+/// <a href="#view_of">view_of</a> w = record { phase = w.world.phase; entities = w.world.entities }
+/// </pre>
+///
+/// <pre>
+/// -- Commands were added, and the reserver has gained their reservations and no others. Nothing else
+/// -- has changed.
+/// pub record <b id="Extends">Extends</b> (before after : <a href="#Commands">Commands</a>) : Type 0 where
+///   pub number : after.number ≡ before.number
+///   pub source : after.source ≡ before.source
+///   pub ready : <a href="../../ent_shared/phase/index.html#IsOf">IsOf</a> (<a href="#shared_of">shared_of</a> after) (<a href="#reserver_of">reserver_of</a> after)
+///   pub added : <a href="../../logic/index.html#List">List</a> <a href="../../ent_queue/command/index.html#Command">Command</a>
+///   pub queue : <a href="#queue_of">queue_of</a> after ≡ <a href="#queue_of">queue_of</a> before ++ added
+///   pub gains : <a href="../../ent_queue/reserving/index.html#Gains">Gains</a> (<a href="#reserver_of">reserver_of</a> before).own added (<a href="#reserver_of">reserver_of</a> after).own
+/// </pre>
+///
+/// <pre>
+/// -- A refusal is the result of a request for n handles, unless memory ran out before.
+/// abbrev pub <b id="IsRefused">IsRefused</b> : <a href="../../ent_shared/phase/index.html#Shared">Shared</a> → <a href="../../ent_shared/phase/index.html#Reserver">SharedReserver</a> → <a href="../../ent_shared/phase/index.html#Reserver">SharedReserver</a> → <a href="../../logic/index.html#ℕ">ℕ</a> → ReserveError → Type 0
+/// <a href="#IsRefused">IsRefused</a> shared before after n (fault.Space wanted left) =
+///     <a href="../../ent_shared/replies/index.html#IsReturned">IsReturned</a> shared before after n (<a href="../../logic/index.html#Err">Err</a> (Space wanted left))
+/// <a href="#IsRefused">IsRefused</a> shared before after n (fault.Quota left) =
+///     <a href="../../ent_shared/replies/index.html#IsReturned">IsReturned</a> shared before after n (<a href="../../logic/index.html#Err">Err</a> (Quota left))
+/// <a href="#IsRefused">IsRefused</a> shared before after n fault.Memory = Unit {0}
+/// </pre>
+pub mod issuing {}
 
 #[doc(alias("Fills", "IfRefusal", "Lists", "Replies"))]
 /// What a request returns, for any source.

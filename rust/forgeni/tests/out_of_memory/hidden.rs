@@ -6,7 +6,7 @@ use std::collections::HashMap;
 use std::process::Command;
 
 /// A call of what a phase lends to a system.
-type Call = fn(&mut forgeni::Lent<'_, Commands>) -> Result<(), OutOfMemory>;
+type Call = fn(&mut forgeni::Lent<'_, OpenWorld>) -> Result<(), OutOfMemory>;
 
 /// Each error of what a phase lends is handed on, and each command that succeeds is issued once.
 #[test]

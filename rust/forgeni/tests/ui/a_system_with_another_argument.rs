@@ -1,11 +1,11 @@
 //! A system has the commands of the wrong type.
 
-use forgeni::{Commands, OutOfMemory, System, View};
+use forgeni::{OpenWorld, OutOfMemory, Reserver, System, View};
 
 struct Age;
 
 impl System for Age {
-    fn run(&self, _view: &View<'_>, _commands: &mut Commands) -> Result<(), OutOfMemory> {
+    fn run(&self, _: &View<'_>, _: &mut Reserver<OpenWorld>) -> Result<(), OutOfMemory> {
         Ok(())
     }
 }

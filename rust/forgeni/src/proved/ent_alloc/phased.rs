@@ -84,6 +84,7 @@ pub trait Phased: Source {
     /// <code style="display: block; tab-size: 4; white-space: pre-wrap">// In the words of [contracts](crate::contracts):
     /// requires own { [All](crate::contracts::logic#All) (Self.serves self) reservers.items }
     /// requires takes { takes self reservers.items }
+    /// requires few { [length](crate::contracts::logic#length) reservers.items ≤ count self }
     /// ensures { closes_lost self reservers.items result }
     /// </code>
     ///

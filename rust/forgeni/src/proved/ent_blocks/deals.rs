@@ -12,18 +12,18 @@ use crate::handles::OutOfMemory;
 /// block, and [`Overflow`](crate::Overflow), whose reservers go on to handles that all share.
 ///
 /// ```
-/// use forgeni::{Blocks, Deals, Entities};
+/// use forgeni::{Deals, Entities, Phase, Reserver};
 ///
-/// /// What blocks of either kind end with.
-/// fn past<S: Deals>(closed: S::Closed) -> u64 {
-///     S::into_ended(closed).requested_past()
+/// /// Ends a phase in blocks of either kind, if all of its reservers are there.
+/// fn end<S: Deals>(phase: Phase<S>, all: Vec<Reserver<S>>) -> Option<Entities> {
+///     phase.close(all).ok()?.into_entities().ok()
 /// }
 ///
 /// let (phase, reservers) = Entities::new().share_in_blocks(&[10])?;
-/// assert_eq!(past::<Blocks>(phase.close(reservers)?), 0);
+/// assert!(end(phase, reservers).is_some());
 /// # Ok::<(), Box<dyn std::error::Error + Send + Sync>>(())
 /// ```
-pub trait Deals: InBlocks {
+pub trait Deals: InBlocks<Closed = Ended> {
     /// Returns `true` if there may be so many blocks.
     ///
     /// <details><summary>Contract</summary>
@@ -67,15 +67,4 @@ pub trait Deals: InBlocks {
     ) -> Result<(Self, Vec<Self::Reserver>), (Entities, OutOfMemory)>
     where
         Self: Sized,;
-
-    /// What a phase ended with.
-    ///
-    /// <details><summary>Contract</summary>
-    ///
-    /// <code style="display: block; tab-size: 4; white-space: pre-wrap">// In the words of [contracts](crate::contracts):
-    /// ensures { result ≡ ended closed }
-    /// </code>
-    ///
-    /// </details>
-    fn into_ended(closed: Self::Closed) -> Ended;
 }

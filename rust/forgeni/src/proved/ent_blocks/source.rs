@@ -110,9 +110,4 @@ impl Deals for Blocks {
     ) -> Result<(Self, Vec<BlockReserver>), (Entities, OutOfMemory)> {
         open_in_blocks(entities, sizes)
     }
-
-    #[inline]
-    fn into_ended(closed: Ended) -> Ended {
-        closed
-    }
 }

@@ -1,7 +1,7 @@
 // Made of crates/ent_total/src/close_error.rt by rust/erase. It isn't edited by hand.
 
-/// Why a phase of an allocator or of a world was not closed. A caller of a phase has a reserver or
-/// [`Commands`](crate::phases::Commands) of its own.
+/// Why a phase of an allocator or of a world was not closed. A caller of a phase has a
+/// [`Reserver`](crate::phases::Reserver) of its own.
 ///
 /// ```
 /// use forgeni::{CloseError, Entities};

@@ -61,7 +61,7 @@ pub fn share_in<S: Deals>(
     match begin(source, callers, reservers) {
         Ok(opening) => Ok(opening),
         Err((source, callers)) => {
-            let entities = S::into_ended(source.end_with_all(callers)).cancel();
+            let entities = source.end_with_all(callers).cancel();
             Err(HandedBack::new(entities, ShareError::Memory))
         }
     }

@@ -86,8 +86,7 @@ impl<S: Deals> Phased for InWorld<S> {
         // requires own { All (S.serves self.source) reservers.items }
         // requires takes { S.takes self.source reservers.items }
         // requires all { length reservers.items ≡ S.count self.source }
-        // ensures { IsEndOf self result (λ closed. S.closes self.source reservers.items closed)
-        //     S.ended }
+        // ensures { IsEndOf self result (S.closes self.source reservers.items) }
     {
         let InWorld {
             dealt,
@@ -96,7 +95,7 @@ impl<S: Deals> Phased for InWorld<S> {
         } = self;
         let (source, rest) = dealt.into_parts();
         EndedWorld {
-            ended: S::into_ended(source.end_with_all(reservers)),
+            ended: source.end_with_all(reservers),
             rest,
             of_world,
             spawned,
@@ -107,8 +106,8 @@ impl<S: Deals> Phased for InWorld<S> {
     fn end_with_some(self, reservers: Vec<S::Reserver>) -> EndedWorld
         // requires own { All (S.serves self.source) reservers.items }
         // requires takes { S.takes self.source reservers.items }
-        // ensures { IsEndOf self result (λ closed. S.closes_lost self.source reservers.items closed)
-        //     S.ended }
+        // requires few { length reservers.items ≤ S.count self.source }
+        // ensures { IsEndOf self result (S.closes_lost self.source reservers.items) }
     {
         let InWorld {
             dealt,
@@ -117,7 +116,7 @@ impl<S: Deals> Phased for InWorld<S> {
         } = self;
         let (source, rest) = dealt.into_parts();
         EndedWorld {
-            ended: S::into_ended(source.end_with_some(reservers)),
+            ended: source.end_with_some(reservers),
             rest,
             of_world,
             spawned,

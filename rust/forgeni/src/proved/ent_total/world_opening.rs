@@ -4,25 +4,16 @@
 
 use alloc::vec::Vec;
 use crate::kit::vec::FallibleVec;
-use crate::phases::commands::Commands;
+use crate::phases::issuer::Issuer;
 use crate::phases::open_world::OpenWorld;
+use crate::phases::opening::{Opening, begin};
 use crate::phases::share_error::ShareError;
 use crate::phases::sharing::CALLERS;
 use crate::phases::world::World;
-use crate::handles::HandedBack;
+use crate::allocator::Phased;
+use crate::handles::{HandedBack, OutOfMemory};
+use crate::commands::{IssuedCommands, Output};
 use crate::reserving::SharedReserver;
-use crate::kit::sync::Arc;
-
-/// A world that is open for its systems, and has no number yet. It has all memory that its phase
-/// needs.
-pub struct WorldOpening {
-    of_world: u64,
-    spawned: u32,
-    world: Arc<crate::worlds::OpenWorld>,
-    returned: Vec<SharedReserver>,
-    queues: Vec<crate::commands::IssuedCommands>,
-    systems: Vec<Commands>,
-}
 
 /// Opens a world for `count` systems, 1 to 1,024.
 ///
@@ -34,14 +25,15 @@ pub struct WorldOpening {
 /// <details><summary>Contract</summary>
 ///
 /// <code style="display: block; tab-size: 4; white-space: pre-wrap">// In the words of [contracts](crate::contracts):
-/// ensures of_world { [IfOk](crate::contracts::logic#IfOk) result (λ o. o.of_world ≡ world.number) }
-/// ensures spawned { [IfOk](crate::contracts::logic#IfOk) result (λ o. o.spawned ≡ world.spawned) }
-/// ensures shared { [IfOk](crate::contracts::logic#IfOk) result (λ o. (o.world.shared.start ≡ world.world.allocator)
-/// &#9;× (o.world.shared.count ≡ count)) }
-/// ensures world { [IfOk](crate::contracts::logic#IfOk) result (λ o. (o.world.phase ≡ world.world.phase)
-/// &#9;× (o.world.entities ≡ world.world.entities)) }
-/// ensures may_return { [IfOk](crate::contracts::logic#IfOk) result (λ o.
-/// &#9;[records_of](crate::contracts::ent_shared::phase#records_of) o.returned ≡ [opened_records](crate::contracts::ent_shared::record#opened_records) world.world.allocator 0 count) }
+/// ensures same { [IfOk](crate::contracts::logic#IfOk) result (λ o.
+/// &#9;(o.source.of_world ≡ world.number) × (o.source.spawned ≡ world.spawned)) }
+/// ensures shared { [IfOk](crate::contracts::logic#IfOk) result (λ o. (o.source.world.shared.start ≡ world.world.allocator)
+/// &#9;× (o.source.world.shared.count ≡ count)) }
+/// ensures world { [IfOk](crate::contracts::logic#IfOk) result (λ o. [view_of](crate::contracts::ent_total::issuing#view_of) o.source
+/// &#9;≡ record { phase = world.world.phase; entities = world.world.entities }) }
+/// ensures reservers { [IfOk](crate::contracts::logic#IfOk) result (λ o. [records_of](crate::contracts::ent_shared::phase#records_of) ([reservers_in](crate::contracts::ent_total::issuing#reservers_in) o.returned)
+/// &#9;≡ [opened_records](crate::contracts::ent_shared::record#opened_records) world.world.allocator 0 count) }
+/// ensures no_command { [IfOk](crate::contracts::logic#IfOk) result (λ o. [All](crate::contracts::logic#All) (λ c. c.queue ≡ \[\]) o.returned) }
 /// ensures needs_flush { [IsErrAnd](crate::contracts::logic#IsErrAnd) result (λ h. h.error ≡ NeedsFlush)
 /// &#9;↔ (0 \< world.world.allocator.asked) }
 /// ensures no_count { [IsErrAnd](crate::contracts::logic#IsErrAnd) result (λ h. h.error ≡ Count)
@@ -54,128 +46,98 @@ pub struct WorldOpening {
 pub fn open(
     world: World,
     count: usize,
-) -> Result<WorldOpening, HandedBack<World, ShareError>> {
+) -> Result<Opening<OpenWorld>, HandedBack<World, ShareError>> {
     if world.needs_flush() {
         return Err(HandedBack::new(world, ShareError::NeedsFlush));
     }
     if count == 0 || count > CALLERS {
         return Err(HandedBack::new(world, ShareError::Count));
     }
-    let World {
-        world,
-        number,
-        spawned,
-    } = world;
-    match WorldOpening::new(world, count, number, spawned) {
+    let Ok(reservers) = Vec::with_capacity_fallibly(count) else {
+        return Err(HandedBack::new(world, ShareError::Memory));
+    };
+    let (source, callers) = match opened(world, count) {
+        Ok(made) => made,
+        Err(world) => return Err(HandedBack::new(world, ShareError::Memory)),
+    };
+    match begin(source, callers, reservers) {
         Ok(opening) => Ok(opening),
-        Err(world) => {
-            let world = World {
-                world,
-                number,
-                spawned,
-            };
+        Err((source, callers)) => {
+            let (world, _) = source.end_with_all(callers);
             Err(HandedBack::new(world, ShareError::Memory))
         }
     }
 }
 
-impl WorldOpening {
-    /// Opens a flushed world. If memory runs out, it comes back.
-    #[inline]
-    fn new(
-        world: crate::worlds::World,
-        count: usize,
-        of_world: u64,
-        spawned: u32,
-    ) -> Result<Self, crate::worlds::World>
-        // requires flushed { world.allocator.asked ≡ 0 }
-        // requires some { 0 < count }
-        // requires few { count ≤ 1024 }
-        // ensures of_world { IfOk result (λ o. o.of_world ≡ of_world) }
-        // ensures spawned { IfOk result (λ o. o.spawned ≡ spawned) }
-        // ensures shared { IfOk result (λ o. (o.world.shared.start ≡ world.allocator)
-        //     × (o.world.shared.count ≡ count)) }
-        // ensures world { IfOk result (λ o. (o.world.phase ≡ world.phase)
-        //     × (o.world.entities ≡ world.entities)) }
-        // ensures may_return { IfOk result (λ o.
-        //     records_of o.returned ≡ opened_records world.allocator 0 count) }
-        // ensures err { IfErr result (λ refused. refused ≡ world) }
-    {
-        let Ok(queues) = Vec::with_capacity_fallibly(count) else {
-            return Err(world);
-        };
-        let Ok(systems) = Vec::with_capacity_fallibly(count) else {
-            return Err(world);
-        };
-        let (opened, returned) = match world.open(count) {
-            Ok(made) => made,
-            Err((world, _)) => return Err(world),
-        };
-        match Arc::new(opened) {
-            Ok(world) => Ok(WorldOpening {
+/// Opens a flushed world for its callers. If memory runs out, it comes back.
+#[inline]
+fn opened(world: World, count: usize) -> Result<(OpenWorld, Vec<Issuer>), World>
+    // requires flushed { world.world.allocator.asked ≡ 0 }
+    // requires some { 0 < count }
+    // requires few { count ≤ 1024 }
+    // ensures same { IfOk result (λ made.
+    //     (made.0.of_world ≡ world.number) × (made.0.spawned ≡ world.spawned)) }
+    // ensures shared { IfOk result (λ made. (made.0.world.shared.start ≡ world.world.allocator)
+    //     × (made.0.world.shared.count ≡ count)) }
+    // ensures world { IfOk result (λ made. view_of made.0
+    //     ≡ record { phase = world.world.phase; entities = world.world.entities }) }
+    // ensures reservers { IfOk result (λ made. records_of (reservers_in made.1.items)
+    //     ≡ opened_records world.world.allocator 0 count) }
+    // ensures own { IfOk result (λ made.
+    //     All (λ c. IsOf made.0.world.shared c.reserver) made.1.items) }
+    // ensures unused { IfOk result (λ made. All (λ c. c.reserver.own.entries ≡ []) made.1.items) }
+    // ensures no_command { IfOk result (λ made. All (λ c. c.queue ≡ []) made.1.items) }
+    // ensures count { IfOk result (λ made. length made.1.items ≡ count) }
+    // ensures room { IfOk result (λ made. count ≤ vec_capacity made.1) }
+    // ensures err { IfErr result (λ refused. refused ≡ world) }
+{
+    let Ok(queues) = Vec::with_capacity_fallibly(count) else {
+        return Err(world);
+    };
+    let Ok(mut callers) = Vec::with_capacity_fallibly(count) else {
+        return Err(world);
+    };
+    let World {
+        world,
+        number: of_world,
+        spawned,
+    } = world;
+    match world.open(count) {
+        Ok((world, mut returned)) => {
+            equip(&mut returned, &mut callers);
+            let source = OpenWorld {
+                world,
                 of_world,
                 spawned,
-                world,
                 returned,
                 queues,
-                systems,
-            }),
-            Err(refused) => Err(refused.value.close(returned)),
+            };
+            Ok((source, callers))
         }
-    }
-
-    /// The phase under this number, which no other phase has, and all its systems, in the order of
-    /// their numbers. It doesn't allocate.
-    ///
-    /// # Errors
-    ///
-    /// The same, with the reservers of some systems returned to the phase: each system owns a part
-    /// of the world, and no more owners could be counted. That takes 2^62 of them.
-    #[inline]
-    pub(crate) fn numbered(
-        self,
-        number: u64,
-    ) -> Result<(OpenWorld, Vec<Commands>), (OpenWorld, Vec<Commands>)>
-        // requires stands_for { J.world_of number ≡ self.world }
-        // ensures phase { IfOk result (λ made. made.0 ≡ record {
-        //   number = number;
-        //   of_world = self.of_world;
-        //   spawned = self.spawned;
-        //   world = self.world;
-        //   returned = [];
-        //   queues = [];
-        // }) }
-        // ensures reservers { IfOk result (λ made. issuing made.1.items ≡ self.returned) }
-        // ensures systems { IfOk result (λ made. AreNew number self.world made.1.items) }
-
-        // What holds if not all could be given out.
-        // ensures err_phase { IfErr result (λ made. made.0 ≡ record {
-        //   number = number;
-        //   of_world = self.of_world;
-        //   spawned = self.spawned;
-        //   world = self.world;
-        //   returned = made.0.returned;
-        //   queues = [];
-        // }) }
-        // ensures err_some_returned { IfErr result (λ made. made.0.returned ≢ []) }
-        // ensures err_reservers { IfErr result (λ made.
-        //     issuing made.1.items ++ reverse made.0.returned ≡ self.returned) }
-        // ensures err_systems { IfErr result (λ made. AreNew number self.world made.1.items) }
-    {
-        let WorldOpening {
-            of_world,
-            spawned,
+        Err((world, _)) => Err(World {
             world,
-            mut returned,
-            queues,
-            mut systems,
-        } = self;
-        returned.reverse();
-        let mut open = OpenWorld::new(of_world, spawned, world, returned, queues, number);
-        open.give_out(&mut systems);
-        if open.returned() > 0 {
-            return Err((open, systems));
-        }
-        Ok((open, systems))
+            number: of_world,
+            spawned,
+        }),
+    }
+}
+
+/// Gives each of the reservers an empty queue, in their order, and leaves a list without elements.
+/// There is room for all of them.
+#[inline]
+fn equip(reservers: &mut Vec<SharedReserver>, callers: &mut Vec<Issuer>)
+    // requires none { callers.old.items ≡ [] }
+    // requires room { vec_len reservers.old ≤ vec_capacity callers.old }
+    // ensures callers { callers.new.items ≡ map new_issuer reservers.old.items }
+    // ensures left { reservers.new.items ≡ [] }
+    // ensures room { vec_capacity reservers.new ≡ vec_capacity reservers.old }
+    // ensures callers_room { vec_capacity callers.new ≡ vec_capacity callers.old }
+{
+    reservers.reverse();
+    while let Some(reserver) = reservers.pop() {
+        callers.push_reserved(Issuer {
+            reserver,
+            queue: IssuedCommands::unfilled(),
+        });
     }
 }

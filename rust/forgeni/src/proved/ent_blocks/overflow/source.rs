@@ -111,9 +111,4 @@ impl Deals for Overflow {
     ) -> Result<(Self, Vec<OverflowReserver>), (Entities, OutOfMemory)> {
         open_with_overflow(entities, sizes)
     }
-
-    #[inline]
-    fn into_ended(closed: Ended) -> Ended {
-        closed
-    }
 }
