@@ -1,72 +1,49 @@
-//! A phase of a world has ended: the world is put together again, and the queues of its callers are
-//! in one list.
-ghost use Rattle.std.specs.Prelude.{◌≡◌, ◌≤◌, ◌+◌, ◌^◌, ◌++◌, All, length};
+//! A phase of a world has ended: its callers are taken apart, and the world is closed.
+ghost use Rattle.std.specs.Prelude.{◌≡◌, ◌≤◌, ◌+◌, ◌++◌, All, length};
 ghost use Rattle.std.specs.Vec.{vec_capacity, vec_len};
 ghost use Rattle.ent_shared.specs.Phase.{IsOf};
-ghost use Rattle.ent_total.specs.Issuing.{EndsWith, IsClosed, IsClosedLost};
-ghost use Rattle.ent_total.specs.Issuing.{reservers_in, queues_in};
+ghost use Rattle.ent_total.specs.Issuing.{IsClosed, IsClosedLost, reservers_in, queues_in};
 
 use crate::issuer::Issuer;
 use crate::open_world::OpenWorld;
 use crate::queues::Queues;
-use crate::world::World;
 use ent_queue::CommandQueue;
 use ent_shared::Reserver;
 
-/// Ends the phase with all its callers.
-pub(crate) fn close_all(opened: OpenWorld, callers: Vec<Issuer>) -> (World, Queues)
-    requires own { All (λ c. IsOf opened.world.shared c.reserver) callers.items }
-    requires all { length callers.items ≡ opened.world.shared.count }
-    ensures { EndsWith IsClosed opened callers.items result }
-{
-    let OpenWorld {
-        world,
-        of_world,
-        spawned,
-        mut returned,
-        mut queues,
-    } = opened;
-    take_apart(callers, &mut returned, &mut queues);
-    let world = closed_world(world, returned);
-    with_queues(world, of_world, spawned, queues)
+/// What a phase of a world consists of when it ends.
+#[derive(Drop)]
+pub(crate) struct Parts {
+    pub(crate) world: ent_world::OpenWorld,
+    pub(crate) reservers: Vec<Reserver>,
+    pub(crate) queues: Queues,
+    pub(crate) spawned: u32,
 }
 
-/// Ends the phase although some of its callers may be lost.
-pub(crate) fn close_some(opened: OpenWorld, callers: Vec<Issuer>) -> (World, Queues)
+/// Takes the phase and its callers apart. It doesn't allocate.
+pub(crate) fn parts_of(opened: OpenWorld, callers: Vec<Issuer>) -> Parts
     requires own { All (λ c. IsOf opened.world.shared c.reserver) callers.items }
     requires few { length callers.items ≤ opened.world.shared.count }
-    ensures { EndsWith IsClosedLost opened callers.items result }
+    ensures world { result.world ≡ opened.world }
+    ensures reservers { result.reservers.items ≡ reservers_in callers.items }
+    ensures own { All (IsOf opened.world.shared) result.reservers.items }
+    ensures queues { result.queues
+        ≡ record { world = opened.of_world; queues = queues_in callers.items } }
+    ensures spawned { result.spawned ≡ opened.spawned }
 {
     let OpenWorld {
         world,
         of_world,
         spawned,
-        mut returned,
+        returned: mut reservers,
         mut queues,
     } = opened;
-    take_apart(callers, &mut returned, &mut queues);
-    let world = lost_world(world, returned);
-    with_queues(world, of_world, spawned, queues)
-}
-
-/// The world under its number, and its queues.
-fn with_queues(
-    world: ent_world::World,
-    number: u64,
-    spawned: u32,
-    queues: Vec<CommandQueue>,
-) -> (World, Queues)
-    requires few { length queues.items ≤ 2 ^ 16 }
-    ensures world { result.0 ≡ record { world = world; number = number; spawned = spawned } }
-    ensures queues { result.1 ≡ record { world = number; queues = queues.items } }
-{
-    let queues = Queues::new(number, queues);
-    let world = World {
+    take_apart(callers, &mut reservers, &mut queues);
+    Parts {
         world,
-        number,
+        reservers,
+        queues: Queues::new(of_world, queues),
         spawned,
-    };
-    (world, queues)
+    }
 }
 
 /// Puts what the callers reserve with, and their queues, behind two lists that have room for them.
@@ -84,7 +61,10 @@ fn take_apart(callers: Vec<Issuer>, reservers: &mut Vec<Reserver>, queues: &mut 
 }
 
 /// `OpenWorld::close`, with all that it ensures as one fact.
-fn closed_world(opened: ent_world::OpenWorld, returned: Vec<Reserver>) -> ent_world::World
+pub(crate) fn closed_world(
+    opened: ent_world::OpenWorld,
+    returned: Vec<Reserver>,
+) -> ent_world::World
     requires all { length returned.items ≡ opened.shared.count }
     requires own { All (IsOf opened.shared) returned.items }
     ensures { IsClosed opened returned.items result }
@@ -93,7 +73,7 @@ fn closed_world(opened: ent_world::OpenWorld, returned: Vec<Reserver>) -> ent_wo
 }
 
 /// `OpenWorld::close_lost`, with all that it ensures as one fact.
-fn lost_world(opened: ent_world::OpenWorld, returned: Vec<Reserver>) -> ent_world::World
+pub(crate) fn lost_world(opened: ent_world::OpenWorld, returned: Vec<Reserver>) -> ent_world::World
     requires { All (IsOf opened.shared) returned.items }
     ensures { IsClosedLost opened returned.items result }
 {

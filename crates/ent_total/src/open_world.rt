@@ -3,7 +3,7 @@ ghost use Rattle.std.specs.Prelude.{◌≡◌, ◌≤◌, [], length};
 ghost use Rattle.std.specs.Vec.{vec_capacity};
 ghost use Rattle.ent_total.specs.Issuing.{view_of};
 
-use crate::ending::{close_all, close_some};
+use crate::ending::{Parts, closed_world, lost_world, parts_of};
 use crate::issuer::Issuer;
 use crate::numbering::Numbering;
 use crate::phase::Phase;
@@ -152,7 +152,18 @@ impl Phased for OpenWorld {
         requires all { length callers.items ≡ self.world.shared.count }
         ensures { EndsWith IsClosed self callers.items result }
     {
-        close_all(self, callers)
+        let Parts {
+            world,
+            reservers,
+            queues,
+            spawned,
+        } = parts_of(self, callers);
+        let world = World {
+            world: closed_world(world, reservers),
+            number: queues.world(),
+            spawned,
+        };
+        (world, queues)
     }
 
     fn end_with_some(self, callers: Vec<Issuer>) -> (World, Queues)
@@ -160,7 +171,18 @@ impl Phased for OpenWorld {
         requires few { length callers.items ≤ self.world.shared.count }
         ensures { EndsWith IsClosedLost self callers.items result }
     {
-        close_some(self, callers)
+        let Parts {
+            world,
+            reservers,
+            queues,
+            spawned,
+        } = parts_of(self, callers);
+        let world = World {
+            world: lost_world(world, reservers),
+            number: queues.world(),
+            spawned,
+        };
+        (world, queues)
     }
 }
 

@@ -67,18 +67,29 @@ impl Entities {
         callers: usize,
         run: impl FnOnce(&Phase, &mut [Lent<'_>]) -> T,
     ) -> Result<T, ShareError> {
-        let mut lending = Lending::begin(
-            self,
-            |entities| entities.share(callers).map_err(HandedBack::into_parts),
-            closed,
-        )?;
-        let (shared, reservers) = lending.parts();
-        let mut lent = Vec::new();
-        lent.try_reserve_exact(callers)
-            .map_err(|_| ShareError::Memory)?;
-        lent.extend(reservers.iter_mut().map(Lent::of));
-        Ok(run(shared, &mut lent))
+        let open = |entities: Entities| entities.share(callers);
+        let (done, ()) = lending(self, open, |parts| (closed(parts), ()), run)?;
+        Ok(done)
     }
+}
+
+/// What `run` makes of a phase, and what is left of the phase when `back` has made of it again what
+/// was opened. That happens even if `run` panics.
+pub(crate) fn lending<T: Default, S: Phased, A, B>(
+    home: &mut T,
+    open: impl FnOnce(T) -> Result<(Phase<S>, Vec<Reserver<S>>), HandedBack<T, ShareError>>,
+    back: fn((Phase<S>, Vec<Reserver<S>>)) -> (T, B),
+    run: impl FnOnce(&Phase<S>, &mut [Lent<'_, S>]) -> A,
+) -> Result<(A, B), ShareError> {
+    let open = |home| open(home).map_err(HandedBack::into_parts);
+    let mut lending = Lending::begin(home, open, back)?;
+    let (phase, reservers) = lending.parts();
+    let mut lent = Vec::new();
+    lent.try_reserve_exact(reservers.len())
+        .map_err(|_| ShareError::Memory)?;
+    lent.extend(reservers.iter_mut().map(Lent::of));
+    let done = run(phase, &mut lent);
+    Ok((done, lending.end()))
 }
 
 /// The phase of this opening under a number of its own, and all its reservers. If they can't be

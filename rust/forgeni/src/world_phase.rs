@@ -1,10 +1,8 @@
 //! A phase on a borrow of the world.
 
-use crate::lending::Lending;
 use crate::lent::Lent;
-use crate::phase::closed;
-use crate::{HandedBack, OpenWorld, Phase, Queues, ShareError, World};
-use alloc::vec::Vec;
+use crate::phase::{closed, lending};
+use crate::{OpenWorld, Phase, Queues, ShareError, World};
 
 /// # Phases
 impl World {
@@ -48,17 +46,6 @@ impl World {
         count: usize,
         run: impl FnOnce(&Phase<OpenWorld>, &mut [Lent<'_, OpenWorld>]) -> T,
     ) -> Result<(T, Queues), ShareError> {
-        let mut lending = Lending::begin(
-            self,
-            |world| world.open(count).map_err(HandedBack::into_parts),
-            |parts| closed(parts).0,
-        )?;
-        let (open, systems) = lending.parts();
-        let mut lent = Vec::new();
-        lent.try_reserve_exact(count)
-            .map_err(|_| ShareError::Memory)?;
-        lent.extend(systems.iter_mut().map(Lent::of));
-        let done = run(open, &mut lent);
-        Ok((done, lending.end(closed)))
+        lending(self, |world| world.open(count), closed, run)
     }
 }

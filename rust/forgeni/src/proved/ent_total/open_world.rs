@@ -3,7 +3,7 @@
 //! A world in a phase.
 
 use alloc::vec::Vec;
-use crate::phases::ending::{close_all, close_some};
+use crate::phases::ending::{Parts, closed_world, lost_world, parts_of};
 use crate::phases::issuer::Issuer;
 use crate::phases::phase::Phase;
 use crate::phases::queues::Queues;
@@ -102,7 +102,18 @@ impl Phased for OpenWorld {
         // requires all { length callers.items ≡ self.world.shared.count }
         // ensures { EndsWith IsClosed self callers.items result }
     {
-        close_all(self, callers)
+        let Parts {
+            world,
+            reservers,
+            queues,
+            spawned,
+        } = parts_of(self, callers);
+        let world = World {
+            world: closed_world(world, reservers),
+            number: queues.world(),
+            spawned,
+        };
+        (world, queues)
     }
 
     #[inline]
@@ -111,7 +122,18 @@ impl Phased for OpenWorld {
         // requires few { length callers.items ≤ self.world.shared.count }
         // ensures { EndsWith IsClosedLost self callers.items result }
     {
-        close_some(self, callers)
+        let Parts {
+            world,
+            reservers,
+            queues,
+            spawned,
+        } = parts_of(self, callers);
+        let world = World {
+            world: lost_world(world, reservers),
+            number: queues.world(),
+            spawned,
+        };
+        (world, queues)
     }
 }
 

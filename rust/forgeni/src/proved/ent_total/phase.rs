@@ -9,9 +9,9 @@ use crate::handles::OutOfMemory;
 use crate::reserving::SharedSource;
 use crate::kit::sync::Arc;
 
-/// An allocator in a phase: its reservers can reserve, and the phase ends when they come back.
-/// [`Entities::share`](crate::Entities::share) opens it, with its reservers. `S` is the source of
-/// their handles.
+/// An allocator or a world in a phase: its reservers can reserve, and the phase ends when they come
+/// back. [`Entities::share`](crate::Entities::share) and [`World::open`](crate::World::open)
+/// open it, with its reservers. `S` is the source of their handles.
 ///
 /// The allocator is inside the phase, so nothing but reservations can happen until
 /// [`close`](Self::close) gives it back. If the `Phase` is dropped, the allocator is dropped with

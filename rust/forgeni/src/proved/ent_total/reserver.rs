@@ -5,7 +5,8 @@ use crate::allocator::{Entities, Phased};
 use crate::reserving::SharedSource;
 use crate::kit::sync::Arc;
 
-/// One caller's right to reserve in a phase of an allocator. `S` is the source of its handles.
+/// One caller's right to reserve in a phase of an allocator or of a world. `S` is the source of its
+/// handles. In an [`OpenWorld`](crate::phases::OpenWorld) it issues commands too.
 ///
 /// It can go to a thread of its own. A reservation never waits, and in a shared allocator it is one
 /// atomic step: the handle is what the allocator would have given to one caller at that moment. No

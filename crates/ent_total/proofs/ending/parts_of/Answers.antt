@@ -1,9 +1,9 @@
 use Rattle.ent_total.proofs.Common.{rules, IsOf, All-map}
 use Rattle.ent_total.specs.declared.issuer.Issuer.{Issuer}
-use Rattle.ent_total.proofs.ending.close_some.Goals as goal
+use Rattle.ent_total.proofs.ending.parts_of.Goals as goal
 
-pub lost_world-world-requires : goal.lost_world-world-requires
-lost_world-world-requires c =
+pub returns-clause-own : goal.returns-clause-own
+returns-clause-own c =
     let all =
     All-map (IsOf c.args.opened.world.shared) (λ (c : Issuer). c.reserver) c.args.callers.items
     c.requires.own in
