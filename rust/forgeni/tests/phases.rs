@@ -245,6 +245,28 @@ mod pools {
     }
 
     /// More threads than reservers, each of which comes for a while. No handle is given twice.
+    /// Tasks on threads that come and go issue the commands of a world.
+    #[test]
+    fn of_a_world() {
+        const HP: ComponentId = ComponentId(0);
+        let mut world = World::new();
+        let lent = world.phase(2, |_open, systems| {
+            let pool = &Reservers::new(systems).expect("memory");
+            std::thread::scope(|scope| {
+                for value in 0..8 {
+                    scope.spawn(move || pool.with(|commands| commands.spawn(&[(HP, value)])));
+                }
+            });
+        });
+        let ((), queues) = lent.expect("a phase");
+        let report = world.apply(queues).expect("memory");
+        assert_eq!((report.born.len(), report.faults.len()), (8, 0));
+        let values = report.born.iter().filter_map(|one| world.get(*one, HP));
+        let mut values: Vec<_> = values.collect();
+        values.sort_unstable();
+        assert_eq!(values, [0, 1, 2, 3, 4, 5, 6, 7]);
+    }
+
     #[test]
     fn threads_that_come_and_go() {
         for (reservers, threads) in [(1, 4), (3, 8), (8, 8), (16, 5)] {

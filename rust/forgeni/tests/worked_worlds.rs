@@ -347,6 +347,59 @@ fn a_world_is_opened_for_some_systems() {
     assert_eq!(world.birth(handle(0, 1)), Some(birth));
 }
 
+/// A reserver of a world may reserve without a command. What it reserves has no components and no
+/// system, and is numbered by the order of the pool.
+#[test]
+fn reserved_without_a_command() {
+    let (open, mut systems) = World::new().open(2).expect("a phase");
+    let first = systems[1].reserve().expect("a handle");
+    let made = systems[0].spawn(&[(HP, 1)]).expect("a handle");
+    let mut list = vec![first];
+    let more = systems[1].reserve_into(&mut list, 2);
+    assert_eq!(more, Ok(()));
+    assert_eq!(list, [handle(0, 1), handle(2, 1), handle(3, 1)]);
+    let (mut world, queues) = open.close(systems).expect("all are here");
+    assert_eq!(world.apply(queues).expect("memory").born.len(), 4);
+    for (bare, ordinal) in list.into_iter().zip(0..) {
+        let birth = Birth {
+            frame: 0,
+            system: Birth::NO_SYSTEM,
+            ordinal,
+        };
+        assert_eq!(world.birth(bare), Some(birth));
+        assert_eq!(world.items(bare).map(Iterator::count), Some(0));
+    }
+    let birth = Birth {
+        frame: 0,
+        system: 0,
+        ordinal: 0,
+    };
+    assert_eq!(world.birth(made), Some(birth));
+    assert_eq!(world.get(made, HP), Some(1));
+}
+
+/// What a refused close keeps is given out again with the commands that it had.
+#[test]
+fn given_out_again_with_its_commands() {
+    let (open, mut systems) = World::new().open(2).expect("a phase");
+    let made = systems[0].spawn(&[(HP, 1)]).expect("a handle");
+    let late = systems.pop().expect("a system");
+    let refused = open.close_lost(systems).expect_err("one is in use");
+    let ((mut open, none), error) = refused.into_parts();
+    assert_eq!((error, none.len()), (CloseError::InUse, 0));
+    assert_eq!((open.count(), open.returned()), (2, 1));
+    let again = open.reserver().expect("memory");
+    let mut again = again.expect("one is kept");
+    assert_eq!((again.number(), open.returned()), (0, 0));
+    again.insert(made, &[(HP, 2)]).expect("memory");
+    let (mut world, queues) = open.close(vec![late, again]).expect("all are here");
+    let report = world.apply(queues).expect("memory");
+    assert_eq!((report.born, report.faults), (vec![made], vec![]));
+    assert_eq!(world.get(made, HP), Some(2));
+    // The order of the close numbers the systems.
+    assert_eq!(world.birth(made).map(|it| it.system), Some(1));
+}
+
 /// Commands outlive the phase, which goes with the last of them.
 #[test]
 fn dropped_after_their_phase() {
