@@ -13,7 +13,7 @@ use ent_handle::Handle;
 
 impl<J: Numbering, S: Phased> Reserver<J, S> {
     /// Reserves one handle, in a shared allocator by one atomic step. It neither allocates nor
-    /// waits.
+    /// waits. In a phase of a world its entity has no components.
     ///
     /// ```
     /// use forgeni::Entities;

@@ -1,4 +1,4 @@
-use Rattle.ent_total.proofs.Common.{◌≡◌, ◌≤◌, ◌+◌, ◌++◌, length, map, reverse, vec_len}
+use Rattle.ent_total.proofs.Common.{◌≡◌, ◌≤◌, ◌+◌, ◌++◌, map, reverse, vec_len}
 use Rattle.ent_total.proofs.Common.{vec_capacity}
 use Rattle.ent_total.specs.Issuing.{new_issuer}
 use Rattle.ent_total.proofs.world_opening.equip.Given as goal

@@ -1,4 +1,4 @@
-use Rattle.ent_total.proofs.Common.{rules, ◌≡◌, [], IsOf, All-map, Reserver}
+use Rattle.ent_total.proofs.Common.{rules, ◌≡◌, [], IsOf, All-map}
 use Rattle.ent_total.proofs.Unused.{none_issued, reservers-new}
 use Rattle.ent_total.specs.Issuing.{new_issuer}
 use Rattle.ent_total.specs.declared.issuer.Issuer.{Issuer}

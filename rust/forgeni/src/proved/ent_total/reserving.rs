@@ -10,7 +10,7 @@ use crate::handles::Handle;
 /// # Reserving
 impl<S: Phased> Reserver<S> {
     /// Reserves one handle, in a shared allocator by one atomic step. It neither allocates nor
-    /// waits.
+    /// waits. In a phase of a world its entity has no components.
     ///
     /// ```
     /// use forgeni::Entities;
