@@ -3,8 +3,7 @@ use Rattle.ent_total.proofs.Common.{rules, ◌≡◌, List, [], ◌∷◌, refl,
 use Rattle.ent_total.proofs.Common.{Allocator, after_history, Reserver, records_of, own_of_all}
 use Rattle.ent_total.proofs.Common.{history_of, map, All-map}
 use Rattle.ent_alloc.specs.Entities.{Entities}
-use Rattle.ent_total.specs.Issuing.{new_issuer, reservers_in}
-use Rattle.ent_total.specs.declared.issuer.Issuer.{Issuer}
+use Rattle.ent_total.specs.Issuing.{Issuer, new_issuer, reservers_in}
 use Rattle.ent_total.specs.declared.world.World.{World}
 
 abbrev IsUnused : Reserver → Type 0
@@ -36,11 +35,11 @@ reservers-new [] = refl
 reservers-new (r ∷ rs) = search (rules, reservers-new rs)
 
 pub none_issued : (rs : List Reserver)
-    → All (λ (c : Issuer). c.queue ≡ []) (map new_issuer rs)
+    → All (λ (c : Issuer). c.1 ≡ []) (map new_issuer rs)
 none_issued [] = search rules
 none_issued (r ∷ rs) = search (rules, none_issued rs)
 
 -- What they reserve with is unused if it is of each of them.
 pub unused_reservers : (cs : List Issuer)
-    → All (λ (c : Issuer). c.reserver.own.entries ≡ []) cs → All IsUnused (reservers_in cs)
-unused_reservers cs unused = All-map IsUnused (λ (c : Issuer). c.reserver) cs unused
+    → All (λ (c : Issuer). c.0.own.entries ≡ []) cs → All IsUnused (reservers_in cs)
+unused_reservers cs unused = All-map IsUnused (λ (c : Issuer). c.0) cs unused

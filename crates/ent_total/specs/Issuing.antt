@@ -13,7 +13,6 @@ use Rattle.ent_world.specs.OpenWorld.{OpenWorld as Opened, View, open_world_code
 use Rattle.ent_world.specs.World.{World, IsWorld}
 use Rattle.ent_total.specs.Batch.{Queues}
 use Rattle.ent_total.specs.Phases.{Reserver}
-use Rattle.ent_total.specs.declared.issuer.Issuer.{Issuer}
 use Rattle.ent_total.specs.declared.world.World.{World as NumberedWorld}
 
 -- the world that is open, its number, and how many entities were spawned in it since the last flush
@@ -21,6 +20,10 @@ pub record OpenWorld : Type 0 where
   pub world : Opened
   pub of_world : ℕ
   pub spawned : ℕ
+
+-- what a caller has: its right to reserve, and the commands that it has issued
+abbrev pub Issuer : Type 0
+Issuer = SharedReserver × List Command
 
 -- a reserver of a world's phase
 abbrev pub Commands : Type 0
@@ -31,28 +34,28 @@ abbrev pub shared_of : Commands → Shared
 shared_of c = c.source.world.shared
 
 abbrev pub reserver_of : Commands → SharedReserver
-reserver_of c = c.reserver.reserver
+reserver_of c = c.reserver.0
 
 abbrev pub queue_of : Commands → List Command
-queue_of c = c.reserver.queue
+queue_of c = c.reserver.1
 
 -- with these commands instead, or with one more
 abbrev pub with_queue : Commands → List Command → Commands
-with_queue c queue = record c { reserver = record c.reserver { queue = queue } }
+with_queue c queue = record c { reserver = (reserver_of c, queue) }
 
 abbrev pub issued : Commands → Command → Commands
 issued c command = with_queue c (queue_of c ++ command ∷ [])
 
 -- a caller that has issued nothing
 abbrev pub new_issuer : SharedReserver → Issuer
-new_issuer reserver = record { reserver = reserver; queue = [] }
+new_issuer reserver = (reserver, [])
 
 -- the rights to reserve of these callers, and their queues
 abbrev pub reservers_in : List Issuer → List SharedReserver
-reservers_in callers = map (λ (c : Issuer). c.reserver) callers
+reservers_in callers = map (λ (c : Issuer). c.0) callers
 
 abbrev pub queues_in : List Issuer → List (List Command)
-queues_in callers = map (λ (c : Issuer). c.queue) callers
+queues_in callers = map (λ (c : Issuer). c.1) callers
 
 -- what systems see of the world
 abbrev pub view_of : OpenWorld → View

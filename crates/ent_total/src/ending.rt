@@ -4,7 +4,6 @@ ghost use Rattle.std.specs.Vec.{vec_capacity, vec_len};
 ghost use Rattle.ent_shared.specs.Phase.{IsOf};
 ghost use Rattle.ent_total.specs.Issuing.{IsClosed, IsClosedLost, reservers_in, queues_in};
 
-use crate::issuer::Issuer;
 use crate::open_world::OpenWorld;
 use crate::queues::Queues;
 use ent_queue::CommandQueue;
@@ -20,8 +19,8 @@ pub(crate) struct Parts {
 }
 
 /// Takes the phase and its callers apart. It doesn't allocate.
-pub(crate) fn parts_of(opened: OpenWorld, callers: Vec<Issuer>) -> Parts
-    requires own { All (λ c. IsOf opened.world.shared c.reserver) callers.items }
+pub(crate) fn parts_of(opened: OpenWorld, callers: Vec<(Reserver, CommandQueue)>) -> Parts
+    requires own { All (λ c. IsOf opened.world.shared c.0) callers.items }
     requires few { length callers.items ≤ opened.world.shared.count }
     ensures world { result.world ≡ opened.world }
     ensures reservers { result.reservers.items ≡ reservers_in callers.items }
@@ -47,14 +46,17 @@ pub(crate) fn parts_of(opened: OpenWorld, callers: Vec<Issuer>) -> Parts
 }
 
 /// Puts what the callers reserve with, and their queues, behind two lists that have room for them.
-fn take_apart(callers: Vec<Issuer>, reservers: &mut Vec<Reserver>, queues: &mut Vec<CommandQueue>)
+fn take_apart(
+    callers: Vec<(Reserver, CommandQueue)>,
+    reservers: &mut Vec<Reserver>,
+    queues: &mut Vec<CommandQueue>,
+)
     requires room { vec_len reservers.old + length callers.items ≤ vec_capacity reservers.old }
     requires queue_room { vec_len queues.old + length callers.items ≤ vec_capacity queues.old }
     ensures reservers { reservers.new.items ≡ reservers.old.items ++ reservers_in callers.items }
     ensures queues { queues.new.items ≡ queues.old.items ++ queues_in callers.items }
 {
-    for caller in callers {
-        let Issuer { reserver, queue } = caller;
+    for (reserver, queue) in callers {
         reservers.push_reserved(reserver);
         queues.push_reserved(queue);
     }

@@ -64,9 +64,9 @@ impl<J: Numbering> Reserver<J, OpenWorld> {
     {
         let queue = self.take_queue(alloc);
         let shared = self.source.shared();
-        let mut commands = Commands::resume(alloc, shared, &mut self.reserver.reserver, queue);
+        let mut commands = Commands::resume(alloc, shared, &mut self.reserver.0, queue);
         let spawned = commands.spawn_with(components);
-        self.reserver.queue = commands.finish();
+        self.reserver.1 = commands.finish();
         spawned
     }
 
@@ -118,9 +118,9 @@ impl<J: Numbering> Reserver<J, OpenWorld> {
     {
         let queue = self.take_queue(alloc);
         let shared = self.source.shared();
-        let mut commands = Commands::resume(alloc, shared, &mut self.reserver.reserver, queue);
+        let mut commands = Commands::resume(alloc, shared, &mut self.reserver.0, queue);
         let spawned = commands.spawn_many_with(n, components);
-        self.reserver.queue = commands.finish();
+        self.reserver.1 = commands.finish();
         spawned
     }
 
@@ -160,9 +160,9 @@ impl<J: Numbering> Reserver<J, OpenWorld> {
     {
         let queue = self.take_queue(alloc);
         let shared = self.source.shared();
-        let mut commands = Commands::resume(alloc, shared, &mut self.reserver.reserver, queue);
+        let mut commands = Commands::resume(alloc, shared, &mut self.reserver.0, queue);
         let issued = commands.insert_with(handle, components);
-        self.reserver.queue = commands.finish();
+        self.reserver.1 = commands.finish();
         issued
     }
 
@@ -191,9 +191,9 @@ impl<J: Numbering> Reserver<J, OpenWorld> {
     {
         let queue = self.take_queue(alloc);
         let shared = self.source.shared();
-        let mut commands = Commands::resume(alloc, shared, &mut self.reserver.reserver, queue);
+        let mut commands = Commands::resume(alloc, shared, &mut self.reserver.0, queue);
         let issued = commands.remove(handle, id);
-        self.reserver.queue = commands.finish();
+        self.reserver.1 = commands.finish();
         issued
     }
 
@@ -225,9 +225,9 @@ impl<J: Numbering> Reserver<J, OpenWorld> {
     {
         let queue = self.take_queue(alloc);
         let shared = self.source.shared();
-        let mut commands = Commands::resume(alloc, shared, &mut self.reserver.reserver, queue);
+        let mut commands = Commands::resume(alloc, shared, &mut self.reserver.0, queue);
         let issued = commands.despawn(handle);
-        self.reserver.queue = commands.finish();
+        self.reserver.1 = commands.finish();
         issued
     }
 
@@ -236,7 +236,7 @@ impl<J: Numbering> Reserver<J, OpenWorld> {
         ensures queue { result ≡ queue_of self.old }
         ensures rest { self.new ≡ with_queue self.old [] }
     {
-        mem::replace(&mut self.reserver.queue, CommandQueue::unfilled(alloc))
+        mem::replace(&mut self.reserver.1, CommandQueue::unfilled(alloc))
     }
 
     /// Returns a view of the world, like the one that a system of a frame gets.
@@ -294,6 +294,6 @@ impl<J: Numbering> Reserver<J, OpenWorld> {
     pub fn number(&self) -> usize
         ensures { result ≡ (reserver_of self.now).own.number }
     {
-        self.reserver.reserver.number()
+        self.reserver.0.number()
     }
 }

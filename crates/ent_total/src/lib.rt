@@ -15,7 +15,6 @@ mod go_on_error;
 mod image;
 mod in_blocks;
 mod in_world;
-mod issuer;
 mod issuing;
 mod lending;
 mod logging;

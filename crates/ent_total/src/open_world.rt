@@ -4,7 +4,6 @@ ghost use Rattle.std.specs.Vec.{vec_capacity};
 ghost use Rattle.ent_total.specs.Issuing.{view_of};
 
 use crate::ending::{Parts, closed_world, lost_world, parts_of};
-use crate::issuer::Issuer;
 use crate::numbering::Numbering;
 use crate::phase::Phase;
 use crate::queues::Queues;
@@ -79,17 +78,17 @@ impl Source for OpenWorld {
     ghost use Rattle.ent_shared.specs.Phase.{IsOf};
     ghost use Rattle.ent_shared.specs.Replies.{IsReturned};
 
-    type Reserver = Issuer;
+    // A right to reserve, and the commands that were issued.
+    type Reserver = (Reserver, CommandQueue);
 
-    ghost serves = { λ w caller. IsOf w.world.shared caller.reserver };
+    ghost serves = { λ w caller. IsOf w.world.shared caller.0 };
 
     // A reservation issues no command.
     ghost may_reply = { λ w before after n reply.
-        IsReturned w.world.shared before.reserver after.reserver n reply
-        × (after.queue ≡ before.queue) };
+        IsReturned w.world.shared before.0 after.0 n reply × (after.1 ≡ before.1) };
 
     ghost may_give = { λ w caller n.
-        (n ≤ caller.reserver.own.left) × (n ≤ length w.world.shared.start.pool) };
+        (n ≤ caller.0.own.left) × (n ≤ length w.world.shared.start.pool) };
 
     ghost start = { λ w. w.world.shared.start };
 
@@ -103,18 +102,22 @@ impl Source for OpenWorld {
         self.shared().had_row(handle)
     }
 
-    fn may_serve(&self, caller: &Issuer, n: u32) -> bool {
-        self.shared().may_serve(&caller.reserver, n)
+    fn may_serve(&self, caller: &(Reserver, CommandQueue), n: u32) -> bool {
+        self.shared().may_serve(&caller.0, n)
     }
 
     #[inline(always)]
-    fn serve_one(&self, caller: &mut Issuer) -> Result<Handle, Refused> {
-        self.shared().serve_one(&mut caller.reserver)
+    fn serve_one(&self, caller: &mut (Reserver, CommandQueue)) -> Result<Handle, Refused> {
+        self.shared().serve_one(&mut caller.0)
     }
 
     #[inline(always)]
-    fn serve_many(&self, caller: &mut Issuer, n: u32) -> Result<Reserved<'_>, Refused> {
-        self.shared().serve_many(&mut caller.reserver, n)
+    fn serve_many(
+        &self,
+        caller: &mut (Reserver, CommandQueue),
+        n: u32,
+    ) -> Result<Reserved<'_>, Refused> {
+        self.shared().serve_many(&mut caller.0, n)
     }
 }
 
@@ -143,12 +146,12 @@ impl Phased for OpenWorld {
         self.shared().as_opened()
     }
 
-    fn may_take(&self, _callers: &[Issuer]) -> bool {
+    fn may_take(&self, _callers: &[(Reserver, CommandQueue)]) -> bool {
         true
     }
 
-    fn end_with_all(self, callers: Vec<Issuer>) -> (World, Queues)
-        requires own { All (λ c. IsOf self.world.shared c.reserver) callers.items }
+    fn end_with_all(self, callers: Vec<(Reserver, CommandQueue)>) -> (World, Queues)
+        requires own { All (λ c. IsOf self.world.shared c.0) callers.items }
         requires all { length callers.items ≡ self.world.shared.count }
         ensures { EndsWith IsClosed self callers.items result }
     {
@@ -166,8 +169,8 @@ impl Phased for OpenWorld {
         (world, queues)
     }
 
-    fn end_with_some(self, callers: Vec<Issuer>) -> (World, Queues)
-        requires own { All (λ c. IsOf self.world.shared c.reserver) callers.items }
+    fn end_with_some(self, callers: Vec<(Reserver, CommandQueue)>) -> (World, Queues)
+        requires own { All (λ c. IsOf self.world.shared c.0) callers.items }
         requires few { length callers.items ≤ self.world.shared.count }
         ensures { EndsWith IsClosedLost self callers.items result }
     {

@@ -7,7 +7,6 @@ ghost use Rattle.ent_shared.specs.Record.{opened_records};
 ghost use Rattle.ent_total.specs.Issuing.{reservers_in, new_issuer, view_of};
 ghost use Rattle.ent_total.specs.declared.share_error.ShareError.TheVariants.{NeedsFlush, Count};
 
-use crate::issuer::Issuer;
 use crate::numbering::Numbering;
 use crate::open_world::OpenWorld;
 use crate::opening::{Opening, begin};
@@ -39,7 +38,7 @@ pub fn open<J: Numbering>(
         ≡ record { phase = world.world.phase; entities = world.world.entities }) }
     ensures reservers { IfOk result (λ o. records_of (reservers_in o.returned)
         ≡ opened_records world.world.allocator 0 count) }
-    ensures no_command { IfOk result (λ o. All (λ c. c.queue ≡ []) o.returned) }
+    ensures no_command { IfOk result (λ o. All (λ c. c.1 ≡ []) o.returned) }
     ensures needs_flush { IsErrAnd result (λ h. h.error ≡ NeedsFlush)
         ↔ (0 < world.world.allocator.asked) }
     ensures no_count { IsErrAnd result (λ h. h.error ≡ Count)
@@ -69,7 +68,11 @@ pub fn open<J: Numbering>(
 }
 
 /// Opens a flushed world for its callers. If memory runs out, it comes back.
-fn opened(alloc: Global, world: World, count: usize) -> Result<(OpenWorld, Vec<Issuer>), World>
+fn opened(
+    alloc: Global,
+    world: World,
+    count: usize,
+) -> Result<(OpenWorld, Vec<(Reserver, CommandQueue)>), World>
     requires flushed { world.world.allocator.asked ≡ 0 }
     requires some { 0 < count }
     requires few { count ≤ 1024 }
@@ -82,9 +85,9 @@ fn opened(alloc: Global, world: World, count: usize) -> Result<(OpenWorld, Vec<I
     ensures reservers { IfOk result (λ made. records_of (reservers_in made.1.items)
         ≡ opened_records world.world.allocator 0 count) }
     ensures own { IfOk result (λ made.
-        All (λ c. IsOf made.0.world.shared c.reserver) made.1.items) }
-    ensures unused { IfOk result (λ made. All (λ c. c.reserver.own.entries ≡ []) made.1.items) }
-    ensures no_command { IfOk result (λ made. All (λ c. c.queue ≡ []) made.1.items) }
+        All (λ c. IsOf made.0.world.shared c.0) made.1.items) }
+    ensures unused { IfOk result (λ made. All (λ c. c.0.own.entries ≡ []) made.1.items) }
+    ensures no_command { IfOk result (λ made. All (λ c. c.1 ≡ []) made.1.items) }
     ensures count { IfOk result (λ made. length made.1.items ≡ count) }
     ensures room { IfOk result (λ made. count ≤ vec_capacity made.1) }
     ensures err { IfErr result (λ refused. refused ≡ world) }
@@ -122,7 +125,7 @@ fn opened(alloc: Global, world: World, count: usize) -> Result<(OpenWorld, Vec<I
 
 /// Gives each of the reservers an empty queue, in their order, and leaves a list without elements.
 /// There is room for all of them.
-fn equip(alloc: Global, reservers: &mut Vec<Reserver>, callers: &mut Vec<Issuer>)
+fn equip(alloc: Global, reservers: &mut Vec<Reserver>, callers: &mut Vec<(Reserver, CommandQueue)>)
     requires none { callers.old.items ≡ [] }
     requires room { vec_len reservers.old ≤ vec_capacity callers.old }
     ensures callers { callers.new.items ≡ map new_issuer reservers.old.items }
@@ -132,9 +135,6 @@ fn equip(alloc: Global, reservers: &mut Vec<Reserver>, callers: &mut Vec<Issuer>
 {
     reservers.reverse();
     while let Some(reserver) = reservers.pop() {
-        callers.push_reserved(Issuer {
-            reserver,
-            queue: CommandQueue::unfilled(alloc),
-        });
+        callers.push_reserved((reserver, CommandQueue::unfilled(alloc)));
     }
 }
