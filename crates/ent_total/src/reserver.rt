@@ -38,6 +38,7 @@ use std::sync::Arc;
 ///     scope.spawn(|| only.reserve());
 /// });
 /// ```
+#[must_use]
 #[derive(Drop)]
 pub struct Reserver<J: Numbering, S: Phased = Shared> {
     pub(crate) alloc: Global,

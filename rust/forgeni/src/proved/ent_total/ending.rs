@@ -4,7 +4,6 @@
 
 use alloc::vec::Vec;
 use crate::kit::vec::FallibleVec;
-use crate::phases::issuer::Issuer;
 use crate::phases::open_world::OpenWorld;
 use crate::phases::queues::Queues;
 use crate::commands::IssuedCommands;
@@ -20,8 +19,8 @@ pub(super) struct Parts {
 
 /// Takes the phase and its callers apart. It doesn't allocate.
 #[inline]
-pub(super) fn parts_of(opened: OpenWorld, callers: Vec<Issuer>) -> Parts
-    // requires own { All (λ c. IsOf opened.world.shared c.reserver) callers.items }
+pub(super) fn parts_of(opened: OpenWorld, callers: Vec<(SharedReserver, IssuedCommands)>) -> Parts
+    // requires own { All (λ c. IsOf opened.world.shared c.0) callers.items }
     // requires few { length callers.items ≤ opened.world.shared.count }
     // ensures world { result.world ≡ opened.world }
     // ensures reservers { result.reservers.items ≡ reservers_in callers.items }
@@ -48,14 +47,17 @@ pub(super) fn parts_of(opened: OpenWorld, callers: Vec<Issuer>) -> Parts
 
 /// Puts what the callers reserve with, and their queues, behind two lists that have room for them.
 #[inline]
-fn take_apart(callers: Vec<Issuer>, reservers: &mut Vec<SharedReserver>, queues: &mut Vec<IssuedCommands>)
+fn take_apart(
+    callers: Vec<(SharedReserver, IssuedCommands)>,
+    reservers: &mut Vec<SharedReserver>,
+    queues: &mut Vec<IssuedCommands>,
+)
     // requires room { vec_len reservers.old + length callers.items ≤ vec_capacity reservers.old }
     // requires queue_room { vec_len queues.old + length callers.items ≤ vec_capacity queues.old }
     // ensures reservers { reservers.new.items ≡ reservers.old.items ++ reservers_in callers.items }
     // ensures queues { queues.new.items ≡ queues.old.items ++ queues_in callers.items }
 {
-    for caller in callers {
-        let Issuer { reserver, queue } = caller;
+    for (reserver, queue) in callers {
         reservers.push_reserved(reserver);
         queues.push_reserved(queue);
     }

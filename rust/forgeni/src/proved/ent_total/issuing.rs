@@ -62,9 +62,9 @@ impl Reserver<OpenWorld> {
     ) -> Result<Handle, ReserveError> {
         let queue = self.take_queue();
         let shared = self.source.shared();
-        let mut commands = SystemCommands::resume(shared, &mut self.reserver.reserver, queue);
+        let mut commands = SystemCommands::resume(shared, &mut self.reserver.0, queue);
         let spawned = commands.spawn_with(components);
-        self.reserver.queue = commands.finish();
+        self.reserver.1 = commands.finish();
         spawned
     }
 
@@ -122,9 +122,9 @@ impl Reserver<OpenWorld> {
     ) -> Result<Vec<Handle>, ReserveError> {
         let queue = self.take_queue();
         let shared = self.source.shared();
-        let mut commands = SystemCommands::resume(shared, &mut self.reserver.reserver, queue);
+        let mut commands = SystemCommands::resume(shared, &mut self.reserver.0, queue);
         let spawned = commands.spawn_many_with(n, components);
-        self.reserver.queue = commands.finish();
+        self.reserver.1 = commands.finish();
         spawned
     }
 
@@ -170,9 +170,9 @@ impl Reserver<OpenWorld> {
     ) -> Result<(), OutOfMemory> {
         let queue = self.take_queue();
         let shared = self.source.shared();
-        let mut commands = SystemCommands::resume(shared, &mut self.reserver.reserver, queue);
+        let mut commands = SystemCommands::resume(shared, &mut self.reserver.0, queue);
         let issued = commands.insert_with(handle, components);
-        self.reserver.queue = commands.finish();
+        self.reserver.1 = commands.finish();
         issued
     }
 
@@ -208,9 +208,9 @@ impl Reserver<OpenWorld> {
     pub fn remove(&mut self, handle: Handle, id: ComponentId) -> Result<(), OutOfMemory> {
         let queue = self.take_queue();
         let shared = self.source.shared();
-        let mut commands = SystemCommands::resume(shared, &mut self.reserver.reserver, queue);
+        let mut commands = SystemCommands::resume(shared, &mut self.reserver.0, queue);
         let issued = commands.remove(handle, id);
-        self.reserver.queue = commands.finish();
+        self.reserver.1 = commands.finish();
         issued
     }
 
@@ -249,9 +249,9 @@ impl Reserver<OpenWorld> {
     pub fn despawn(&mut self, handle: Handle) -> Result<(), OutOfMemory> {
         let queue = self.take_queue();
         let shared = self.source.shared();
-        let mut commands = SystemCommands::resume(shared, &mut self.reserver.reserver, queue);
+        let mut commands = SystemCommands::resume(shared, &mut self.reserver.0, queue);
         let issued = commands.despawn(handle);
-        self.reserver.queue = commands.finish();
+        self.reserver.1 = commands.finish();
         issued
     }
 }
@@ -330,7 +330,7 @@ impl Reserver<OpenWorld> {
     #[must_use]
     #[inline]
     pub fn number(&self) -> usize {
-        self.reserver.reserver.number()
+        self.reserver.0.number()
     }
 }
 
@@ -341,6 +341,6 @@ impl Reserver<OpenWorld> {
         // ensures queue { result ≡ queue_of self.old }
         // ensures rest { self.new ≡ with_queue self.old [] }
     {
-        mem::replace(&mut self.reserver.queue, IssuedCommands::unfilled())
+        mem::replace(&mut self.reserver.1, IssuedCommands::unfilled())
     }
 }

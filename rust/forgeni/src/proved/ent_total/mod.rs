@@ -23,7 +23,6 @@ mod filling_in_blocks;
 mod frame_error;
 mod framing;
 mod go_on_error;
-mod issuer;
 mod lending;
 mod logging;
 mod of_blocks;

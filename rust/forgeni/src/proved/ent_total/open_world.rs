@@ -4,7 +4,6 @@
 
 use alloc::vec::Vec;
 use crate::phases::ending::{Parts, closed_world, lost_world, parts_of};
-use crate::phases::issuer::Issuer;
 use crate::phases::phase::Phase;
 use crate::phases::queues::Queues;
 use crate::phases::world::World;
@@ -48,7 +47,8 @@ pub struct OpenWorld {
 }
 
 impl Source for OpenWorld {
-    type Reserver = Issuer;
+    // A right to reserve, and the commands that were issued.
+    type Reserver = (SharedReserver, IssuedCommands);
 
     #[inline]
     fn was_alive(&self, handle: Handle) -> bool {
@@ -61,18 +61,22 @@ impl Source for OpenWorld {
     }
 
     #[inline]
-    fn may_serve(&self, caller: &Issuer, n: u32) -> bool {
-        self.shared().may_serve(&caller.reserver, n)
+    fn may_serve(&self, caller: &(SharedReserver, IssuedCommands), n: u32) -> bool {
+        self.shared().may_serve(&caller.0, n)
     }
 
     #[inline(always)]
-    fn serve_one(&self, caller: &mut Issuer) -> Result<Handle, Refused> {
-        self.shared().serve_one(&mut caller.reserver)
+    fn serve_one(&self, caller: &mut (SharedReserver, IssuedCommands)) -> Result<Handle, Refused> {
+        self.shared().serve_one(&mut caller.0)
     }
 
     #[inline(always)]
-    fn serve_many(&self, caller: &mut Issuer, n: u32) -> Result<Reserved<'_>, Refused> {
-        self.shared().serve_many(&mut caller.reserver, n)
+    fn serve_many(
+        &self,
+        caller: &mut (SharedReserver, IssuedCommands),
+        n: u32,
+    ) -> Result<Reserved<'_>, Refused> {
+        self.shared().serve_many(&mut caller.0, n)
     }
 }
 
@@ -92,13 +96,13 @@ impl Phased for OpenWorld {
     }
 
     #[inline]
-    fn may_take(&self, _callers: &[Issuer]) -> bool {
+    fn may_take(&self, _callers: &[(SharedReserver, IssuedCommands)]) -> bool {
         true
     }
 
     #[inline]
-    fn end_with_all(self, callers: Vec<Issuer>) -> (World, Queues)
-        // requires own { All (λ c. IsOf self.world.shared c.reserver) callers.items }
+    fn end_with_all(self, callers: Vec<(SharedReserver, IssuedCommands)>) -> (World, Queues)
+        // requires own { All (λ c. IsOf self.world.shared c.0) callers.items }
         // requires all { length callers.items ≡ self.world.shared.count }
         // ensures { EndsWith IsClosed self callers.items result }
     {
@@ -117,8 +121,8 @@ impl Phased for OpenWorld {
     }
 
     #[inline]
-    fn end_with_some(self, callers: Vec<Issuer>) -> (World, Queues)
-        // requires own { All (λ c. IsOf self.world.shared c.reserver) callers.items }
+    fn end_with_some(self, callers: Vec<(SharedReserver, IssuedCommands)>) -> (World, Queues)
+        // requires own { All (λ c. IsOf self.world.shared c.0) callers.items }
         // requires few { length callers.items ≤ self.world.shared.count }
         // ensures { EndsWith IsClosedLost self callers.items result }
     {

@@ -1,10 +1,8 @@
 // Made of crates/ent_total/src/world_opening.rt by rust/erase. It isn't edited by hand.
 
 //! A world is opened.
-
 use alloc::vec::Vec;
 use crate::kit::vec::FallibleVec;
-use crate::phases::issuer::Issuer;
 use crate::phases::open_world::OpenWorld;
 use crate::phases::opening::{Opening, begin};
 use crate::phases::share_error::ShareError;
@@ -33,7 +31,7 @@ use crate::reserving::SharedReserver;
 /// &#9;≡ record { phase = world.world.phase; entities = world.world.entities }) }
 /// ensures reservers { [IfOk](crate::contracts::logic#IfOk) result (λ o. [records_of](crate::contracts::ent_shared::phase#records_of) ([reservers_in](crate::contracts::ent_total::issuing#reservers_in) o.returned)
 /// &#9;≡ [opened_records](crate::contracts::ent_shared::record#opened_records) world.world.allocator 0 count) }
-/// ensures no_command { [IfOk](crate::contracts::logic#IfOk) result (λ o. [All](crate::contracts::logic#All) (λ c. c.queue ≡ \[\]) o.returned) }
+/// ensures no_command { [IfOk](crate::contracts::logic#IfOk) result (λ o. [All](crate::contracts::logic#All) (λ c. c.1 ≡ \[\]) o.returned) }
 /// ensures needs_flush { [IsErrAnd](crate::contracts::logic#IsErrAnd) result (λ h. h.error ≡ NeedsFlush)
 /// &#9;↔ (0 \< world.world.allocator.asked) }
 /// ensures no_count { [IsErrAnd](crate::contracts::logic#IsErrAnd) result (λ h. h.error ≡ Count)
@@ -71,7 +69,10 @@ pub fn open(
 
 /// Opens a flushed world for its callers. If memory runs out, it comes back.
 #[inline]
-fn opened(world: World, count: usize) -> Result<(OpenWorld, Vec<Issuer>), World>
+fn opened(
+    world: World,
+    count: usize,
+) -> Result<(OpenWorld, Vec<(SharedReserver, IssuedCommands)>), World>
     // requires flushed { world.world.allocator.asked ≡ 0 }
     // requires some { 0 < count }
     // requires few { count ≤ 1024 }
@@ -84,9 +85,9 @@ fn opened(world: World, count: usize) -> Result<(OpenWorld, Vec<Issuer>), World>
     // ensures reservers { IfOk result (λ made. records_of (reservers_in made.1.items)
     //     ≡ opened_records world.world.allocator 0 count) }
     // ensures own { IfOk result (λ made.
-    //     All (λ c. IsOf made.0.world.shared c.reserver) made.1.items) }
-    // ensures unused { IfOk result (λ made. All (λ c. c.reserver.own.entries ≡ []) made.1.items) }
-    // ensures no_command { IfOk result (λ made. All (λ c. c.queue ≡ []) made.1.items) }
+    //     All (λ c. IsOf made.0.world.shared c.0) made.1.items) }
+    // ensures unused { IfOk result (λ made. All (λ c. c.0.own.entries ≡ []) made.1.items) }
+    // ensures no_command { IfOk result (λ made. All (λ c. c.1 ≡ []) made.1.items) }
     // ensures count { IfOk result (λ made. length made.1.items ≡ count) }
     // ensures room { IfOk result (λ made. count ≤ vec_capacity made.1) }
     // ensures err { IfErr result (λ refused. refused ≡ world) }
@@ -125,7 +126,7 @@ fn opened(world: World, count: usize) -> Result<(OpenWorld, Vec<Issuer>), World>
 /// Gives each of the reservers an empty queue, in their order, and leaves a list without elements.
 /// There is room for all of them.
 #[inline]
-fn equip(reservers: &mut Vec<SharedReserver>, callers: &mut Vec<Issuer>)
+fn equip(reservers: &mut Vec<SharedReserver>, callers: &mut Vec<(SharedReserver, IssuedCommands)>)
     // requires none { callers.old.items ≡ [] }
     // requires room { vec_len reservers.old ≤ vec_capacity callers.old }
     // ensures callers { callers.new.items ≡ map new_issuer reservers.old.items }
@@ -135,9 +136,6 @@ fn equip(reservers: &mut Vec<SharedReserver>, callers: &mut Vec<Issuer>)
 {
     reservers.reverse();
     while let Some(reserver) = reservers.pop() {
-        callers.push_reserved(Issuer {
-            reserver,
-            queue: IssuedCommands::unfilled(),
-        });
+        callers.push_reserved((reserver, IssuedCommands::unfilled()));
     }
 }
