@@ -267,7 +267,7 @@ pub mod closing {}
 /// </pre>
 pub mod phases {}
 
-#[doc(alias("Commands", "Extends", "IsRefused", "OpenWorld", "issued", "queue_of", "reserver_of", "shared_of", "view_of", "with_queue"))]
+#[doc(alias("Commands", "Extends", "IsRefused", "Issuer", "OpenWorld", "issued", "queue_of", "reserver_of", "shared_of", "view_of", "with_queue"))]
 /// What contracts see of a world in a phase, and of its reservers, which issue commands in it.
 ///
 /// <pre>
@@ -279,9 +279,15 @@ pub mod phases {}
 /// </pre>
 ///
 /// <pre>
+/// -- what a caller has: its right to reserve, and the commands that it has issued
+/// abbrev pub <b id="Issuer">Issuer</b> : Type 0
+/// <a href="#Issuer">Issuer</a> = <a href="../../ent_shared/phase/index.html#Reserver">SharedReserver</a> × <a href="../../logic/index.html#List">List</a> <a href="../../ent_queue/command/index.html#Command">Command</a>
+/// </pre>
+///
+/// <pre>
 /// -- a reserver of a world's phase
 /// abbrev pub <b id="Commands">Commands</b> : Type 0
-/// <a href="#Commands">Commands</a> = <a href="../phases/index.html#Reserver">Reserver</a> <a href="#OpenWorld">OpenWorld</a> Issuer
+/// <a href="#Commands">Commands</a> = <a href="../phases/index.html#Reserver">Reserver</a> <a href="#OpenWorld">OpenWorld</a> <a href="#Issuer">Issuer</a>
 /// </pre>
 ///
 /// <pre>
@@ -292,18 +298,18 @@ pub mod phases {}
 ///
 /// <pre>
 /// abbrev pub <b id="reserver_of">reserver_of</b> : <a href="#Commands">Commands</a> → <a href="../../ent_shared/phase/index.html#Reserver">SharedReserver</a>
-/// <a href="#reserver_of">reserver_of</a> c = c.reserver.reserver
+/// <a href="#reserver_of">reserver_of</a> c = c.reserver.0
 /// </pre>
 ///
 /// <pre>
 /// abbrev pub <b id="queue_of">queue_of</b> : <a href="#Commands">Commands</a> → <a href="../../logic/index.html#List">List</a> <a href="../../ent_queue/command/index.html#Command">Command</a>
-/// <a href="#queue_of">queue_of</a> c = c.reserver.queue
+/// <a href="#queue_of">queue_of</a> c = c.reserver.1
 /// </pre>
 ///
 /// <pre>
 /// -- with these commands instead, or with one more
 /// abbrev pub <b id="with_queue">with_queue</b> : <a href="#Commands">Commands</a> → <a href="../../logic/index.html#List">List</a> <a href="../../ent_queue/command/index.html#Command">Command</a> → <a href="#Commands">Commands</a>
-/// <a href="#with_queue">with_queue</a> c queue = record c { reserver = record c.reserver { queue = queue } }
+/// <a href="#with_queue">with_queue</a> c queue = record c { reserver = (<a href="#reserver_of">reserver_of</a> c, queue) }
 /// </pre>
 ///
 /// <pre>

@@ -2,7 +2,7 @@
 
 //! What the contracts in these docs mean: the definitions that they cite, as they were proved.
 //!
-//! There are 471, and each one cites only what comes before it. To understand a contract, follow its links. To read them all,
+//! There are 472, and each one cites only what comes before it. To understand a contract, follow its links. To read them all,
 //! begin here:
 //!
 //! - [`logic`]: Rattle's own words and signs.

@@ -35,6 +35,7 @@ use crate::kit::sync::Arc;
 ///     scope.spawn(|| only.reserve());
 /// });
 /// ```
+#[must_use]
 #[repr(align(128))]
 pub struct Reserver<S: Phased = SharedSource> {
     pub(super) source: Arc<S>,
