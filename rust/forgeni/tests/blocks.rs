@@ -274,7 +274,7 @@ fn a_phase_that_is_not_closed() {
     let ((phase, mut reservers), error) = phase.close(reservers).unwrap_err().into_parts();
     assert_eq!((error, reservers.len()), (CloseError::OtherPhase, 5));
     reservers.pop();
-    reservers.remove(1);
+    drop(reservers.remove(1));
     let ((phase, reservers), error) = phase.close(reservers).unwrap_err().into_parts();
     assert_eq!(error, CloseError::Missing { count: 1 });
 
