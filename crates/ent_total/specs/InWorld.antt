@@ -24,7 +24,7 @@ pub record EndedWorld : Type 0 where
 abbrev pub view_in : {S : Type 0} → InWorld S → View
 view_in w = record { phase = w.rest.phase; entities = w.rest.store.entities }
 
--- The phase of the world ended so: what it ended with is this of its source.
+-- The phase of a world ended: its source ended so, and nothing else of the world has changed.
 pub record IsEndOf {S : Type 0} (w : InWorld S) (end : EndedWorld) (Closes : Ended → Type 0)
     : Type 0 where
   pub closes : Closes end.ended

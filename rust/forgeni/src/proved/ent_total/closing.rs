@@ -41,8 +41,8 @@ impl<S: Phased> Phase<S> {
     ///
     /// [`HandedBack`] has the phase, which goes on, the reservers that are handed back, and the
     /// first of these errors that applies. With [`CloseError::OtherPhase`] and
-    /// [`CloseError::Missing`] all reservers are handed back. With [`CloseError::Order`], which a
-    /// shared allocator never returns, and [`CloseError::InUse`] the phase keeps those that came.
+    /// [`CloseError::Missing`] all reservers are handed back. With [`CloseError::Order`], which only
+    /// a phase in blocks returns, and [`CloseError::InUse`] the phase keeps those that came.
     ///
     /// <details><summary>Contract</summary>
     ///
@@ -118,7 +118,7 @@ impl<S: Phased> Phase<S> {
     ///
     /// [`HandedBack`] has the phase, which goes on, the reservers that are handed back, and the
     /// first of these errors that applies. With [`CloseError::OtherPhase`] all reservers are handed
-    /// back. With [`CloseError::Order`], which a shared allocator never returns, and
+    /// back. With [`CloseError::Order`], which only a phase in blocks returns, and
     /// [`CloseError::InUse`] the phase keeps those that came. As long as a reserver that wasn't
     /// handed in exists, the error is `InUse`. One that was passed to [`core::mem::forget`] exists
     /// forever.

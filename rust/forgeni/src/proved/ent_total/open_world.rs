@@ -17,6 +17,10 @@ use crate::worlds::View;
 /// and each issues commands too. They take effect when the phase is closed, and their queues are
 /// applied.
 ///
+/// The order of the reservers at the close is the order in which their queues take effect, and
+/// numbers the systems in births and faults. What a lost one has issued is gone, and what it has
+/// reserved comes to life without components.
+///
 /// The world can be read, as it was when it was opened.
 ///
 /// ```
@@ -35,6 +39,19 @@ use crate::worlds::View;
 /// });
 /// let (mut world, queues) = open.close(systems)?;
 /// assert_eq!((world.apply(queues)?.faults.len(), world.len()), (1, 0));
+/// # Ok::<(), Box<dyn std::error::Error>>(())
+/// ```
+///
+/// The phase also ends without a system whose thread has panicked:
+///
+/// ```
+/// use forgeni::World;
+///
+/// let (open, mut systems) = World::new().open(2)?;
+/// systems[0].spawn(&[])?;
+/// drop(systems.pop());
+/// let (mut world, queues) = open.close_lost(systems)?;
+/// assert_eq!(world.apply(queues)?.born.len(), 1);
 /// # Ok::<(), Box<dyn std::error::Error>>(())
 /// ```
 pub struct OpenWorld {
