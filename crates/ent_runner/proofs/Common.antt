@@ -92,12 +92,11 @@ pub use Rattle.ent_shared.specs.Replies.{IsReturned, Tells}
 pub use Rattle.ent_shared.specs.declared.record.Record.{Record}
 pub use Rattle.ent_shared.specs.declared.record.RecordEntry.TheVariants.{Own}
 pub use Rattle.ent_shared.specs.declared.record.Reservation.{Reservation}
-pub use Rattle.ent_blocks.specs.Blocks.{Block, Blocks, after_use, blocks_of, rest_of}
-pub use Rattle.ent_blocks.specs.Drawing.{IsDrawn, IsOfPhase, left_of}
+pub use Rattle.ent_blocks.specs.Blocks.{Blocks}
+pub use Rattle.ent_blocks.specs.Drawing.{IsDrawn, IsOfPhase}
 pub use Rattle.ent_queue.proofs.Gaining.{gains_nothing, gains_of, gains_then}
 pub use Rattle.ent_queue.specs.Command.{Command}
 pub use Rattle.ent_queue.specs.Commands.{Extends, output_of, reserver_of, source_of}
-pub use Rattle.ent_queue.specs.Drawing.{after_commands}
 pub use Rattle.ent_queue.specs.Logging.{Logs, request_of}
 pub use Rattle.ent_queue.specs.Reserving.{Gains, stands_for}
 pub use Rattle.ent_queue.specs.declared.commands.Commands.{Commands}
@@ -115,9 +114,7 @@ pub use lib.ListN.{get_elem?}
 pub use mathlib.Core.Logic.{dite}
 pub use mathlib.Core.Option.{some}
 pub use native.Mathlib.Decide.{ℕ_discrete}
-pub use Rattle.ent_runner.specs.Blocks.{HaveFilled, blocks_after}
-pub use Rattle.ent_runner.specs.Blocks.Filling.{Draws, FitBlock}
-pub use Rattle.ent_runner.specs.Blocks.Queues.{HaveIssued, HaveStopped, blocks_after_queues}
+pub use Rattle.ent_runner.specs.Blocks.{HaveFilled}
 pub use Rattle.ent_runner.specs.Crew.{AreBrokenOff, AreDone, Crew, DidAll, DidUntil, DoesAt, Ended}
 pub use Rattle.ent_runner.specs.Crew.{OfEach, Stopped}
 pub use Rattle.ent_runner.specs.Crew.Claims.{AreFirst, Claimer, Claims, IsClaimedBy}
@@ -136,7 +133,8 @@ pub use Rattle.ent_runner.specs.Frame.{view_of}
 pub use Rattle.ent_runner.specs.Logs.{HaveLogged, HaveRun, SystemMayLog, entries_by, given_to}
 pub use Rattle.ent_runner.specs.Logs.{log_at, requests_in}
 pub use Rattle.ent_runner.specs.Runs.{AreRun, StopShort, first_some}
-pub use Rattle.ent_runner.specs.Stage.{AreReady, IsDealt, IsFilled}
+pub use Rattle.ent_runner.specs.Filling.{IsFilled}
+pub use Rattle.ent_runner.specs.Stage.{AreReady, IsDealt}
 pub use Rattle.ent_runner.specs.declared.crew.record.ClaimRecord.{ClaimRecord}
 pub use Rattle.ent_runner.specs.declared.crew.record.ClaimRecord.{ClaimRecord as Claimed}
 pub use Rattle.ent_runner.specs.declared.crew.worker.Done.{Done}

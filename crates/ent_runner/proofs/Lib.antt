@@ -19,8 +19,6 @@ pub mod Gaining
 pub mod Logged
 pub mod Reserved
 pub mod Nothing
-pub mod Drawn
 pub mod Filled
 pub mod Staged
-pub mod Used
 pub mod Common

@@ -1,5 +1,6 @@
 pub mod Crew
 pub mod Runs
+pub mod Filling
 pub mod Frame
 pub mod Logs
 pub mod Blocks

@@ -10,7 +10,6 @@ mod run_error;
 mod stage;
 mod systems;
 
-pub use blocks::filling::fill_in_blocks;
 pub use blocks::room::check_run;
 pub use blocks::running::run_in_blocks;
 pub use crew::{ClaimRecord, Claimer, Claims, Crew, Jobs};
@@ -23,3 +22,4 @@ pub use logs::beginning::run_to_sync_point;
 pub use logs::run_logs;
 pub use logs::system::LogSystem;
 pub use run_error::RunError;
+pub use systems::{Issuers, Loggers, Systems};

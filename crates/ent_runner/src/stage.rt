@@ -2,7 +2,8 @@
 ghost use Rattle.ent_blocks.specs.Drawing.{IsDrawn};
 ghost use Rattle.ent_shared.specs.Phase.{IsOf};
 ghost use Rattle.ent_shared.specs.Replies.{IsReturned};
-ghost use Rattle.ent_runner.specs.Stage.{IsFilled, IsDealt, AreReady};
+ghost use Rattle.ent_runner.specs.Filling.{IsFilled};
+ghost use Rattle.ent_runner.specs.Stage.{IsDealt, AreReady};
 
 use crate::crew::Jobs;
 use crate::systems::Systems;

@@ -15,8 +15,8 @@ use ent_world::View;
 use std::alloc::Global;
 
 /// Systems with numbers from 0, each of which fills an output once, with handles of the source `S`,
-/// or stops with an error of type `E`.
-pub(crate) trait Systems<O: Output, S: Source, E> {
+/// or stops with an error of type `E`. [`Issuers`] fill queues, and [`Loggers`] logs.
+pub trait Systems<O: Output, S: Source, E> {
     /// How many there are.
     ghost count: { Self → ℕ };
 
@@ -25,6 +25,10 @@ pub(crate) trait Systems<O: Output, S: Source, E> {
 
     /// What it may leave if it returns this error.
     ghost may_leave: { Self → ℕ → O → E → Type 0 };
+
+    /// Returns how many there are.
+    fn len(&self) -> usize
+        ensures { result ≡ count self.now };
 
     /// Runs the system of this number.
     ///
@@ -46,12 +50,16 @@ pub(crate) trait Systems<O: Output, S: Source, E> {
             → IfErr result (λ error. may_leave self.now number (output_of commands.new) error) };
 }
 
-/// The systems of a frame, and what they have in common. Their outputs are queues.
+/// The systems of a frame, whose outputs are queues: they see this view of its world, and the gate
+/// is told when one begins.
 #[derive(Drop)]
-pub(crate) struct Issuers<'v, 's, 'g, T, G> {
-    pub(crate) view: View<'v>,
-    pub(crate) systems: &'s [T],
-    pub(crate) gate: &'g G,
+pub struct Issuers<'v, 's, 'g, T, G> {
+    /// What the systems see.
+    pub view: View<'v>,
+    /// The systems, in their order.
+    pub systems: &'s [T],
+    /// Passed by each system before it runs.
+    pub gate: &'g G,
 }
 
 impl<S: Source, E, T: System<S, E>, G: Gate> Systems<CommandQueue, S, E>
@@ -63,6 +71,10 @@ impl<S: Source, E, T: System<S, E>, G: Gate> Systems<CommandQueue, S, E>
 
     ghost may_leave = { λ all number queue error.
         SystemMayLeave T.may_leave all.systems.now all.view number queue error };
+
+    fn len(&self) -> usize {
+        self.systems.len()
+    }
 
     fn run_at(
         &self,
@@ -77,8 +89,9 @@ impl<S: Source, E, T: System<S, E>, G: Gate> Systems<CommandQueue, S, E>
 
 /// Systems whose outputs are logs.
 #[derive(Drop)]
-pub(crate) struct Loggers<'s, T> {
-    pub(crate) systems: &'s [T],
+pub struct Loggers<'s, T> {
+    /// The systems, in their order.
+    pub systems: &'s [T],
 }
 
 impl<C: Drop, S: Source, E, T: LogSystem<C, S, E>> Systems<Log<C>, S, E> for Loggers<'_, T> {
@@ -88,6 +101,10 @@ impl<C: Drop, S: Source, E, T: LogSystem<C, S, E>> Systems<Log<C>, S, E> for Log
 
     ghost may_leave = { λ all number log error.
         LoggerMayLeave T.may_leave all.systems.now number log error };
+
+    fn len(&self) -> usize {
+        self.systems.len()
+    }
 
     fn run_at(
         &self,

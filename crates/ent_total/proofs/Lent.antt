@@ -1,9 +1,9 @@
 -- What lists of reservers are while they are walked, and what they reserve with is taken or put.
 use Rattle.ent_total.proofs.Common.{rules, ◌≡◌, ◌∙◌, refl, ap, sym, ℕ, ◌<◌, ◌+◌, ◌≤◌, List, All}
 use Rattle.ent_total.proofs.Common.{[], ◌∷◌, ◌++◌, arith, length, map, take, drop}
-use Rattle.ent_total.specs.Lending.{AreFrom, lent_out, returned}
+use Rattle.ent_total.specs.Lending.{AreFrom, AreLent, lent_out, returned}
 use Rattle.ent_total.specs.Phases.{Reserver, reservers_of}
-use Rattle.std.specs.Prelude.{suc, ◌⊎◌}
+use Rattle.std.specs.Prelude.{suc, ◌⊎◌, Result, Ok, Err, IfErr}
 use Rattle.std.proofs.Common.{inl, inr, ⊎_elim}
 use Rattle.ent_runner.specs.RunErrors.{IfLost, IfNotLost}
 use Rattle.ent_runner.specs.declared.run_error.RunError.{RunError}
@@ -87,53 +87,68 @@ walked_length f xs ys i is =
 -- Reservers that were lent out, after they got back what a run of systems handed back.
 module _ {S : Type 0} (old new : List (Reserver S BlockReserver)) (back : List BlockReserver)
     (is : new ≡ returned (map lent_out old) back) where
-  same_of_all : length back ≡ length old
-      → (reservers_of new ≡ back) × (new ≡ returned old (reservers_of new))
-  same_of_all many =
-      let whole : new ≡ returned old back = is ∙ returned_lent old back many in
-      let of : reservers_of new ≡ back =
-      ap reservers_of whole ∙ reservers-returned old back many in
-      (of, whole ∙ ap (returned old) (sym of))
+  -- all came back
+  module _ (many : length back ≡ length old) where
+    whole : new ≡ returned old back
+    whole = is ∙ returned_lent old back many
 
-  pub all_back : length back ≡ length old → reservers_of new ≡ back
-  all_back many = (same_of_all many).0
+    pub all_back : reservers_of new ≡ back
+    all_back = ap reservers_of whole ∙ reservers-returned old back many
 
-  pub same_back : length back ≡ length old → new ≡ returned old (reservers_of new)
-  same_back many = (same_of_all many).1
+    same_back : new ≡ returned old (reservers_of new)
+    same_back = whole ∙ ap (returned old) (sym all_back)
+
+    pub lent_ok : {X E : Type 0} (x : X) → AreLent {X = X} {E = E} old new (Ok x)
+    lent_ok x = record { same = same_back; as_they_were = tt; used_up = tt }
 
   -- none came back
-  pub none_back : back ≡ [] → new ≡ map lent_out old
-  none_back none = is ∙ ap (returned (map lent_out old)) none
+  module _ (none : back ≡ []) where
+    none_back : new ≡ map lent_out old
+    none_back = is ∙ ap (returned (map lent_out old)) none
 
-  pub same_if_none : back ≡ [] → new ≡ returned old (reservers_of new)
-  same_if_none none = none_back none ∙ lent_returned old
-      ∙ ap (λ l. returned old (reservers_of l)) (sym (none_back none))
-    where
-      lent_returned : (rs : List (Reserver S BlockReserver))
-          → map lent_out rs ≡ returned rs (reservers_of (map lent_out rs))
-      lent_returned [] = refl
-      lent_returned (r ∷ rs) = ap (λ l. lent_out r ∷ l) (lent_returned rs)
+    lent_returned : (rs : List (Reserver S BlockReserver))
+        → map lent_out rs ≡ returned rs (reservers_of (map lent_out rs))
+    lent_returned [] = refl
+    lent_returned (r ∷ rs) = ap (λ l. lent_out r ∷ l) (lent_returned rs)
+
+    same_if_none : new ≡ returned old (reservers_of new)
+    same_if_none =
+        none_back ∙ lent_returned old ∙ ap (λ l. returned old (reservers_of l)) (sym none_back)
 
   -- they came back as they were
-  pub unchanged_back : back ≡ reservers_of old → new ≡ old
-  unchanged_back same =
-      is ∙ returned_lent old back (ap length same ∙ length-map old (λ r. r.reserver))
-      ∙ ap (returned old) same ∙ returned_all old
+  module _ (same : back ≡ reservers_of old) where
+    as_many : length back ≡ length old
+    as_many = ap length same ∙ length-map old (λ r. r.reserver)
+
+    unchanged_back : new ≡ old
+    unchanged_back =
+        is ∙ returned_lent old back as_many ∙ ap (returned old) same ∙ returned_all old
+
+  -- all came back as they were, or none
+  pub lent_err : {X E : Type 0} (e : RunError E) → IfNotLost (back ≡ reservers_of old) e
+      → IfLost (λ _. back ≡ []) e → AreLent {X = X} old new (Err e)
+  lent_err (failed.Lost error) same none =
+      record { same = same_if_none none; as_they_were = tt; used_up = none_back none }
+  lent_err _ same none = record {
+    same = same_back (as_many same);
+    as_they_were = unchanged_back same;
+    used_up = tt;
+  }
 
 module _ {E : Type 0} where
+  -- nothing was lent
+  pub none_lent : {S X : Type 0} (rs : List (Reserver S BlockReserver)) (r : Result X (RunError E))
+      → IfErr r (IfLost (λ _. ⊥)) → AreLent rs rs r
+  none_lent rs (Ok x) never = record { same = sym (returned_all rs); as_they_were = tt; used_up = tt }
+  none_lent rs (Err (failed.Lost error)) never = absurd never
+  none_lent rs (Err _) never =
+      record { same = sym (returned_all rs); as_they_were = refl; used_up = tt }
+
   -- a run that failed hands back all as they were, or none
   pub all_or_none : {X : Type 0} (e : RunError E) (back lent : List X) → IfNotLost (back ≡ lent) e
       → IfLost (λ _. back ≡ []) e → (back ≡ lent) ⊎ (back ≡ [])
   all_or_none (failed.Lost error) back lent same none = inr none
   all_or_none _ back lent same none = inl same
-
-  pub if_not_lost : {A B : Type 0} (e : RunError E) → (A → B) → IfNotLost A e → IfNotLost B e
-  if_not_lost (failed.Lost error) f a = tt
-  if_not_lost _ f a = f a
-
-  pub if_lost : {A B : Type 0} (e : RunError E) → (A → B) → IfLost (λ _. A) e → IfLost (λ _. B) e
-  if_lost (failed.Lost error) f a = f a
-  if_lost _ f a = tt
 
 -- so each of those is what each of these is, and there are no more
 module _ {X : Type 0} (back lent : List X) (are : (back ≡ lent) ⊎ (back ≡ [])) where

@@ -1,7 +1,9 @@
 -- Reservers of blocks that are lent to a run of systems.
-use Rattle.std.specs.Prelude.{◌≡◌, List, [], ◌∷◌, All}
+use Rattle.std.specs.Prelude.{◌≡◌, List, [], ◌∷◌, All, map, Result, IfErr}
 use Rattle.ent_blocks.specs.Blocks.{Reserver as BlockReserver, used_up}
-use Rattle.ent_total.specs.Phases.{Reserver}
+use Rattle.ent_runner.specs.RunErrors.{IfLost, IfNotLost}
+use Rattle.ent_runner.specs.declared.run_error.RunError.{RunError}
+use Rattle.ent_total.specs.Phases.{Reserver, reservers_of}
 
 module _ {S : Type 0} where
   -- while its block is away
@@ -18,3 +20,12 @@ module _ {S : Type 0} where
   -- all of them reserve from this source
   abbrev pub AreFrom : S → List (Reserver S BlockReserver) → Type 0
   AreFrom source reservers = All (λ (r : Reserver S BlockReserver). r.source ≡ source) reservers
+
+  -- A run of systems was lent what these reserve with, and they are the same reservers. They got it
+  -- back if all systems ran, with what these used, and as it was if none ran. What they have is
+  -- used up if the systems were broken off.
+  pub record AreLent {X E : Type 0} (before after : List (Reserver S BlockReserver))
+      (result : Result X (RunError E)) : Type 0 where
+    pub same : after ≡ returned before (reservers_of after)
+    pub as_they_were : IfErr result (IfNotLost (after ≡ before))
+    pub used_up : IfErr result (IfLost (λ _. after ≡ map lent_out before))

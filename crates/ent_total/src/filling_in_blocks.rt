@@ -1,21 +1,21 @@
-ghost use Rattle.std.specs.Prelude.{◌≡◌, ◌<◌, length, map, IfOk, IfErr, IsErrOf};
-ghost use Rattle.ent_blocks.specs.Blocks.{blocks_of};
-ghost use Rattle.ent_runner.specs.Blocks.Queues.{HaveIssued, HaveStopped};
+ghost use Rattle.std.specs.Prelude.{◌≡◌, [], IfOk, IfErr, IsErrOf, length};
+ghost use Rattle.ent_queue.specs.Issuing.{Issues};
+ghost use Rattle.ent_runner.specs.Blocks.{HaveFilled, IsBrokenOff};
 ghost use Rattle.ent_runner.specs.Blocks.Refusing.{IsRefused};
-ghost use Rattle.ent_runner.specs.RunErrors.{IfLost, IfNotLost, IsOfBlocks};
-ghost use Rattle.ent_runner.specs.declared.run_error.RunError.TheVariants as failed;
+ghost use Rattle.ent_runner.specs.Frame.{SystemMayIssue, SystemMayLeave};
+ghost use Rattle.ent_runner.specs.RunErrors.{IfLost};
 ghost use Rattle.ent_total.specs.InWorld.{view_in};
-ghost use Rattle.ent_total.specs.Lending.{lent_out, returned};
+ghost use Rattle.ent_total.specs.Lending.{AreLent};
 ghost use Rattle.ent_total.specs.Phases.{AreOf, reservers_of};
 
 use crate::in_world::InWorld;
-use crate::lending::{are_of, lend_all, put_back};
 use crate::numbering::Numbering;
 use crate::phase::Phase;
 use crate::queues::Queues;
 use crate::reserver::Reserver;
+use crate::running_in_blocks::run_lent;
 use ent_blocks::Blocks;
-use ent_runner::{RunError, System, check_run};
+use ent_runner::{Issuers, NoGate, RunError, System};
 use std::alloc::Global;
 use std::thread::Threads;
 
@@ -75,43 +75,26 @@ where
     R: Threads + Sync,
     T: System<Blocks, E> + Sync,
     E: Drop + Send,
-    ensures ok { IfOk result (λ ran. HaveIssued T.may_issue systems.now
-        (view_in phase.now.source) phase.now.source.source.start
-        (blocks_of (reservers_of reservers.old)) ran.queues
-        (blocks_of (reservers_of reservers.new))) }
+    ensures ok { IfOk result (λ ran. HaveFilled Issues [] phase.now.source.source
+        (SystemMayIssue T.may_issue systems.now (view_in phase.now.source)) (length systems.now)
+        (reservers_of reservers.old) ran.queues (reservers_of reservers.new)) }
     ensures world { IfOk result (λ ran. ran.world ≡ phase.now.source.of_world) }
-    ensures same { reservers.new ≡ returned reservers.old (reservers_of reservers.new) }
+    ensures lent { AreLent reservers.old reservers.new result }
     ensures refused { IsRefused workers (length systems.now) (length reservers.old)
         (AreOf phase.now.number reservers.old) (λ why. IsErrOf result why) }
-    ensures of_blocks { IfErr result IsOfBlocks }
-    ensures memory_some { IsErrOf result failed.Memory → 0 < length systems.now }
-    ensures as_they_were { IfErr result (IfNotLost (reservers.new ≡ reservers.old)) }
 
     // What is left if the systems were broken off.
-    ensures lost { IfErr result (IfLost (HaveStopped T.may_issue T.may_leave systems.now workers
-        (view_in phase.now.source) phase.now.source.source.start
-        (blocks_of (reservers_of reservers.old)))) }
-    ensures used_up { IfErr result (IfLost (λ _. reservers.new ≡ map lent_out reservers.old)) }
+    ensures lost { IfErr result (IfLost (IsBrokenOff Issues [] phase.now.source.source
+        (SystemMayIssue T.may_issue systems.now (view_in phase.now.source))
+        (SystemMayLeave T.may_leave systems.now (view_in phase.now.source)) (length systems.now)
+        workers (reservers_of reservers.old))) }
 {
-    check_run(reservers.len(), systems.len(), workers)?;
-    if !are_of(phase, reservers) {
-        return Err(RunError::OtherPhase);
-    }
-    let Ok(lent) = lend_all(alloc, reservers) else {
-        return Err(RunError::Memory);
-    };
     let world = phase.server();
-    let (blocks, view) = (world.dealt.dealer(), world.view());
-    match ent_runner::fill_in_blocks(rt, alloc, blocks, lent, view, systems, workers) {
-        Ok((queues, lent)) => {
-            put_back(reservers, world, lent);
-            Ok(Queues::new(world.of_world, queues))
-        }
-        Err(back) => {
-            // None, if they are lost.
-            let (lent, error) = back.into_parts();
-            put_back(reservers, world, lent);
-            Err(error)
-        }
-    }
+    let issuers = Issuers {
+        view: world.view(),
+        systems,
+        gate: &NoGate,
+    };
+    let queues = run_lent(rt, alloc, phase, reservers, &issuers, workers)?;
+    Ok(Queues::new(world.of_world, queues))
 }

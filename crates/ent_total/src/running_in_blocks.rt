@@ -1,10 +1,10 @@
-ghost use Rattle.std.specs.Prelude.{◌≡◌, ◌<◌, length, map, IfOk, IfErr, IsErrOf};
-ghost use Rattle.ent_blocks.specs.Blocks.{blocks_of};
+ghost use Rattle.std.specs.Prelude.{[], IfOk, IfErr, IsErrOf, length};
+ghost use Rattle.ent_queue.specs.Logging.{Logs};
 ghost use Rattle.ent_runner.specs.Blocks.{HaveFilled, IsBrokenOff};
 ghost use Rattle.ent_runner.specs.Blocks.Refusing.{IsRefused};
-ghost use Rattle.ent_runner.specs.RunErrors.{IfLost, IfNotLost, IsOfBlocks};
-ghost use Rattle.ent_runner.specs.declared.run_error.RunError.TheVariants as failed;
-ghost use Rattle.ent_total.specs.Lending.{lent_out, returned};
+ghost use Rattle.ent_runner.specs.Logs.{SystemMayLog, SystemMayLeave};
+ghost use Rattle.ent_runner.specs.RunErrors.{IfLost};
+ghost use Rattle.ent_total.specs.Lending.{AreLent};
 ghost use Rattle.ent_total.specs.Phases.{AreOf, reservers_of};
 
 use crate::lending::{are_of, lend_all, put_back};
@@ -14,9 +14,60 @@ use crate::phase::Phase;
 use crate::reserver::Reserver;
 use ent_blocks::Blocks;
 use ent_log::Log;
-use ent_runner::{LogSystem, RunError, check_run};
+use ent_queue::Output;
+use ent_runner::{LogSystem, Loggers, RunError, Systems, check_run};
 use std::alloc::Global;
 use std::thread::Threads;
+
+/// Runs systems that fill any outputs, with the blocks of the reservers, which get them back.
+///
+/// # Errors
+///
+/// Those of [`run_in_blocks`].
+pub(crate) fn run_lent<R, J: Numbering, S: OfBlocks, O, T, E>(
+    rt: &R,
+    alloc: Global,
+    phase: &Phase<J, S>,
+    reservers: &mut [Reserver<J, S>],
+    systems: &T,
+    workers: usize,
+) -> Result<Vec<O>, RunError<E>>
+where
+    R: Threads + Sync,
+    O: Output + Send,
+    T: Systems<O, Blocks, E> + Sync,
+    E: Drop + Send,
+    ensures ok { IfOk result (λ outputs. HaveFilled O.adds O.empty (S.of phase.now.source)
+        (T.may_fill systems.now) (T.count systems.now) (reservers_of reservers.old) outputs.items
+        (reservers_of reservers.new)) }
+    ensures lent { AreLent reservers.old reservers.new result }
+    ensures refused { IsRefused workers (T.count systems.now) (length reservers.old)
+        (AreOf phase.now.number reservers.old) (λ why. IsErrOf result why) }
+    ensures lost { IfErr result (IfLost (IsBrokenOff O.adds O.empty (S.of phase.now.source)
+        (T.may_fill systems.now) (T.may_leave systems.now) (T.count systems.now) workers
+        (reservers_of reservers.old))) }
+{
+    check_run(reservers.len(), systems.len(), workers)?;
+    if !are_of(phase, reservers) {
+        return Err(RunError::OtherPhase);
+    }
+    let Ok(lent) = lend_all(alloc, reservers) else {
+        return Err(RunError::Memory);
+    };
+    let source = phase.server();
+    match ent_runner::run_in_blocks(rt, alloc, source.blocks(), lent, systems, workers) {
+        Ok((outputs, lent)) => {
+            put_back(reservers, source, lent);
+            Ok(outputs)
+        }
+        Err(back) => {
+            // None, if they are lost.
+            let (lent, error) = back.into_parts();
+            put_back(reservers, source, lent);
+            Err(error)
+        }
+    }
+}
 
 /// Runs each system once, on that many workers side by side, 1 to 64, each with the reserver at its
 /// position and a log of its own. The logs are in the order of the systems.
@@ -98,40 +149,17 @@ where
     C: Drop + Send,
     T: LogSystem<C, Blocks, E> + Sync,
     E: Drop + Send,
-    ensures ok { IfOk result (λ logs. HaveFilled T.may_log systems.now
-        (S.of phase.now.source).start.pool (blocks_of (reservers_of reservers.old)) logs.items
-        (blocks_of (reservers_of reservers.new))) }
-    ensures same { reservers.new ≡ returned reservers.old (reservers_of reservers.new) }
+    ensures ok { IfOk result (λ logs. HaveFilled Logs [] (S.of phase.now.source)
+        (SystemMayLog T.may_log systems.now) (length systems.now) (reservers_of reservers.old)
+        logs.items (reservers_of reservers.new)) }
+    ensures lent { AreLent reservers.old reservers.new result }
     ensures refused { IsRefused workers (length systems.now) (length reservers.old)
         (AreOf phase.now.number reservers.old) (λ why. IsErrOf result why) }
-    ensures of_blocks { IfErr result IsOfBlocks }
-    ensures memory_some { IsErrOf result failed.Memory → 0 < length systems.now }
-    ensures as_they_were { IfErr result (IfNotLost (reservers.new ≡ reservers.old)) }
 
     // What is left if the systems were broken off.
-    ensures lost { IfErr result (IfLost (IsBrokenOff T.may_log T.may_leave systems.now workers
-        (S.of phase.now.source).start.pool (blocks_of (reservers_of reservers.old)))) }
-    ensures used_up { IfErr result (IfLost (λ _. reservers.new ≡ map lent_out reservers.old)) }
+    ensures lost { IfErr result (IfLost (IsBrokenOff Logs [] (S.of phase.now.source)
+        (SystemMayLog T.may_log systems.now) (SystemMayLeave T.may_leave systems.now)
+        (length systems.now) workers (reservers_of reservers.old))) }
 {
-    check_run(reservers.len(), systems.len(), workers)?;
-    if !are_of(phase, reservers) {
-        return Err(RunError::OtherPhase);
-    }
-    let Ok(lent) = lend_all(alloc, reservers) else {
-        return Err(RunError::Memory);
-    };
-    let source = phase.server();
-    let dealt = source.blocks();
-    match ent_runner::run_in_blocks(rt, alloc, dealt, lent, systems, workers) {
-        Ok((logs, lent)) => {
-            put_back(reservers, source, lent);
-            Ok(logs)
-        }
-        Err(back) => {
-            // None, if they are lost.
-            let (lent, error) = back.into_parts();
-            put_back(reservers, source, lent);
-            Err(error)
-        }
-    }
+    run_lent(rt, alloc, phase, reservers, &Loggers { systems }, workers)
 }

@@ -152,7 +152,7 @@ pub use Rattle.spawnrun_lib.specs.CommandLine.{blocks_option, most_handles, opti
 pub use Rattle.spawnrun_lib.specs.CommandLine.{program, program_of, references_to, show_option}
 pub use Rattle.spawnrun_lib.specs.CommandLine.{show_text, shown, workers_option}
 pub use Rattle.spawnrun_lib.specs.Course.{AreFew, HaveGone}
-pub use Rattle.spawnrun_lib.specs.CourseInBlocks.{EndsInBlocks, HaveGoneInBlocks}
+pub use Rattle.spawnrun_lib.specs.CourseInBlocks.{EndsInBlocks, HaveGoneInBlocks, sized}
 pub use Rattle.spawnrun_lib.specs.Found.{line_at}
 pub use Rattle.spawnrun_lib.specs.FrameAlone.{IsFrameAlone, queues_by_births}
 pub use Rattle.spawnrun_lib.specs.FrameText.{fault_line, frame_line, frame_text, kind_text}

@@ -6,6 +6,7 @@ pub mod QueuesAlone
 pub mod Parts
 pub mod Pieces
 pub mod NextFrame
+pub mod DrawnQueues
 pub mod OneTextInBlocks
 pub mod GivenOnce
 pub mod NoRefusal

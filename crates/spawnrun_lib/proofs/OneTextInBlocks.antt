@@ -112,12 +112,11 @@ same_text : (names : List (List ℕ)) (size : ℕ) (show : Show) (number : ℕ) 
 same_text names size show number w [] text other is is' = search (rules, one_text)
 same_text names size show number w (systems ∷ frames) text other (q, rest, are, more, text_is)
     (r, rest', are', more', other_is) =
-    search (
-      rules,
-      same_queues,
-      same_text names size show (number + 1)
-          (sync q (reserved_in size w systems q)).world frames rest rest' more,
-    )
+    let same : q ≡ r = same_queues size w systems q r are are' in
+    let rest_is : rest ≡ rest' =
+    same_text names size show (number + 1) (sync q (reserved_in size w systems q)).world frames
+    rest rest' more (rw (sym same) at more') in
+    search (rules, same, rest_is)
 
 pub one_text_in_blocks : (script : Script) (size : ℕ) (show : Show) (text other : List ℕ)
     → IsTextInBlocks script size show text → IsTextInBlocks script size show other → text ≡ other

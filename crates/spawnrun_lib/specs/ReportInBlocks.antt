@@ -1,17 +1,17 @@
 -- The report of a script whose systems get their handles from blocks. In each frame each system has
 -- a block of its own, so the report follows from the script and the size of the blocks: there is no
 -- history in it, no order in which systems ran, and no word of workers.
-use Rattle.std.specs.Prelude.{◌≡◌, ℕ, ◌+◌, List, [], ◌∷◌, ◌++◌, length, map}
+use Rattle.std.specs.Prelude.{◌≡◌, ℕ, ◌+◌, List, [], ◌∷◌, ◌++◌, length, map, slice_get, Some}
 use Rattle.ent_handle.specs.Handle.{Handle}
 use Rattle.ent_alloc.specs.Sequential.{born}
 use Rattle.ent_blocks.specs.Blocks.{Block, blocks_from}
 use Rattle.ent_queue.specs.Command.{Command}
+use Rattle.ent_queue.specs.Drawing.{AreDrawnBy, after_commands}
 use Rattle.ent_world.specs.Effects.{Applied}
 use Rattle.ent_world.specs.InBlocks.{world_after}
 use Rattle.ent_world.specs.Sync.{sync}
 use Rattle.ent_world.specs.World.{World, first_world}
-use Rattle.ent_runner.specs.Frame.{view_of}
-use Rattle.ent_runner.specs.Blocks.Queues.{HaveIssued, blocks_after_queues}
+use Rattle.ent_runner.specs.Frame.{queue_at, view_of}
 use Rattle.ent_script.specs.Script.{Script}
 use Rattle.ent_script.specs.declared.operation.Operation.{Operation}
 use Rattle.spawnrun_lib.specs.Issuing.{MayIssue}
@@ -28,18 +28,29 @@ sizes_of size systems = map (λ (_ : List Operation). size) systems
 abbrev pub blocks_of_frame : ℕ → World → List (List Operation) → List Block
 blocks_of_frame size w systems = blocks_from 0 (length w.allocator.pool) (sizes_of size systems)
 
+-- the blocks after systems have filled these queues
+abbrev pub blocks_after : List Block → List (List Command) → List Block
+blocks_after [] queues = []
+blocks_after (b ∷ blocks) [] = b ∷ blocks
+blocks_after (b ∷ blocks) (queue ∷ queues) = after_commands b queue ∷ blocks_after blocks queues
+
 -- Each system has a queue that it may issue, and the handles of its spawns are the next ones of its
 -- block.
+pub record HaveIssued (systems : List (List Operation)) (w : World) (blocks : List Block)
+    (queues : List (List Command)) : Type 0 where
+  pub each_queue : length queues ≡ length systems
+  pub each_system : (n : ℕ) (system : List Operation) → slice_get systems n ≡ Some system
+      → MayIssue system (view_of w) (queue_at queues n)
+  pub draws : (n : ℕ) (block : Block) → slice_get blocks n ≡ Some block
+      → AreDrawnBy w.allocator block (queue_at queues n)
+
 abbrev pub AreQueues : ℕ → World → List (List Operation) → List (List Command) → Type 0
-AreQueues size w systems queues =
-    let blocks = blocks_of_frame size w systems in
-    HaveIssued MayIssue systems (view_of w) w.allocator blocks queues
-    (blocks_after_queues blocks queues)
+AreQueues size w systems queues = HaveIssued systems w (blocks_of_frame size w systems) queues
 
 -- the world after the systems have reserved what these queues say
 abbrev pub reserved_in : ℕ → World → List (List Operation) → List (List Command) → World
 reserved_in size w systems queues =
-    world_after w (blocks_after_queues (blocks_of_frame size w systems) queues)
+    world_after w (blocks_after (blocks_of_frame size w systems) queues)
 
 -- the text of the frames, numbered from here on, and of the world that they leave
 abbrev pub IsTextFrom : List (List ℕ) → ℕ → Show → ℕ → World → List (List (List Operation)) → List ℕ

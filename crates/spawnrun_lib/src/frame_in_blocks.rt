@@ -10,7 +10,7 @@ ghost use Rattle.spawnrun_lib.specs.CourseInBlocks.{EndsInBlocks, StopsInBlocks}
 use crate::script_system::{ScriptSystem, runnable};
 use ent_blocks::Blocks;
 use ent_handle::Memory;
-use ent_runner::{RunError, fill_in_blocks};
+use ent_runner::{Issuers, NoGate, RunError, run_in_blocks};
 use ent_script::System;
 use ent_world::{SyncReport, World};
 use std::alloc::Global;
@@ -71,8 +71,12 @@ where
     let Ok((dealt, reservers)) = world.deal_blocks::<Blocks>(alloc, sizes) else {
         return Err(Undone::Memory);
     };
-    let (dealer, view) = (dealt.dealer(), dealt.view());
-    let filled = fill_in_blocks(rt, alloc, dealer, reservers, view, systems, workers);
+    let issuers = Issuers {
+        view: dealt.view(),
+        systems,
+        gate: &NoGate,
+    };
+    let filled = run_in_blocks(rt, alloc, dealt.dealer(), reservers, &issuers, workers);
     let (queues, reservers) = match filled {
         Ok(filled) => filled,
         Err(refused) => {

@@ -1,6 +1,5 @@
--- When systems in blocks are refused before any of them runs, as one fact: each field is a clause
--- of `fill_in_blocks` and `run_in_blocks`.
-use Rattle.std.specs.Prelude.{◌≡◌, ◌≢◌, ◌<◌, ◌≤◌, ◌^◌, ◌↔◌, ◌⊎◌, ℕ, Option}
+-- When systems in blocks are refused before any of them runs, as one fact.
+use Rattle.std.specs.Prelude.{◌≡◌, ◌≢◌, ◌<◌, ◌≤◌, ◌^◌, ◌↔◌, ◌⊎◌, ℕ}
 use Rattle.ent_runner.specs.declared.run_error.RunError.{RunError}
 use Rattle.ent_runner.specs.declared.run_error.RunError.TheVariants as failed
 
@@ -16,3 +15,6 @@ pub record IsRefused {E : Type 0} (workers systems reservers : ℕ) (AreOf : Typ
   pub other_phase : refuses failed.OtherPhase
       ↔ ((0 < workers) × (workers ≤ 64) × (systems ≤ 2 ^ 16) × (reservers ≡ systems)
       × ¬ AreOf)
+  pub memory_some : refuses failed.Memory → 0 < systems
+  pub not_needs_flush : ¬ refuses failed.NeedsFlush
+  pub not_unborn : ¬ refuses failed.Unborn

@@ -1,9 +1,8 @@
 // Made of crates/ent_runner/src/blocks.rt by rust/erase. It isn't edited by hand.
 
-//! Logs and queues that systems fill side by side, each from a block of handles of its own: so
-//! which handles a system gets depends on no other system, and on no thread.
+//! Outputs that systems fill side by side, each from a block of handles of its own: so which
+//! handles a system gets depends on no other system, and on no thread.
 
-pub(super) mod filling;
 pub(super) mod room;
 pub(super) mod running;
 mod splitting;

@@ -11,7 +11,6 @@ mod run_error;
 mod stage;
 mod systems;
 
-pub(crate) use blocks::filling::fill_in_blocks;
 pub use blocks::room::check_run;
 pub(crate) use blocks::running::run_in_blocks;
 pub use crew::{ClaimRecord, Claimer, Claims, Crew, Jobs};
@@ -24,3 +23,4 @@ pub use logs::beginning::run_to_sync_point;
 pub use logs::run_logs;
 pub use logs::system::LogSystem;
 pub use run_error::RunError;
+pub use systems::{Issuers, Loggers, Systems};

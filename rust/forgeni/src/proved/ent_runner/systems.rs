@@ -11,36 +11,63 @@ use crate::commands::{IssuedCommands, SystemCommands, Output};
 use crate::worlds::View;
 
 /// Systems with numbers from 0, each of which fills an output once, with handles of the source `S`,
-/// or stops with an error of type `E`.
-pub(super) trait Systems<O: Output, S: Source, E> {
+/// or stops with an error of type `E`. [`Issuers`] fill queues, and [`Loggers`] logs.
+pub trait Systems<O: Output, S: Source, E> {
+    /// Returns how many there are.
+    ///
+    /// <details><summary>Contract</summary>
+    ///
+    /// <code style="display: block; tab-size: 4; white-space: pre-wrap">// In the words of [contracts](crate::contracts):
+    /// ensures { result ≡ count self.now }
+    /// </code>
+    ///
+    /// </details>
+    fn len(&self) -> usize;
+
     /// Runs the system of this number.
     ///
     /// # Errors
     ///
     /// That of the system, if it returned one.
+    ///
+    /// <details><summary>Contract</summary>
+    ///
+    /// <code style="display: block; tab-size: 4; white-space: pre-wrap">// In the words of [contracts](crate::contracts):
+    /// requires number { number \< count self.now }
+    /// requires ready { [IsReady](crate::contracts::ent_queue::commands#IsReady) S.serves commands.old }
+    /// ensures extends { [Extends](crate::contracts::ent_queue::commands#Extends) O.adds S.serves S.may_reply commands.old commands.new }
+    /// ensures may { [output_of](crate::contracts::ent_queue::commands#output_of) commands.old ≡ O.empty
+    /// &#9;→ [OnOk](crate::contracts::logic#OnOk) result (may_fill self.now number ([output_of](crate::contracts::ent_queue::commands#output_of) commands.new)) }
+    /// ensures leaves { [output_of](crate::contracts::ent_queue::commands#output_of) commands.old ≡ O.empty
+    /// &#9;→ [IfErr](crate::contracts::logic#IfErr) result (λ error. may_leave self.now number ([output_of](crate::contracts::ent_queue::commands#output_of) commands.new) error) }
+    /// </code>
+    ///
+    /// </details>
     fn run_at(
         &self,
         number: usize,
         commands: &mut SystemCommands<'_, O, S>,
     ) -> Result<(), E>;
-        // requires number { number < count self.now }
-        // requires ready { IsReady S.serves commands.old }
-        // ensures extends { Extends O.adds S.serves S.may_reply commands.old commands.new }
-        // ensures may { output_of commands.old ≡ O.empty
-        //     → OnOk result (may_fill self.now number (output_of commands.new)) }
-        // ensures leaves { output_of commands.old ≡ O.empty
-        //     → IfErr result (λ error. may_leave self.now number (output_of commands.new) error) }
 }
 
-/// The systems of a frame, and what they have in common. Their outputs are queues.
-pub(super) struct Issuers<'v, 's, 'g, T, G> {
-    pub(super) view: View<'v>,
-    pub(super) systems: &'s [T],
-    pub(super) gate: &'g G,
+/// The systems of a frame, whose outputs are queues: they see this view of its world, and the gate
+/// is told when one begins.
+pub struct Issuers<'v, 's, 'g, T, G> {
+    /// What the systems see.
+    pub view: View<'v>,
+    /// The systems, in their order.
+    pub systems: &'s [T],
+    /// Passed by each system before it runs.
+    pub gate: &'g G,
 }
 
 impl<S: Source, E, T: System<S, E>, G: Gate> Systems<IssuedCommands, S, E>
     for Issuers<'_, '_, '_, T, G> {
+    #[inline]
+    fn len(&self) -> usize {
+        self.systems.len()
+    }
+
     #[inline]
     fn run_at(
         &self,
@@ -53,11 +80,17 @@ impl<S: Source, E, T: System<S, E>, G: Gate> Systems<IssuedCommands, S, E>
 }
 
 /// Systems whose outputs are logs.
-pub(super) struct Loggers<'s, T> {
-    pub(super) systems: &'s [T],
+pub struct Loggers<'s, T> {
+    /// The systems, in their order.
+    pub systems: &'s [T],
 }
 
 impl<C, S: Source, E, T: LogSystem<C, S, E>> Systems<Log<C>, S, E> for Loggers<'_, T> {
+    #[inline]
+    fn len(&self) -> usize {
+        self.systems.len()
+    }
+
     #[inline]
     fn run_at(
         &self,

@@ -1,12 +1,12 @@
 // Made of crates/ent_total/src/filling_in_blocks.rt by rust/erase. It isn't edited by hand.
 
 use crate::phases::in_world::InWorld;
-use crate::phases::lending::{are_of, lend_all, put_back};
 use crate::phases::phase::Phase;
 use crate::phases::queues::Queues;
 use crate::phases::reserver::Reserver;
+use crate::phases::running_in_blocks::run_lent;
 use crate::in_blocks::Blocks;
-use crate::running::{RunError, System, check_run};
+use crate::running::{Issuers, NoGate, RunError, System};
 use crate::kit::thread::Join;
 
 /// Runs each system once, on that many workers side by side, 1 to 64, each with the reserver at its
@@ -57,23 +57,19 @@ use crate::kit::thread::Join;
 /// <details><summary>Contract</summary>
 ///
 /// <code style="display: block; tab-size: 4; white-space: pre-wrap">// In the words of [contracts](crate::contracts):
-/// ensures ok { [IfOk](crate::contracts::logic#IfOk) result (λ ran. [HaveIssued](crate::contracts::ent_runner::blocks_queues#HaveIssued) T.may_issue systems.now
-/// &#9;([view_in](crate::contracts::ent_total::in_world#view_in) phase.now.source) phase.now.source.source.start
-/// &#9;([blocks_of](crate::contracts::ent_blocks::blocks#blocks_of) ([reservers_of](crate::contracts::ent_total::phases#reservers_of) reservers.old)) ran.queues
-/// &#9;([blocks_of](crate::contracts::ent_blocks::blocks#blocks_of) ([reservers_of](crate::contracts::ent_total::phases#reservers_of) reservers.new))) }
+/// ensures ok { [IfOk](crate::contracts::logic#IfOk) result (λ ran. [HaveFilled](crate::contracts::ent_runner::blocks#HaveFilled) [Issues](crate::contracts::ent_queue::issuing#Issues) \[\] phase.now.source.source
+/// &#9;([SystemMayIssue](crate::contracts::ent_runner::frame#SystemMayIssue) T.may_issue systems.now ([view_in](crate::contracts::ent_total::in_world#view_in) phase.now.source)) ([length](crate::contracts::logic#length) systems.now)
+/// &#9;([reservers_of](crate::contracts::ent_total::phases#reservers_of) reservers.old) ran.queues ([reservers_of](crate::contracts::ent_total::phases#reservers_of) reservers.new)) }
 /// ensures world { [IfOk](crate::contracts::logic#IfOk) result (λ ran. ran.world ≡ phase.now.source.of_world) }
-/// ensures same { reservers.new ≡ [returned](crate::contracts::ent_total::lending#returned) reservers.old ([reservers_of](crate::contracts::ent_total::phases#reservers_of) reservers.new) }
+/// ensures lent { [AreLent](crate::contracts::ent_total::lending#AreLent) reservers.old reservers.new result }
 /// ensures refused { [IsRefused](crate::contracts::ent_runner::blocks_refusing#IsRefused) workers ([length](crate::contracts::logic#length) systems.now) ([length](crate::contracts::logic#length) reservers.old)
 /// &#9;([AreOf](crate::contracts::ent_total::phases#AreOf) phase.now.number reservers.old) (λ why. [IsErrOf](crate::contracts::logic#IsErrOf) result why) }
-/// ensures of_blocks { [IfErr](crate::contracts::logic#IfErr) result [IsOfBlocks](crate::contracts::ent_runner::run_errors#IsOfBlocks) }
-/// ensures memory_some { [IsErrOf](crate::contracts::logic#IsErrOf) result failed.Memory → 0 \< [length](crate::contracts::logic#length) systems.now }
-/// ensures as_they_were { [IfErr](crate::contracts::logic#IfErr) result ([IfNotLost](crate::contracts::ent_runner::run_errors#IfNotLost) (reservers.new ≡ reservers.old)) }
 /// &#32;
 /// // What is left if the systems were broken off.
-/// ensures lost { [IfErr](crate::contracts::logic#IfErr) result ([IfLost](crate::contracts::ent_runner::run_errors#IfLost) ([HaveStopped](crate::contracts::ent_runner::blocks_queues#HaveStopped) T.may_issue T.may_leave systems.now workers
-/// &#9;([view_in](crate::contracts::ent_total::in_world#view_in) phase.now.source) phase.now.source.source.start
-/// &#9;([blocks_of](crate::contracts::ent_blocks::blocks#blocks_of) ([reservers_of](crate::contracts::ent_total::phases#reservers_of) reservers.old)))) }
-/// ensures used_up { [IfErr](crate::contracts::logic#IfErr) result ([IfLost](crate::contracts::ent_runner::run_errors#IfLost) (λ \_. reservers.new ≡ [map](crate::contracts::logic#map) [lent_out](crate::contracts::ent_total::lending#lent_out) reservers.old)) }
+/// ensures lost { [IfErr](crate::contracts::logic#IfErr) result ([IfLost](crate::contracts::ent_runner::run_errors#IfLost) ([IsBrokenOff](crate::contracts::ent_runner::blocks#IsBrokenOff) [Issues](crate::contracts::ent_queue::issuing#Issues) \[\] phase.now.source.source
+/// &#9;([SystemMayIssue](crate::contracts::ent_runner::frame#SystemMayIssue) T.may_issue systems.now ([view_in](crate::contracts::ent_total::in_world#view_in) phase.now.source))
+/// &#9;([SystemMayLeave](crate::contracts::ent_runner::frame#SystemMayLeave) T.may_leave systems.now ([view_in](crate::contracts::ent_total::in_world#view_in) phase.now.source)) ([length](crate::contracts::logic#length) systems.now)
+/// &#9;workers ([reservers_of](crate::contracts::ent_total::phases#reservers_of) reservers.old))) }
 /// </code>
 ///
 /// </details>
@@ -90,25 +86,12 @@ where
     T: System<Blocks, E> + Sync,
     E: Send,
 {
-    check_run(reservers.len(), systems.len(), workers)?;
-    if !are_of(phase, reservers) {
-        return Err(RunError::OtherPhase);
-    }
-    let Ok(lent) = lend_all(reservers) else {
-        return Err(RunError::Memory);
-    };
     let world = phase.server();
-    let (blocks, view) = (world.dealt.dealer(), world.view());
-    match crate::running::fill_in_blocks(rt, blocks, lent, view, systems, workers) {
-        Ok((queues, lent)) => {
-            put_back(reservers, world, lent);
-            Ok(Queues::new(world.of_world, queues))
-        }
-        Err(back) => {
-            // None, if they are lost.
-            let (lent, error) = back.into_parts();
-            put_back(reservers, world, lent);
-            Err(error)
-        }
-    }
+    let issuers = Issuers {
+        view: world.view(),
+        systems,
+        gate: &NoGate,
+    };
+    let queues = run_lent(rt, phase, reservers, &issuers, workers)?;
+    Ok(Queues::new(world.of_world, queues))
 }

@@ -7,8 +7,59 @@ use crate::phases::phase::Phase;
 use crate::phases::reserver::Reserver;
 use crate::in_blocks::Blocks;
 use crate::logs::Log;
-use crate::running::{LogSystem, RunError, check_run};
+use crate::commands::Output;
+use crate::running::{LogSystem, Loggers, RunError, Systems, check_run};
 use crate::kit::thread::Join;
+
+/// Runs systems that fill any outputs, with the blocks of the reservers, which get them back.
+///
+/// # Errors
+///
+/// Those of [`run_in_blocks`].
+#[inline]
+pub(super) fn run_lent<R, S: OfBlocks, O, T, E>(
+    rt: &R,
+    phase: &Phase<S>,
+    reservers: &mut [Reserver<S>],
+    systems: &T,
+    workers: usize,
+) -> Result<Vec<O>, RunError<E>>
+where
+    R: Join + Sync,
+    O: Output + Send,
+    T: Systems<O, Blocks, E> + Sync,
+    E: Send,
+    // ensures ok { IfOk result (λ outputs. HaveFilled O.adds O.empty (S.of phase.now.source)
+    //     (T.may_fill systems.now) (T.count systems.now) (reservers_of reservers.old) outputs.items
+    //     (reservers_of reservers.new)) }
+    // ensures lent { AreLent reservers.old reservers.new result }
+    // ensures refused { IsRefused workers (T.count systems.now) (length reservers.old)
+    //     (AreOf phase.now.number reservers.old) (λ why. IsErrOf result why) }
+    // ensures lost { IfErr result (IfLost (IsBrokenOff O.adds O.empty (S.of phase.now.source)
+    //     (T.may_fill systems.now) (T.may_leave systems.now) (T.count systems.now) workers
+    //     (reservers_of reservers.old))) }
+{
+    check_run(reservers.len(), systems.len(), workers)?;
+    if !are_of(phase, reservers) {
+        return Err(RunError::OtherPhase);
+    }
+    let Ok(lent) = lend_all(reservers) else {
+        return Err(RunError::Memory);
+    };
+    let source = phase.server();
+    match crate::running::run_in_blocks(rt, source.blocks(), lent, systems, workers) {
+        Ok((outputs, lent)) => {
+            put_back(reservers, source, lent);
+            Ok(outputs)
+        }
+        Err(back) => {
+            // None, if they are lost.
+            let (lent, error) = back.into_parts();
+            put_back(reservers, source, lent);
+            Err(error)
+        }
+    }
+}
 
 /// Runs each system once, on that many workers side by side, 1 to 64, each with the reserver at its
 /// position and a log of its own. The logs are in the order of the systems.
@@ -81,20 +132,17 @@ use crate::kit::thread::Join;
 /// <details><summary>Contract</summary>
 ///
 /// <code style="display: block; tab-size: 4; white-space: pre-wrap">// In the words of [contracts](crate::contracts):
-/// ensures ok { [IfOk](crate::contracts::logic#IfOk) result (λ logs. [HaveFilled](crate::contracts::ent_runner::blocks#HaveFilled) T.may_log systems.now
-/// &#9;(S.of phase.now.source).start.pool ([blocks_of](crate::contracts::ent_blocks::blocks#blocks_of) ([reservers_of](crate::contracts::ent_total::phases#reservers_of) reservers.old)) logs.items
-/// &#9;([blocks_of](crate::contracts::ent_blocks::blocks#blocks_of) ([reservers_of](crate::contracts::ent_total::phases#reservers_of) reservers.new))) }
-/// ensures same { reservers.new ≡ [returned](crate::contracts::ent_total::lending#returned) reservers.old ([reservers_of](crate::contracts::ent_total::phases#reservers_of) reservers.new) }
+/// ensures ok { [IfOk](crate::contracts::logic#IfOk) result (λ logs. [HaveFilled](crate::contracts::ent_runner::blocks#HaveFilled) [Logs](crate::contracts::ent_queue::logging#Logs) \[\] (S.of phase.now.source)
+/// &#9;([SystemMayLog](crate::contracts::ent_runner::logs#SystemMayLog) T.may_log systems.now) ([length](crate::contracts::logic#length) systems.now) ([reservers_of](crate::contracts::ent_total::phases#reservers_of) reservers.old)
+/// &#9;logs.items ([reservers_of](crate::contracts::ent_total::phases#reservers_of) reservers.new)) }
+/// ensures lent { [AreLent](crate::contracts::ent_total::lending#AreLent) reservers.old reservers.new result }
 /// ensures refused { [IsRefused](crate::contracts::ent_runner::blocks_refusing#IsRefused) workers ([length](crate::contracts::logic#length) systems.now) ([length](crate::contracts::logic#length) reservers.old)
 /// &#9;([AreOf](crate::contracts::ent_total::phases#AreOf) phase.now.number reservers.old) (λ why. [IsErrOf](crate::contracts::logic#IsErrOf) result why) }
-/// ensures of_blocks { [IfErr](crate::contracts::logic#IfErr) result [IsOfBlocks](crate::contracts::ent_runner::run_errors#IsOfBlocks) }
-/// ensures memory_some { [IsErrOf](crate::contracts::logic#IsErrOf) result failed.Memory → 0 \< [length](crate::contracts::logic#length) systems.now }
-/// ensures as_they_were { [IfErr](crate::contracts::logic#IfErr) result ([IfNotLost](crate::contracts::ent_runner::run_errors#IfNotLost) (reservers.new ≡ reservers.old)) }
 /// &#32;
 /// // What is left if the systems were broken off.
-/// ensures lost { [IfErr](crate::contracts::logic#IfErr) result ([IfLost](crate::contracts::ent_runner::run_errors#IfLost) ([IsBrokenOff](crate::contracts::ent_runner::blocks#IsBrokenOff) T.may_log T.may_leave systems.now workers
-/// &#9;(S.of phase.now.source).start.pool ([blocks_of](crate::contracts::ent_blocks::blocks#blocks_of) ([reservers_of](crate::contracts::ent_total::phases#reservers_of) reservers.old)))) }
-/// ensures used_up { [IfErr](crate::contracts::logic#IfErr) result ([IfLost](crate::contracts::ent_runner::run_errors#IfLost) (λ \_. reservers.new ≡ [map](crate::contracts::logic#map) [lent_out](crate::contracts::ent_total::lending#lent_out) reservers.old)) }
+/// ensures lost { [IfErr](crate::contracts::logic#IfErr) result ([IfLost](crate::contracts::ent_runner::run_errors#IfLost) ([IsBrokenOff](crate::contracts::ent_runner::blocks#IsBrokenOff) [Logs](crate::contracts::ent_queue::logging#Logs) \[\] (S.of phase.now.source)
+/// &#9;([SystemMayLog](crate::contracts::ent_runner::logs#SystemMayLog) T.may_log systems.now) ([SystemMayLeave](crate::contracts::ent_runner::logs#SystemMayLeave) T.may_leave systems.now)
+/// &#9;([length](crate::contracts::logic#length) systems.now) workers ([reservers_of](crate::contracts::ent_total::phases#reservers_of) reservers.old))) }
 /// </code>
 ///
 /// </details>
@@ -112,25 +160,5 @@ where
     T: LogSystem<C, Blocks, E> + Sync,
     E: Send,
 {
-    check_run(reservers.len(), systems.len(), workers)?;
-    if !are_of(phase, reservers) {
-        return Err(RunError::OtherPhase);
-    }
-    let Ok(lent) = lend_all(reservers) else {
-        return Err(RunError::Memory);
-    };
-    let source = phase.server();
-    let dealt = source.blocks();
-    match crate::running::run_in_blocks(rt, dealt, lent, systems, workers) {
-        Ok((logs, lent)) => {
-            put_back(reservers, source, lent);
-            Ok(logs)
-        }
-        Err(back) => {
-            // None, if they are lost.
-            let (lent, error) = back.into_parts();
-            put_back(reservers, source, lent);
-            Err(error)
-        }
-    }
+    run_lent(rt, phase, reservers, &Loggers { systems }, workers)
 }

@@ -7,7 +7,7 @@ use crate::kit::vec::FallibleVec;
 use crate::spawnrun_lib::script_system::{ScriptSystem, runnable};
 use crate::in_blocks::Blocks;
 use crate::handles::OutOfMemory;
-use crate::running::{RunError, fill_in_blocks};
+use crate::running::{Issuers, NoGate, RunError, run_in_blocks};
 use crate::scripts::System;
 use crate::worlds::{Report, World};
 use crate::kit::thread::Join;
@@ -69,8 +69,12 @@ where
     let Ok((dealt, reservers)) = world.deal_blocks::<Blocks>(sizes) else {
         return Err(Undone::Memory);
     };
-    let (dealer, view) = (dealt.dealer(), dealt.view());
-    let filled = fill_in_blocks(rt, dealer, reservers, view, systems, workers);
+    let issuers = Issuers {
+        view: dealt.view(),
+        systems,
+        gate: &NoGate,
+    };
+    let filled = run_in_blocks(rt, dealt.dealer(), reservers, &issuers, workers);
     let (queues, reservers) = match filled {
         Ok(filled) => filled,
         Err(refused) => {

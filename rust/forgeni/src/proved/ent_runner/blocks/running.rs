@@ -4,21 +4,21 @@ use alloc::vec::Vec;
 use crate::running::blocks::room::{Room, WORKERS, check_run, prepare};
 use crate::running::blocks::splitting::split;
 use crate::running::crew::first_error;
-use crate::running::logs::system::LogSystem;
 use crate::running::run_error::RunError;
 use crate::running::stage::BlockStage;
-use crate::running::systems::Loggers;
+use crate::running::systems::Systems;
 use crate::in_blocks::{BlockReserver, Blocks};
 use crate::handles::HandedBack;
-use crate::logs::Log;
+use crate::commands::Output;
 use crate::kit::thread::Join;
 
 /// Runs each system once, on that many workers side by side, each with the reserver at its position
-/// and a log of its own. The logs and the reservers are in the order of the systems.
+/// and an output of its own: a queue ([`Issuers`](crate::running::Issuers)), or a log
+/// ([`Loggers`](crate::running::Loggers)). The outputs and the reservers are in the order of the systems.
 ///
 /// The handles of a system's spawns are the next ones of its block, in the pool's order, whatever
 /// the others do, whichever worker runs it, and however many workers there are. So if what a system
-/// does follows from what it sees, all logs are the same each time, handles included.
+/// does follows from what it sees, all outputs are the same each time, handles included.
 ///
 /// Each worker takes the next system that isn't taken yet, until none is left. If a thread can't be
 /// started, another one does its work. One worker starts no thread.
@@ -33,74 +33,75 @@ use crate::kit::thread::Join;
 ///   back as they were. With no systems, it doesn't allocate.
 /// - [`RunError::Lost`]: a system returned an error, and this has the first one in the order of the
 ///   systems. Or some systems didn't run, since no worker has memory for another one: then it has
-///   none. All logs and reservers are dropped: [`Blocks::close_lost`] ends the phase.
+///   none. All outputs and reservers are dropped: [`Blocks::close_lost`] ends the phase.
 ///
 /// # Panics
 ///
-/// If a system panics, the panic is propagated when all workers have ended. Logs and reservers are
-/// dropped then too.
+/// If a system panics, the panic is propagated when all workers have ended. Outputs and reservers
+/// are dropped then too.
 #[inline]
-pub(crate) fn run_in_blocks<R, C, S, E>(
+pub(crate) fn run_in_blocks<R, O, T, E>(
     rt: &R,
     blocks: &Blocks,
     reservers: Vec<BlockReserver>,
-    systems: &[S],
+    systems: &T,
     workers: usize,
-) -> Result<(Vec<Log<C>>, Vec<BlockReserver>), HandedBack<Vec<BlockReserver>, RunError<E>>>
+) -> Result<(Vec<O>, Vec<BlockReserver>), HandedBack<Vec<BlockReserver>, RunError<E>>>
 where
     R: Join + Sync,
-    C: Send,
-    S: LogSystem<C, Blocks, E> + Sync,
+    O: Output + Send,
+    T: Systems<O, Blocks, E> + Sync,
     E: Send,
     // requires own { All (IsOfPhase blocks.now) reservers.items }
-    // ensures ok { IfOk result (λ ran. HaveFilled S.may_log systems.now blocks.now.start.pool
-    //     (blocks_of reservers.items) ran.0.items (blocks_of ran.1.items)) }
+    // ensures ok { IfOk result (λ ran. HaveFilled O.adds O.empty blocks.now
+    //     (T.may_fill systems.now) (T.count systems.now) reservers.items ran.0.items ran.1.items) }
     // ensures own { IfOk result (λ ran. All (IsOfPhase blocks.now) ran.1.items) }
     // ensures workers { IsErrAnd result (λ h. h.error ≡ failed.Workers)
     //     ↔ ((workers ≡ 0) ⊎ (64 < workers)) }
     // ensures systems { IsErrAnd result (λ h. h.error ≡ failed.Systems)
-    //     ↔ ((0 < workers) × (workers ≤ 64) × (2 ^ 16 < length systems.now)) }
+    //     ↔ ((0 < workers) × (workers ≤ 64) × (2 ^ 16 < T.count systems.now)) }
     // ensures reservers { IsErrAnd result (λ h. h.error ≡ failed.Reservers)
-    //     ↔ ((0 < workers) × (workers ≤ 64) × (length systems.now ≤ 2 ^ 16)
-    //     × (length reservers.items ≢ length systems.now)) }
+    //     ↔ ((0 < workers) × (workers ≤ 64) × (T.count systems.now ≤ 2 ^ 16)
+    //     × (length reservers.items ≢ T.count systems.now)) }
     // ensures not_other { IfErr result (λ h. h.error ≢ failed.OtherPhase) }
     // ensures of_blocks { IfErr result (λ h. IsOfBlocks h.error) }
     // ensures memory_some { IsErrAnd result (λ h. h.error ≡ failed.Memory)
-    //     → 0 < length systems.now }
+    //     → 0 < T.count systems.now }
     // ensures handed_back { IfErr result (λ h.
     //     IfNotLost (h.value.items ≡ reservers.items) h.error) }
 
     // What is left if the systems were broken off.
-    // ensures lost { IfErr result (λ h. IfLost (IsBrokenOff S.may_log S.may_leave systems.now workers
-    //     blocks.now.start.pool (blocks_of reservers.items)) h.error) }
-    // ensures lost_some { IfErr result (λ h. IfLost (λ _. 0 < length systems.now) h.error) }
+    // ensures lost { IfErr result (λ h. IfLost (IsBrokenOff O.adds O.empty blocks.now
+    //     (T.may_fill systems.now) (T.may_leave systems.now) (T.count systems.now) workers
+    //     reservers.items) h.error) }
+    // ensures lost_some { IfErr result (λ h. IfLost (λ _. 0 < T.count systems.now) h.error) }
     // ensures lost_reservers { IfErr result (λ h. IfLost (λ _. h.value.items ≡ []) h.error) }
 {
-    if let Err(error) = check_run(reservers.len(), systems.len(), workers) {
+    let count = systems.len();
+    if let Err(error) = check_run(reservers.len(), count, workers) {
         return Err(HandedBack::new(reservers, error));
     }
-    if systems.is_empty() {
+    if count == 0 {
         return Ok((Vec::new(), reservers));
     }
-    let Ok(room) = prepare(systems.len(), workers) else {
+    let Ok(room) = prepare(count, workers) else {
         return Err(HandedBack::new(reservers, RunError::Memory));
     };
     let Room {
         crew,
-        outputs: mut logs,
+        mut outputs,
         reservers: mut returned,
     } = room;
-    let loggers = Loggers { systems };
     let stage = BlockStage {
         blocks,
         reservers: &reservers,
-        systems: &loggers,
+        systems,
     };
     let mut nothing = [(); WORKERS];
     let done = match crew.work(rt, &mut nothing[..workers], &stage) {
         Ok(done) => done,
         Err(left) => return Err(HandedBack::new(returned, RunError::Lost(first_error(left)))),
     };
-    split(done, &mut logs, &mut returned);
-    Ok((logs, returned))
+    split(done, &mut outputs, &mut returned);
+    Ok((outputs, returned))
 }
