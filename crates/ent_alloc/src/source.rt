@@ -17,7 +17,7 @@ use ent_handle::Handle;
 /// system works with every source.
 ///
 /// ```
-/// use forgeni::{run_frame, OutOfMemory, Source, View, World, WorldCommands};
+/// use forgeni::{run_frame, OutOfMemory, Source, StdThreads, View, World, WorldCommands};
 ///
 /// /// A system of any frame: of shared handles, or in blocks.
 /// fn rain<S: Source>(_: &View<'_>, out: &mut WorldCommands<'_, S>) -> Result<(), OutOfMemory> {
@@ -25,7 +25,7 @@ use ent_handle::Handle;
 /// }
 ///
 /// let mut world = World::new();
-/// run_frame(&mut world, &[rain], 1)?;
+/// run_frame(&StdThreads, &mut world, &[rain], 1)?;
 /// assert_eq!(world.len(), 100);
 /// # Ok::<(), Box<dyn std::error::Error>>(())
 /// ```

@@ -16,7 +16,7 @@ use std::alloc::Global;
 /// what is filled, and `S` the source of the handles.
 ///
 /// ```
-/// use forgeni::{run_frame, ComponentId, OutOfMemory, SystemCommands, View, World};
+/// use forgeni::{run_frame, ComponentId, OutOfMemory, StdThreads, SystemCommands, View, World};
 ///
 /// const HEAT: ComponentId = ComponentId(0);
 ///
@@ -29,7 +29,7 @@ use std::alloc::Global;
 /// }
 ///
 /// let mut world = World::new();
-/// let report = run_frame(&mut world, &[sparks; 2], 2)?;
+/// let report = run_frame(&StdThreads, &mut world, &[sparks; 2], 2)?;
 /// assert!(report.born.iter().all(|one| world.get(*one, HEAT) == Some(899)));
 /// # Ok::<(), Box<dyn std::error::Error>>(())
 /// ```
@@ -79,14 +79,14 @@ impl<'a, O, S: Source> Commands<'a, O, S> {
     /// Returns `true` if the entity was alive when the phase was opened. It takes constant time.
     ///
     /// ```
-    /// use forgeni::{run_logs, Entities, Handle, LogCommands};
+    /// use forgeni::{run_logs, Entities, Handle, LogCommands, StdThreads};
     ///
     /// let mut entities = Entities::new();
     /// let target = entities.alloc()?;
     /// let aim = |commands: &mut LogCommands<'_, (&str, Handle)>| {
     ///     if commands.is_alive(target) { commands.push(("aim", target)) } else { Ok(()) }
     /// };
-    /// assert_eq!(run_logs(&mut entities, &[aim], 1)?[0].len(), 1);
+    /// assert_eq!(run_logs(&StdThreads, &mut entities, &[aim], 1)?[0].len(), 1);
     /// # Ok::<(), Box<dyn std::error::Error>>(())
     /// ```
     #[must_use]
@@ -100,7 +100,7 @@ impl<'a, O, S: Source> Commands<'a, O, S> {
     /// then or had no row. It takes constant time.
     ///
     /// ```
-    /// use forgeni::{run_logs, Entities, Entry, LogCommands};
+    /// use forgeni::{run_logs, Entities, Entry, LogCommands, StdThreads};
     ///
     /// let mut entities = Entities::new();
     /// let cart = entities.alloc()?;
@@ -109,7 +109,7 @@ impl<'a, O, S: Source> Commands<'a, O, S> {
     ///     Some(row) => commands.push(row),
     ///     None => Ok(()),
     /// };
-    /// let logs = run_logs(&mut entities, &[look], 1)?;
+    /// let logs = run_logs(&StdThreads, &mut entities, &[look], 1)?;
     /// assert_eq!(logs[0].entries(), [Entry::Command(7)]);
     /// # Ok::<(), Box<dyn std::error::Error>>(())
     /// ```

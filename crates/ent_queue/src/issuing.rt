@@ -21,7 +21,7 @@ impl<S: Source> Commands<'_, CommandQueue, S> {
     /// Reserves a handle. Its entity gets the components when the queue is applied.
     ///
     /// ```
-    /// use forgeni::{run_frame, system, Bundle, ComponentId, World};
+    /// use forgeni::{run_frame, system, Bundle, ComponentId, StdThreads, World};
     ///
     /// const HEAT: ComponentId = ComponentId(0);
     ///
@@ -31,7 +31,7 @@ impl<S: Source> Commands<'_, CommandQueue, S> {
     ///     Err(refused) => refused.or_memory(),
     /// });
     /// let mut world = World::new();
-    /// let report = run_frame(&mut world, &[burn], 1)?;
+    /// let report = run_frame(&StdThreads, &mut world, &[burn], 1)?;
     /// assert_eq!(world.get(report.born[0], HEAT), Some(900));
     /// # Ok::<(), Box<dyn std::error::Error>>(())
     /// ```
@@ -67,7 +67,7 @@ impl<S: Source> Commands<'_, CommandQueue, S> {
     /// in any order; if a component is listed twice, its last value counts.
     ///
     /// ```
-    /// use forgeni::{run_frame, system, ComponentId, World};
+    /// use forgeni::{run_frame, system, ComponentId, StdThreads, World};
     ///
     /// const HEAT: ComponentId = ComponentId(0);
     ///
@@ -76,7 +76,7 @@ impl<S: Source> Commands<'_, CommandQueue, S> {
     ///     Err(refused) => refused.or_memory(),
     /// });
     /// let mut world = World::new();
-    /// let report = run_frame(&mut world, &[burn], 1)?;
+    /// let report = run_frame(&StdThreads, &mut world, &[burn], 1)?;
     /// assert_eq!(world.get(report.born[0], HEAT), Some(900));
     /// # Ok::<(), Box<dyn std::error::Error>>(())
     /// ```
@@ -110,7 +110,7 @@ impl<S: Source> Commands<'_, CommandQueue, S> {
     /// applied. It takes time for each handle, which goes into the list and into the queue.
     ///
     /// ```
-    /// use forgeni::{run_frame, system, Bundle, ComponentId, World};
+    /// use forgeni::{run_frame, system, Bundle, ComponentId, StdThreads, World};
     ///
     /// const HEAT: ComponentId = ComponentId(0);
     ///
@@ -120,7 +120,7 @@ impl<S: Source> Commands<'_, CommandQueue, S> {
     ///     Err(refused) => refused.or_memory(),
     /// });
     /// let mut world = World::new();
-    /// assert_eq!(run_frame(&mut world, &[burst], 1)?.born.len(), 50);
+    /// assert_eq!(run_frame(&StdThreads, &mut world, &[burst], 1)?.born.len(), 50);
     /// # Ok::<(), Box<dyn std::error::Error>>(())
     /// ```
     ///
@@ -156,7 +156,7 @@ impl<S: Source> Commands<'_, CommandQueue, S> {
     /// applied. They may be in any order; if a component is listed twice, its last value counts.
     ///
     /// ```
-    /// use forgeni::{run_frame, system, Limits, World};
+    /// use forgeni::{run_frame, system, Limits, StdThreads, World};
     ///
     /// let burst = system(|_, commands| match commands.spawn_many_with(50, &[]) {
     ///     Ok(_) => Ok(()),
@@ -164,7 +164,7 @@ impl<S: Source> Commands<'_, CommandQueue, S> {
     ///     Err(refused) => refused.or_memory(),
     /// });
     /// let mut world = World::with_limits(Limits::new(10, 1).unwrap());
-    /// let report = run_frame(&mut world, &[burst], 1)?;
+    /// let report = run_frame(&StdThreads, &mut world, &[burst], 1)?;
     /// assert_eq!((report.born.len(), report.faults.len()), (0, 1));
     /// # Ok::<(), Box<dyn std::error::Error>>(())
     /// ```
@@ -203,14 +203,14 @@ impl<S: Source> Commands<'_, CommandQueue, S> {
     /// Gives the entity the components, in place of those that it has under the same numbers.
     ///
     /// ```
-    /// use forgeni::{run_frame, system, Bundle, ComponentId, World};
+    /// use forgeni::{run_frame, system, Bundle, ComponentId, StdThreads, World};
     ///
     /// const SPEED: ComponentId = ComponentId(0);
     ///
     /// let mut world = World::new();
     /// let cart = world.spawn(&[])?;
     /// let fast = Bundle::of(&[(SPEED, 40)])?;
-    /// run_frame(&mut world, &[system(|_, commands| commands.insert(cart, &fast))], 1)?;
+    /// run_frame(&StdThreads, &mut world, &[system(|_, commands| commands.insert(cart, &fast))], 1)?;
     /// assert_eq!(world.get(cart, SPEED), Some(40));
     /// # Ok::<(), Box<dyn std::error::Error>>(())
     /// ```
@@ -258,7 +258,7 @@ impl<S: Source> Commands<'_, CommandQueue, S> {
     /// They may be in any order; if a component is listed twice, its last value counts.
     ///
     /// ```
-    /// use forgeni::{run_frame, ComponentId, OutOfMemory, SystemCommands, View, World};
+    /// use forgeni::{run_frame, ComponentId, OutOfMemory, StdThreads, SystemCommands, View, World};
     ///
     /// const SPEED: ComponentId = ComponentId(0);
     ///
@@ -269,7 +269,7 @@ impl<S: Source> Commands<'_, CommandQueue, S> {
     ///
     /// let mut world = World::new();
     /// let cart = world.spawn(&[(SPEED, 40)])?;
-    /// run_frame(&mut world, &[brake], 1)?;
+    /// run_frame(&StdThreads, &mut world, &[brake], 1)?;
     /// assert_eq!(world.get(cart, SPEED), Some(0));
     /// # Ok::<(), Box<dyn std::error::Error>>(())
     /// ```
@@ -297,13 +297,13 @@ impl<S: Source> Commands<'_, CommandQueue, S> {
     /// Removes the component from the entity, if it has it.
     ///
     /// ```
-    /// use forgeni::{run_frame, system, ComponentId, World};
+    /// use forgeni::{run_frame, system, ComponentId, StdThreads, World};
     ///
     /// const LIT: ComponentId = ComponentId(0);
     ///
     /// let mut world = World::new();
     /// let lamp = world.spawn(&[(LIT, 1)])?;
-    /// run_frame(&mut world, &[system(|_, commands| commands.remove(lamp, LIT))], 1)?;
+    /// run_frame(&StdThreads, &mut world, &[system(|_, commands| commands.remove(lamp, LIT))], 1)?;
     /// assert!(world.contains(lamp) && world.get(lamp, LIT).is_none());
     /// # Ok::<(), Box<dyn std::error::Error>>(())
     /// ```
@@ -324,7 +324,7 @@ impl<S: Source> Commands<'_, CommandQueue, S> {
     /// Despawns the entity.
     ///
     /// ```
-    /// use forgeni::{run_frame, ComponentId, OutOfMemory, SystemCommands, View, World};
+    /// use forgeni::{run_frame, ComponentId, OutOfMemory, StdThreads, SystemCommands, View, World};
     ///
     /// const AGE: ComponentId = ComponentId(0);
     ///
@@ -336,7 +336,7 @@ impl<S: Source> Commands<'_, CommandQueue, S> {
     /// let mut world = World::new();
     /// world.spawn(&[(AGE, 80)])?;
     /// world.spawn(&[(AGE, 300)])?;
-    /// run_frame(&mut world, &[wither], 1)?;
+    /// run_frame(&StdThreads, &mut world, &[wither], 1)?;
     /// assert_eq!(world.len(), 1);
     /// # Ok::<(), Box<dyn std::error::Error>>(())
     /// ```

@@ -5,7 +5,7 @@ use std::fmt;
 /// Why a run of systems returned no logs, or filled no queues.
 ///
 /// ```
-/// use forgeni::{run_logs, Entities, LogCommands, OutOfMemory, RunError};
+/// use forgeni::{run_logs, Entities, LogCommands, OutOfMemory, RunError, StdThreads};
 ///
 /// fn idle(_: &mut LogCommands<'_, ()>) -> Result<(), OutOfMemory> {
 ///     Ok(())
@@ -13,10 +13,10 @@ use std::fmt;
 ///
 /// let mut entities = Entities::new();
 /// entities.request()?;
-/// assert_eq!(run_logs(&mut entities, &[idle], 2).err(), Some(RunError::NeedsFlush));
+/// assert_eq!(run_logs(&StdThreads, &mut entities, &[idle], 2).err(), Some(RunError::NeedsFlush));
 /// entities.flush(&mut Vec::new())?;
-/// assert_eq!(run_logs(&mut entities, &[idle], 65).err(), Some(RunError::Workers));
-/// assert!(run_logs(&mut entities, &[idle], 2).is_ok());
+/// assert_eq!(run_logs(&StdThreads, &mut entities, &[idle], 65).err(), Some(RunError::Workers));
+/// assert!(run_logs(&StdThreads, &mut entities, &[idle], 2).is_ok());
 /// # Ok::<(), Box<dyn std::error::Error>>(())
 /// ```
 ///

@@ -28,14 +28,14 @@ use std::marker::Model;
 /// An allocator that many callers reserve from at once, each with a reserver of its own.
 ///
 /// ```
-/// use forgeni::{run_logs, Entities, LogCommands, OutOfMemory, SharedSource};
+/// use forgeni::{run_logs, Entities, LogCommands, OutOfMemory, SharedSource, StdThreads};
 ///
 /// /// A system over shared handles, as `run_logs` has them.
 /// fn spawn(commands: &mut LogCommands<'_, (), SharedSource>) -> Result<(), OutOfMemory> {
 ///     commands.spawn().map_or_else(|refused| refused.or_memory(), |_| Ok(()))
 /// }
 ///
-/// assert_eq!(run_logs(&mut Entities::new(), &[spawn; 4], 2)?.len(), 4);
+/// assert_eq!(run_logs(&StdThreads, &mut Entities::new(), &[spawn; 4], 2)?.len(), 4);
 /// # Ok::<(), Box<dyn std::error::Error>>(())
 /// ```
 #[derive(Drop)]

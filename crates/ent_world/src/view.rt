@@ -15,7 +15,7 @@ use std::marker::Model;
 /// What a system can read of a world while others reserve: the world as it was when it was opened.
 ///
 /// ```
-/// use forgeni::{run_frame, ComponentId, OutOfMemory, SystemCommands, View, World};
+/// use forgeni::{run_frame, ComponentId, OutOfMemory, StdThreads, SystemCommands, View, World};
 ///
 /// const HEAT: ComponentId = ComponentId(0);
 ///
@@ -28,7 +28,7 @@ use std::marker::Model;
 /// let mut world = World::new();
 /// world.spawn(&[(HEAT, 95)])?;
 /// world.spawn(&[(HEAT, 20)])?;
-/// run_frame(&mut world, &[warn], 1)?;
+/// run_frame(&StdThreads, &mut world, &[warn], 1)?;
 /// assert_eq!(world.len(), 1);
 /// # Ok::<(), Box<dyn std::error::Error>>(())
 /// ```
@@ -130,7 +130,7 @@ impl<'a> View<'a> {
     /// handle.
     ///
     /// ```
-    /// use forgeni::{run_frame, ComponentId, OutOfMemory, SystemCommands, View, World};
+    /// use forgeni::{run_frame, ComponentId, OutOfMemory, StdThreads, SystemCommands, View, World};
     ///
     /// const AGE: ComponentId = ComponentId(0);
     ///
@@ -142,7 +142,7 @@ impl<'a> View<'a> {
     /// let mut world = World::new();
     /// world.spawn(&[(AGE, 80)])?;
     /// world.spawn(&[])?;
-    /// run_frame(&mut world, &[count], 1)?;
+    /// run_frame(&StdThreads, &mut world, &[count], 1)?;
     /// # Ok::<(), Box<dyn std::error::Error>>(())
     /// ```
     ///

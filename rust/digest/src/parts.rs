@@ -170,7 +170,7 @@ pub fn frames() -> Result<u64> {
     for workers in 1..3 {
         let (mut world, mut image) = (World::new(), Vec::new());
         for _ in 0..6 {
-            run_frame(&mut world, &[grow; 3], workers)?;
+            run_frame(&StdThreads, &mut world, &[grow; 3], workers)?;
         }
         for one in world.by_birth()? {
             digest.take((world.birth(one), world.get(one, AGE)));

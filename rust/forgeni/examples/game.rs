@@ -13,7 +13,9 @@
 //! threads: 8, launched: 46519, lost: 15871, digest: 782db46486321508
 //! ```
 
-use forgeni::{run_logs, Entities, Entry, Follows, Handle, HandleMap, Log, LogCommands};
+use forgeni::{
+    run_logs, Entities, Entry, Follows, Handle, HandleMap, Log, LogCommands, StdThreads,
+};
 use forgeni::{ReserveError, SyncPoint};
 use std::{error::Error, sync::Mutex};
 
@@ -117,7 +119,7 @@ impl Game {
             }),
             change(move || events.by_ref().for_each(|event| score[event as usize] += 1)),
         ];
-        let logs = run_logs(&mut self.entities, &systems, threads)?;
+        let logs = run_logs(&StdThreads, &mut self.entities, &systems, threads)?;
         drop(systems);
         self.sync(logs)?;
 
@@ -144,7 +146,7 @@ impl Game {
                 empty.try_for_each(|(one, _)| Ok(log.push(Command::Despawn(one))?))
             }),
         ];
-        let logs = run_logs(&mut self.entities, &systems, threads)?;
+        let logs = run_logs(&StdThreads, &mut self.entities, &systems, threads)?;
         drop(systems);
         self.sync(logs)
     }

@@ -7,7 +7,7 @@
 //! frame 2: no room: 3 wanted and 1 left
 //! ```
 
-use forgeni::{run_frame, ComponentId, FrameError, Limits, OutOfMemory, ReserveError};
+use forgeni::{run_frame, ComponentId, FrameError, Limits, OutOfMemory, ReserveError, StdThreads};
 use forgeni::{SystemCommands, View, World};
 use std::error::Error;
 use std::fmt;
@@ -65,7 +65,7 @@ fn main() -> Result<(), Box<dyn Error>> {
     let mut world = World::with_limits(Limits::new(7, 9).ok_or("no limits")?);
     let systems: [System; 2] = [launch, aim];
     for frame in 0..3 {
-        match run_frame(&mut world, &systems, 4) {
+        match run_frame(&StdThreads, &mut world, &systems, 4) {
             Ok(_) => println!("frame {frame}: {} are alive", world.len()),
             // What was launched lives after the flush.
             Err(FrameError::Lost(Some(error))) => {

@@ -13,7 +13,7 @@
 //! 9 are alive
 //! ```
 
-use forgeni::{run_frame, ComponentId, ReserveError, SystemCommands, View, World};
+use forgeni::{run_frame, ComponentId, ReserveError, StdThreads, SystemCommands, View, World};
 use std::error::Error;
 use std::fmt::Write;
 use std::panic::{catch_unwind, resume_unwind, AssertUnwindSafe};
@@ -67,7 +67,7 @@ const SYSTEMS: [System; 3] = [launch, age, aim];
 fn play(workers: usize) -> Result<(World, String), Box<dyn Error>> {
     let (mut world, mut story) = (World::new(), String::new());
     for frame in 0..4 {
-        let report = run_frame(&mut world, &SYSTEMS, workers)?;
+        let report = run_frame(&StdThreads, &mut world, &SYSTEMS, workers)?;
         let (born, alive, faults) = (report.born.len(), world.len(), report.faults.len());
         writeln!(
             story,
@@ -86,7 +86,7 @@ fn main() -> Result<(), Box<dyn Error>> {
     print!("{alone}");
     println!("1 worker and 8 workers agree");
 
-    let frame = || run_frame(&mut world, &[age, breaks as System], 2).map(|_| ());
+    let frame = || run_frame(&StdThreads, &mut world, &[age, breaks as System], 2).map(|_| ());
     let panic = catch_unwind(AssertUnwindSafe(frame)).expect_err("it panics");
     if let Some(text) = panic.downcast_ref::<&str>() {
         println!("a system panicked: {text}");

@@ -17,6 +17,9 @@ pub use crate::system::*;
 /// Runs each system once, on that many workers side by side, and then the sync point. It returns
 /// the report of the sync point.
 ///
+/// The workers run on the threads of a [`Join`]: those that the call starts ([`StdThreads`]), or
+/// those of a task pool. With the feature `rayon`, `Rayon` and `rayon::ThreadPool` are `Join`s.
+///
 /// Each worker takes the next system that isn't taken yet, until none is left. The commands take
 /// effect in the order of the systems, whichever system ended first. If a thread can't be started,
 /// another one does its work. One worker starts no thread.
@@ -36,7 +39,7 @@ pub use crate::system::*;
 ///   after a lost frame begins with the births that `World::spawn` gave in that phase.
 ///
 /// ```
-/// use forgeni::{run_frame, ComponentId, OutOfMemory, SystemCommands, View, World};
+/// use forgeni::{run_frame, ComponentId, OutOfMemory, StdThreads, SystemCommands, View, World};
 ///
 /// const AGE: ComponentId = ComponentId(0);
 ///
@@ -55,10 +58,36 @@ pub use crate::system::*;
 /// let mut world = World::new();
 /// let systems: [fn(&View<'_>, &mut SystemCommands<'_>) -> _; 2] = [launch, age];
 /// for _ in 0..3 {
-///     run_frame(&mut world, &systems, 4)?;
+///     run_frame(&StdThreads, &mut world, &systems, 4)?;
 /// }
 /// let ages: Vec<_> = world.by_birth()?.into_iter().map(|one| world.get(one, AGE)).collect();
 /// assert_eq!(ages, [Some(2), Some(1), Some(0)]);
+/// # Ok::<(), Box<dyn std::error::Error>>(())
+/// ```
+///
+/// On a task pool of your own, each call of [`Join::join`] gets one worker and all others, or two
+/// halves if there are more than eight:
+///
+/// ```
+/// use forgeni::{run_frame, Join, OutOfMemory, SystemCommands, View, World};
+///
+/// /// A task pool without threads.
+/// struct OneAfterTheOther;
+///
+/// impl Join for OneAfterTheOther {
+///     fn join(&self, first: &mut (dyn FnMut() + Send), second: &mut (dyn FnMut() + Send)) {
+///         first();
+///         second();
+///     }
+/// }
+///
+/// fn spawn(_: &View<'_>, commands: &mut SystemCommands<'_>) -> Result<(), OutOfMemory> {
+///     commands.spawn_with(&[]).map_or_else(|refused| refused.or_memory(), |_| Ok(()))
+/// }
+///
+/// let mut world = World::new();
+/// run_frame(&OneAfterTheOther, &mut world, &[spawn; 3], 2)?;
+/// assert_eq!(world.len(), 3);
 /// # Ok::<(), Box<dyn std::error::Error>>(())
 /// ```
 ///
@@ -81,57 +110,15 @@ pub use crate::system::*;
 /// order of the systems is propagated. Without the feature `std`, a panic can't be caught: the
 /// world is dropped, and an empty one takes its place.
 ///
+/// If no system panics but the `Join` does, its panic is propagated when all workers have ended.
+/// The frame is complete then: only its report is lost.
+///
 /// # Aborts
 ///
-/// With more than one worker, threads are started as [`std::thread::scope`] starts them. If memory
+/// With more than one worker, `StdThreads` starts threads as [`std::thread::scope`] does. If memory
 /// for that runs out, the process ends. Without the feature `std`, and where no thread can be
 /// started, as on `wasm32-unknown-unknown`, the caller's thread does all the work.
-pub fn run_frame<S: System<SharedSource, E> + Sync, E: Send>(
-    world: &mut World,
-    systems: &[S],
-    workers: usize,
-) -> Result<Report, FrameError<E>> {
-    run_frame_on(&StdThreads, world, systems, workers)
-}
-
-/// [`run_frame`] on the threads of a [`Join`], such as a task pool. It starts no threads itself.
-/// With the feature `rayon`, `Rayon` and `rayon::ThreadPool` are `Join`s.
-///
-/// Each call of the `Join` gets one worker and all others, or two halves if there are more than
-/// eight.
-///
-/// ```
-/// use forgeni::{run_frame_on, Join, OutOfMemory, SystemCommands, View, World};
-///
-/// /// A task pool without threads.
-/// struct OneAfterTheOther;
-///
-/// impl Join for OneAfterTheOther {
-///     fn join(&self, first: &mut (dyn FnMut() + Send), second: &mut (dyn FnMut() + Send)) {
-///         first();
-///         second();
-///     }
-/// }
-///
-/// fn spawn(_: &View<'_>, commands: &mut SystemCommands<'_>) -> Result<(), OutOfMemory> {
-///     commands.spawn_with(&[]).map_or_else(|refused| refused.or_memory(), |_| Ok(()))
-/// }
-///
-/// let mut world = World::new();
-/// run_frame_on(&OneAfterTheOther, &mut world, &[spawn; 3], 2)?;
-/// assert_eq!(world.len(), 3);
-/// # Ok::<(), Box<dyn std::error::Error>>(())
-/// ```
-///
-/// # Errors
-///
-/// The same as [`run_frame`].
-///
-/// # Panics
-///
-/// The same as [`run_frame`]. If no system panics but the `Join` does, its panic is propagated when
-/// all workers have ended. The frame is complete then: only its report is lost.
-pub fn run_frame_on<J: Join + Sync, S: System<SharedSource, E> + Sync, E: Send>(
+pub fn run_frame<J: Join + Sync, S: System<SharedSource, E> + Sync, E: Send>(
     join: &J,
     world: &mut World,
     systems: &[S],
@@ -147,15 +134,17 @@ pub fn run_frame_on<J: Join + Sync, S: System<SharedSource, E> + Sync, E: Send>(
 /// own. The logs are in the order of the systems, whichever ended first, for a [`SyncPoint`] of the
 /// allocator. There can be up to 65,536 systems. If there are none, the call doesn't allocate.
 ///
-/// Each worker takes the next system that isn't taken yet, until none is left. A spawn reserves at
-/// once, so which handle it returns depends on the workers. If a thread can't be started, another
-/// one does its work. One worker starts no thread.
+/// The workers run on the threads of a [`Join`], as for [`run_frame`]. Each takes the next system
+/// that isn't taken yet, until none is left. A spawn reserves at once, so which handle it returns
+/// depends on the workers. If a thread can't be started, another one does its work. One worker
+/// starts no thread.
 ///
 /// Closures are systems, and so are those in a `Mutex` that change what they borrow:
 ///
 /// ```
 /// # #[cfg(feature = "std")] {
 /// use forgeni::{run_logs, Entities, Handle, HandleMap, LogCommands, OutOfMemory, SyncPoint};
+/// use forgeni::StdThreads;
 /// use forgeni::Entry::{Command, Refused, Spawn};
 /// use std::sync::Mutex;
 ///
@@ -172,7 +161,7 @@ pub fn run_frame_on<J: Join + Sync, S: System<SharedSource, E> + Sync, E: Send>(
 ///     })),
 ///     Mutex::new(Box::new(|_| Ok(calls += 1))),
 /// ];
-/// let mut logs = run_logs(&mut entities, &systems, 2)?;
+/// let mut logs = run_logs(&StdThreads, &mut entities, &systems, 2)?;
 /// drop(systems);
 ///
 /// let (mut born, mut refused) = (Vec::new(), 0);
@@ -211,48 +200,14 @@ pub fn run_frame_on<J: Join + Sync, S: System<SharedSource, E> + Sync, E: Send>(
 /// If a command panics when the logs are dropped, and no system did, that panic is propagated. The
 /// allocator is back in its place before the first command is dropped.
 ///
+/// If no system panics but the `Join` does, its panic is propagated when all workers have ended.
+/// What they reserved stays reserved, and the logs are dropped. If a command panics then, that
+/// panic is lost.
+///
 /// # Aborts
 ///
 /// The same as for [`run_frame`].
-pub fn run_logs<C: Send, S: LogSystem<C, SharedSource, E> + Sync, E: Send>(
-    entities: &mut Entities,
-    systems: &[S],
-    workers: usize,
-) -> Result<Vec<Log<C>>, RunError<E>> {
-    run_logs_on(&StdThreads, entities, systems, workers)
-}
-
-/// [`run_logs`] on the threads of a [`Join`], like [`run_frame_on`].
-///
-/// ```
-/// use forgeni::{run_logs_on, Entities, Join, LogCommands};
-///
-/// /// A task pool without threads.
-/// struct OneAfterTheOther;
-///
-/// impl Join for OneAfterTheOther {
-///     fn join(&self, first: &mut (dyn FnMut() + Send), second: &mut (dyn FnMut() + Send)) {
-///         first();
-///         second();
-///     }
-/// }
-///
-/// let say = |commands: &mut LogCommands<'_, &str>| commands.push("halt");
-/// let logs = run_logs_on(&OneAfterTheOther, &mut Entities::new(), &[say; 3], 2)?;
-/// assert_eq!(logs.len(), 3);
-/// # Ok::<(), Box<dyn std::error::Error>>(())
-/// ```
-///
-/// # Errors
-///
-/// The same as [`run_logs`].
-///
-/// # Panics
-///
-/// The same as [`run_logs`]. If no system panics but the `Join` does, its panic is propagated when
-/// all workers have ended. What they reserved stays reserved, and the logs are dropped. If a
-/// command panics then, that panic is lost.
-pub fn run_logs_on<J: Join + Sync, C: Send, S: LogSystem<C, SharedSource, E> + Sync, E: Send>(
+pub fn run_logs<J: Join + Sync, C: Send, S: LogSystem<C, SharedSource, E> + Sync, E: Send>(
     join: &J,
     entities: &mut Entities,
     systems: &[S],
@@ -263,7 +218,7 @@ pub fn run_logs_on<J: Join + Sync, C: Send, S: LogSystem<C, SharedSource, E> + S
     })
 }
 
-/// [`run_logs_on`], followed by the start of the sync point of these logs. It brings to life what
+/// [`run_logs`], followed by the start of the sync point of these logs. It brings to life what
 /// the systems reserved, and appends it to `born`, as [`Entities::flush`] does. The sync point has
 /// the entries of all logs, in the order of the systems.
 ///

@@ -1,7 +1,7 @@
 //! Systems whose panics are caught.
 
 use crate::frames::Join;
-use crate::{FrameError, LogCommands, RunError, LogSystem, Source, System, View, WorldCommands};
+use crate::{FrameError, LogCommands, LogSystem, RunError, Source, System, View, WorldCommands};
 use alloc::boxed::Box;
 use alloc::vec::Vec;
 use core::any::Any;

@@ -217,10 +217,7 @@ impl<R: Lends> Reservers<R> {
     /// # Panics
     ///
     /// A panic in `run` is propagated, and the reserver is as good as before.
-    pub fn try_with<T>(
-        &self,
-        run: impl FnOnce(&mut Lent<'_, R::Source>) -> T,
-    ) -> Option<T> {
+    pub fn try_with<T>(&self, run: impl FnOnce(&mut Lent<'_, R::Source>) -> T) -> Option<T> {
         let mut loan = self.free()?;
         Some(run(&mut loan.reserver.lend()))
     }

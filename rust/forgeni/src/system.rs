@@ -24,7 +24,7 @@ pub use crate::reserving::SharedReserver;
 /// Issues the commands of one system of a world, with handles from the source `S`.
 ///
 /// ```
-/// use forgeni::{run_frame, OutOfMemory, Source, View, World, WorldCommands};
+/// use forgeni::{run_frame, OutOfMemory, Source, StdThreads, View, World, WorldCommands};
 ///
 /// /// A system of any frame: of shared handles, or in blocks.
 /// fn rain<S: Source>(_: &View<'_>, out: &mut WorldCommands<'_, S>) -> Result<(), OutOfMemory> {
@@ -32,7 +32,7 @@ pub use crate::reserving::SharedReserver;
 /// }
 ///
 /// let mut world = World::new();
-/// run_frame(&mut world, &[rain; 2], 2)?;
+/// run_frame(&StdThreads, &mut world, &[rain; 2], 2)?;
 /// assert_eq!(world.len(), 200);
 /// # Ok::<(), Box<dyn std::error::Error>>(())
 /// ```
@@ -59,7 +59,7 @@ pub type WorldCommands<'a, S = SharedSource> = SystemCommands<'a, IssuedCommands
 /// }
 ///
 /// let mut entities = Entities::new();
-/// let shared = run_logs(&mut entities, &[burst; 2], 2)?;
+/// let shared = run_logs(&StdThreads, &mut entities, &[burst; 2], 2)?;
 /// entities.flush(&mut Vec::new())?;
 /// let (phase, mut reservers) = entities.share_in_blocks(&[3, 3])?;
 /// let in_blocks = run_in_blocks(&StdThreads, &phase, &mut reservers, &[burst; 2], 2)?;
@@ -73,14 +73,14 @@ pub type LogCommands<'a, C, S = SharedSource> = SystemCommands<'a, Log<C>, S>;
 /// its error is [`OutOfMemory`]:
 ///
 /// ```
-/// use forgeni::{run_frame, system, World};
+/// use forgeni::{run_frame, system, StdThreads, World};
 ///
 /// let launch = system(|_view, commands| match commands.spawn_with(&[]) {
 ///     Ok(_) => Ok(()),
 ///     Err(refused) => refused.or_memory(),
 /// });
 /// let mut world = World::new();
-/// run_frame(&mut world, &[launch], 1)?;
+/// run_frame(&StdThreads, &mut world, &[launch], 1)?;
 /// assert_eq!(world.len(), 1);
 /// # Ok::<(), forgeni::FrameError>(())
 /// ```

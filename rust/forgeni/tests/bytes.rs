@@ -261,7 +261,7 @@ fn traces() {
 #[cfg(feature = "std")]
 mod threads {
     use super::*;
-    use forgeni::{run_frame, OutOfMemory, Reservers, SystemCommands, View};
+    use forgeni::{run_frame, OutOfMemory, Reservers, StdThreads, SystemCommands, View};
 
     /// Of each system: what guards it, its place, its queue with its error, and a list that grows
     /// by each.
@@ -271,8 +271,11 @@ mod threads {
         for count in [1 << 8, 1 << 11] {
             let (mut world, systems) = (World::new(), vec![system; count]);
             let most = (24 + 2 * (32 + 8) + 40) * count + 1_024;
-            let (_, kept) =
-                held(|| at_most(most, || run_frame(&mut world, &systems, 1).expect("memory")));
+            let (_, kept) = held(|| {
+                at_most(most, || {
+                    run_frame(&StdThreads, &mut world, &systems, 1).expect("memory")
+                })
+            });
             assert_eq!(kept, 0);
         }
     }

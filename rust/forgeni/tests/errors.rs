@@ -1,11 +1,10 @@
 //! Errors travel: by `?` into a box for any thread, and apart from what they hand back.
 
 use forgeni::{
-    Absent, AllocError, CloseError, ComponentId, Entities, Fault, FreeError, Freed,
-    GoOnError, HandedBack, Handle, HandleMap, ImageFault, InsertError, Lent, Limits, OpenWorld,
-    OtherPhase, OutOfMemory, ParseHandleError, Phase, Queues, Refused, Report, ReserveError,
-    Reserver, ShareError, State, Stop, Stopped, Storage, StorageError, SyncError, Tracked, View,
-    World,
+    Absent, AllocError, CloseError, ComponentId, Entities, Fault, FreeError, Freed, GoOnError,
+    HandedBack, Handle, HandleMap, ImageFault, InsertError, Lent, Limits, OpenWorld, OtherPhase,
+    OutOfMemory, ParseHandleError, Phase, Queues, Refused, Report, ReserveError, Reserver,
+    ShareError, State, Stop, Stopped, Storage, StorageError, SyncError, Tracked, View, World,
 };
 use std::error::Error;
 

@@ -5,7 +5,7 @@
 use crate::common::{handle, seeds, Numbers};
 use forgeni::{
     run_frame, Birth, ComponentId, FaultKind, FrameError, Handle, Limits, OpenWorld, OutOfMemory,
-    Report, ReserveError, Reserver, System, SystemCommands, View, World,
+    Report, ReserveError, Reserver, StdThreads, System, SystemCommands, View, World,
 };
 use std::sync::atomic::{AtomicUsize, Ordering};
 use std::sync::Barrier;
@@ -206,7 +206,7 @@ fn play(seed: u64, workers: &[usize]) {
         wanted = world;
         for (world, workers) in worlds.iter_mut().zip(workers) {
             let place = format!("seed {seed}, frame {frame}, {workers} workers");
-            let own = run_frame(world, &scripts, *workers).expect("memory");
+            let own = run_frame(&StdThreads, world, &scripts, *workers).expect("memory");
             assert_eq!(story(world, &own), story(&wanted, &report), "{place}");
             assert_eq!(world.frame(), wanted.frame(), "{place}");
             assert!(!world.needs_flush(), "{place}");
@@ -236,7 +236,7 @@ fn refused_spawns_are_faults() {
         Script(vec![Step::SpawnMany(2)]),
         Script(vec![Step::SpawnMany(3)]),
     ];
-    let report = run_frame(&mut world, &scripts, 1).expect("memory");
+    let report = run_frame(&StdThreads, &mut world, &scripts, 1).expect("memory");
     assert_eq!(report.born, [handle(0, 1), handle(1, 1)]);
     let faults: Vec<FaultKind> = report.faults.iter().map(|fault| fault.kind).collect();
     assert_eq!(faults, [FaultKind::Space { wanted: 3, left: 1 }]);
@@ -259,7 +259,7 @@ fn two_spawns(world: &mut World, workers: usize) -> Report {
         spawned.map_or_else(ReserveError::or_memory, |_| Ok(()))
     };
     let systems: [&(dyn System + Sync); 2] = [&first, &second];
-    run_frame(world, &systems, workers).expect("memory")
+    run_frame(&StdThreads, world, &systems, workers).expect("memory")
 }
 
 /// The text of each birth, in the order of births, with the value.
@@ -328,7 +328,7 @@ fn workers_overlap() {
             Ok::<(), OutOfMemory>(())
         };
         let systems = vec![system; 3 * workers];
-        run_frame(&mut World::new(), &systems, workers).expect("memory");
+        run_frame(&StdThreads, &mut World::new(), &systems, workers).expect("memory");
     }
 }
 
@@ -344,7 +344,7 @@ fn each_system_runs_once() {
     };
     let systems: Vec<_> = runs.iter().map(system).collect();
     for (round, workers) in [1, 2, 3, 8, 64].into_iter().enumerate() {
-        run_frame(&mut World::new(), &systems, workers).expect("memory");
+        run_frame(&StdThreads, &mut World::new(), &systems, workers).expect("memory");
         let wrong = runs
             .iter()
             .position(|n| n.load(Ordering::Relaxed) != round + 1);
@@ -365,11 +365,11 @@ fn systems_that_lack_memory() {
         );
     };
     let mut world = World::new();
-    lost(run_frame(&mut world, &[lacks], 1));
+    lost(run_frame(&StdThreads, &mut world, &[lacks], 1));
     let lent: &(dyn System + Sync) = &lacks;
-    lost(run_frame(&mut world, &[lent], 1));
+    lost(run_frame(&StdThreads, &mut world, &[lent], 1));
     let boxed: Box<dyn System + Send + Sync> = Box::new(lacks);
-    lost(run_frame(&mut world, &[boxed], 1));
+    lost(run_frame(&StdThreads, &mut world, &[boxed], 1));
     assert_eq!((world.frame(), world.len()), (0, 0));
 }
 
@@ -391,7 +391,7 @@ fn no_command_is_lost() {
         commands.insert_with(lives, &[])?;
         commands.despawn(gone)
     };
-    let report = run_frame(&mut world, &[system], 1).expect("memory");
+    let report = run_frame(&StdThreads, &mut world, &[system], 1).expect("memory");
     let faults = report.faults.iter().map(|fault| fault.command);
     assert!(faults.eq([0, 1, 3, 7]));
     let all = |fault: &forgeni::Fault| fault.kind == FaultKind::NotAlive(gone);
@@ -434,7 +434,7 @@ fn what_a_view_tells() {
         assert_eq!(view.phase(), 0);
         Ok::<(), OutOfMemory>(())
     };
-    run_frame(&mut world, &[system], 1).expect("memory");
+    run_frame(&StdThreads, &mut world, &[system], 1).expect("memory");
     assert_eq!(world.get(late, HP), Some(2));
 }
 
@@ -443,26 +443,26 @@ fn what_a_frame_wants() {
     let nothing = |_: &View<'_>, _: &mut SystemCommands<'_>| Ok::<(), OutOfMemory>(());
     let mut world = World::new();
     for workers in [0, 65, usize::MAX] {
-        let refused = run_frame(&mut world, &[nothing], workers).expect_err("refused");
+        let refused = run_frame(&StdThreads, &mut world, &[nothing], workers).expect_err("refused");
         assert!(matches!(refused, FrameError::Workers), "{refused}");
         assert_eq!(refused.to_string(), "a frame has 1 to 64 workers");
     }
     let most = vec![nothing; 65_536];
-    run_frame(&mut world, &most, 2).expect("memory");
-    let refused = run_frame(&mut world, &[nothing; 65_537], 2).expect_err("refused");
+    run_frame(&StdThreads, &mut world, &most, 2).expect("memory");
+    let refused = run_frame(&StdThreads, &mut world, &[nothing; 65_537], 2).expect_err("refused");
     assert!(matches!(refused, FrameError::Systems), "{refused}");
     assert_eq!((world.frame(), world.len()), (1, 0));
 
     // A frame of nothing ends a phase too.
-    run_frame(&mut world, &most[..0], 64).expect("memory");
+    run_frame(&StdThreads, &mut world, &most[..0], 64).expect("memory");
     assert_eq!(world.frame(), 2);
 
     let (open, mut systems) = world.open(1).expect("opened");
     systems[0].spawn(&[]).expect("a handle");
     let (mut world, queues) = open.close(systems).expect("closed");
-    let refused = run_frame(&mut world, &[nothing], 1).expect_err("not flushed");
+    let refused = run_frame(&StdThreads, &mut world, &[nothing], 1).expect_err("not flushed");
     assert!(matches!(refused, FrameError::NeedsFlush), "{refused}");
     world.apply(queues).expect("memory");
-    run_frame(&mut world, &[nothing], 1).expect("memory");
+    run_frame(&StdThreads, &mut world, &[nothing], 1).expect("memory");
     assert_eq!((world.frame(), world.len()), (4, 1));
 }

@@ -4,9 +4,9 @@
 //! then.
 
 use crate::common::{flushed, seeds, Numbers};
-use forgeni::{run_frame_on, run_logs_on, run_to_sync_point, Entities, Handle, Join, Log};
+use forgeni::{run_frame, run_logs, run_to_sync_point, Entities, Handle, Join, Log};
 use forgeni::{
-    ComponentId, FrameError, LogCommands, RunError, OutOfMemory, ShareError, StdThreads,
+    ComponentId, FrameError, LogCommands, OutOfMemory, RunError, ShareError, StdThreads,
 };
 use forgeni::{SyncPoint, SystemCommands, View, World};
 use std::collections::HashSet;
@@ -157,7 +157,7 @@ type Filled = Result<Option<RunError>, &'static str>;
 fn each_call(systems: &[System], joiner: &'static str, workers: usize, expect: impl Fn(Filled)) {
     let reserved = 4..=6;
     let (mut entities, living) = two();
-    let filled = ended(|| run_logs_on(&Joiner(joiner), &mut entities, systems, workers));
+    let filled = ended(|| run_logs(&Joiner(joiner), &mut entities, systems, workers));
     // Logs that nobody has dropped yet are dropped here.
     expect(filled.and_then(|logs| ended(|| logs.map(drop).err())));
     is_in_place(&mut entities, living, reserved.clone());
@@ -231,7 +231,7 @@ fn all_panics_panic() {
 
         let mut world = World::new();
         let first = world.spawn(&[]).expect("memory");
-        let ran = ended(|| run_frame_on(&Joiner("12?"), &mut world, &[loud; 3], workers));
+        let ran = ended(|| run_frame(&Joiner("12?"), &mut world, &[loud; 3], workers));
         assert_eq!(ran.map(drop), Err("the panic"));
         assert!(world.contains(first) && world.len() == 1);
         world.flush().expect("memory");
@@ -430,7 +430,7 @@ fn any_call(lives: &mut Lives, numbers: &mut Numbers) -> Result<(), &'static str
         entities, world, ..
     } = lives;
     match numbers.below(6) {
-        0 => ended(|| run_logs_on(&joiner, entities, &systems, workers)).and_then(|logs| {
+        0 => ended(|| run_logs(&joiner, entities, &systems, workers)).and_then(|logs| {
             let Ok(mut logs): Result<Vec<Log<Loud>>, _> = logs else {
                 return Ok(());
             };
@@ -445,7 +445,7 @@ fn any_call(lives: &mut Lives, numbers: &mut Numbers) -> Result<(), &'static str
                 Err(unbegun) => ended(|| drop(unbegun)),
             })
         }
-        2 => ended(|| run_frame_on(&joiner, world, &systems, workers)).map(|ran| {
+        2 => ended(|| run_frame(&joiner, world, &systems, workers)).map(|ran| {
             assert!(matches!(ran, Ok(_) | Err(FrameError::Lost(_))));
         }),
         3 => ended(|| {

@@ -1,7 +1,7 @@
 //! Frames on joiners of the caller's: whatever they do with the halves, each system runs once.
 
 use forgeni::{
-    run_frame_on, ComponentId, FrameError, Join, OutOfMemory, Report, StdThreads, SystemCommands,
+    run_frame, ComponentId, FrameError, Join, OutOfMemory, Report, StdThreads, SystemCommands,
     View, World,
 };
 use std::panic::{catch_unwind, AssertUnwindSafe};
@@ -47,7 +47,7 @@ fn frame(
         }
     };
     let systems: Vec<_> = (0..5).map(system).collect();
-    run_frame_on(join, world, &systems, workers)
+    run_frame(join, world, &systems, workers)
 }
 
 /// The numbers of the entities, by birth.

@@ -1,8 +1,8 @@
 //! Systems that fill logs on workers: what their contracts can't say, and what a panic leaves.
 
 use crate::common::{flushed, small};
-use forgeni::{run_logs, run_logs_on, run_to_sync_point, Entities, Entry, Handle, HandleMap, Join};
-use forgeni::{Log, LogCommands, RunError, LogSystem, OutOfMemory, StdThreads, SyncPoint};
+use forgeni::{run_logs, run_to_sync_point, Entities, Entry, Handle, HandleMap, Join};
+use forgeni::{Log, LogCommands, LogSystem, OutOfMemory, RunError, StdThreads, SyncPoint};
 use std::convert::Infallible;
 use std::panic::{catch_unwind, resume_unwind, AssertUnwindSafe};
 use std::sync::{Barrier, Mutex};
@@ -74,7 +74,7 @@ fn logs_are_in_the_order_of_the_systems() {
         let mut entities = Entities::new();
         let systems = numbered(&[Does::Spawn(3); 40]);
         for frame in 1..4 {
-            let logs = run_logs(&mut entities, &systems, workers).expect("memory");
+            let logs = run_logs(&StdThreads, &mut entities, &systems, workers).expect("memory");
             assert_eq!(logs.len(), 40);
             let wanted: Vec<_> = (0..120).map(|one| (one / 3, true)).collect();
             assert_eq!(told(&mut entities, logs), wanted);
@@ -97,7 +97,7 @@ fn each_refused_spawn_has_an_entry() {
             }
             Ok(())
         };
-        let mut logs = run_logs(&mut entities, &[system; 5], workers).expect("memory");
+        let mut logs = run_logs(&StdThreads, &mut entities, &[system; 5], workers).expect("memory");
         assert!(logs.iter().all(|log| log.len() == 3));
         assert_eq!(logs.iter().map(Log::refused).sum::<usize>(), 8);
         let mut sync = SyncPoint::begin(&mut entities, &mut logs, &mut vec![]).expect("reserved");
@@ -127,7 +127,7 @@ fn the_sync_point_begins_at_once() {
         let mut sync = sync.expect("memory");
         assert_eq!((born.len(), born[0], at_once.len()), (121, listed, 121));
 
-        let logs = run_logs(&mut later, &systems, workers).expect("memory");
+        let logs = run_logs(&StdThreads, &mut later, &systems, workers).expect("memory");
         let mut commands = logs.iter().flat_map(|log| log.entries());
         let done = sync.apply(&mut at_once, |entities, entry| {
             match (entry, commands.next()) {
@@ -188,7 +188,7 @@ fn systems_run_side_by_side() {
         both.wait();
         Ok::<(), OutOfMemory>(())
     };
-    let logs = run_logs(&mut entities, &[system; 2], 2).expect("memory");
+    let logs = run_logs(&StdThreads, &mut entities, &[system; 2], 2).expect("memory");
     assert_eq!((logs.len(), flushed(&mut entities).len()), (2, 2));
 }
 
@@ -214,7 +214,7 @@ fn systems_change_what_they_borrow() {
     let systems = runs.map(Mutex::new);
     let mut entities = Entities::new();
     for frame in 0..3 {
-        let logs = run_logs(&mut entities, &systems, 2).expect("memory");
+        let logs = run_logs(&StdThreads, &mut entities, &systems, 2).expect("memory");
         let born = flushed(&mut entities);
         assert_eq!(
             format!("{logs:?}"),
@@ -233,7 +233,8 @@ fn refusals() {
     let mut entities = small(3, 2);
     entities.request().expect("a handle");
     for (systems, workers) in [(0, 0), (1, 1), (65_537, 65)] {
-        let refused = run_logs(&mut entities, &many[..systems], workers).expect_err("not flushed");
+        let refused = run_logs(&StdThreads, &mut entities, &many[..systems], workers)
+            .expect_err("not flushed");
         assert_eq!(refused, RunError::NeedsFlush);
     }
     assert_eq!(flushed(&mut entities).len(), 1);
@@ -243,13 +244,14 @@ fn refusals() {
         (65_537, 0, RunError::Workers),
         (65_537, 64, RunError::Systems),
     ] {
-        let refused = run_logs(&mut entities, &many[..systems], workers).expect_err("refused");
+        let refused =
+            run_logs(&StdThreads, &mut entities, &many[..systems], workers).expect_err("refused");
         assert_eq!(refused, wanted);
         assert!(!entities.needs_flush() && entities.len() == 1);
     }
-    let logs = run_logs(&mut entities, &many[..0], 64).expect("nothing takes memory");
+    let logs = run_logs(&StdThreads, &mut entities, &many[..0], 64).expect("nothing takes memory");
     assert!(logs.is_empty() && !entities.needs_flush());
-    let logs = run_logs(&mut Entities::new(), &many[..65_536], 3).expect("memory");
+    let logs = run_logs(&StdThreads, &mut Entities::new(), &many[..65_536], 3).expect("memory");
     assert_eq!(logs.len(), 65_536);
 }
 
@@ -259,7 +261,7 @@ fn a_system_that_stops() {
     for workers in WORKERS {
         let mut entities = Entities::new();
         let systems = numbered(&[Does::Spawn(2), Does::Stop, Does::Spawn(2)]);
-        let lost = run_logs(&mut entities, &systems, workers).expect_err("it stopped");
+        let lost = run_logs(&StdThreads, &mut entities, &systems, workers).expect_err("it stopped");
         assert_eq!(lost, RunError::Lost(Some(OutOfMemory)));
         let born = flushed(&mut entities).len();
         // A worker that stopped leaves the third system to another one.
@@ -270,7 +272,7 @@ fn a_system_that_stops() {
 /// The number with which a run panics.
 fn panic_of(entities: &mut Entities, systems: &[Numbered], workers: usize) -> usize {
     let ran = catch_unwind(AssertUnwindSafe(|| {
-        run_logs(entities, systems, workers).map(drop)
+        run_logs(&StdThreads, entities, systems, workers).map(drop)
     }));
     *ran.expect_err("a panic is handed on")
         .downcast()
@@ -293,7 +295,12 @@ fn each_system_panics() {
                 (2 * panicking + 1..=11).contains(&born),
                 "{workers}: {born}"
             );
-            let logs = run_logs(&mut entities, &numbered(&[Does::Spawn(1); 3]), workers);
+            let logs = run_logs(
+                &StdThreads,
+                &mut entities,
+                &numbered(&[Does::Spawn(1); 3]),
+                workers,
+            );
             let told = told(&mut entities, logs.expect("memory"));
             assert_eq!(told, [(0, true), (1, true), (2, true)]);
         }
@@ -325,10 +332,10 @@ fn a_poisoned_system_runs_again() {
     });
     let (systems, mut entities) = ([system], Entities::new());
     let ran = catch_unwind(AssertUnwindSafe(|| {
-        run_logs(&mut entities, &systems, 1).map(drop)
+        run_logs(&StdThreads, &mut entities, &systems, 1).map(drop)
     }));
     assert!(ran.is_err());
-    let logs = run_logs(&mut entities, &systems, 1).expect("memory");
+    let logs = run_logs(&StdThreads, &mut entities, &systems, 1).expect("memory");
     assert_eq!(logs[0].entries(), [Entry::Command(2)]);
 }
 
@@ -354,13 +361,13 @@ fn joiners() {
     let systems = numbered(&[Does::Spawn(1); 5]);
     for workers in [2, 5] {
         let mut entities = Entities::new();
-        let logs = run_logs_on(&Idle, &mut entities, &systems, workers).expect("memory");
+        let logs = run_logs(&Idle, &mut entities, &systems, workers).expect("memory");
         let wanted: Vec<_> = (0..5).map(|system| (system, true)).collect();
         assert_eq!(told(&mut entities, logs), wanted);
 
         // The logs are gone, and what they reserved is not.
         let ran = catch_unwind(AssertUnwindSafe(|| {
-            run_logs_on(&Panics, &mut entities, &systems, workers).map(drop)
+            run_logs(&Panics, &mut entities, &systems, workers).map(drop)
         }));
         assert_eq!(
             ran.expect_err("a panic").downcast_ref(),
@@ -382,7 +389,7 @@ fn commands_on_entities_that_went() {
         .for_each(|one| all.push(one));
     let despawn =
         |commands: &mut LogCommands<'_, Handle>| all.iter().try_for_each(|one| commands.push(*one));
-    let mut logs = run_logs(&mut entities, &[despawn; 2], 2).expect("memory");
+    let mut logs = run_logs(&StdThreads, &mut entities, &[despawn; 2], 2).expect("memory");
     entities.free(all[1]).expect("alive");
     let mut sync = SyncPoint::begin(&mut entities, &mut logs, &mut vec![]).expect("no spawns");
     let mut went = vec![];

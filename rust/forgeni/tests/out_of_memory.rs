@@ -13,10 +13,10 @@ use forgeni::trace::{Call, CheckError, Checker, FreeReply, Log, Reservation};
 #[cfg(feature = "std")]
 use forgeni::{run_to_sync_point, LogCommands, RunError, StdThreads};
 use forgeni::{
-    tables, AllocError, AnyMap, BeginError, Birth, Change, ComponentId, Entities, Entry,
-    Fault, Follows, FreeError, GoOnError, Handle, HandleMap, History, ImageFault, InsertError,
-    JoinMaps, Limits, OpenWorld, OutOfMemory, Phase, Queues, Report, ReserveError, Reserver,
-    ShareError, SparseMap, State, Stop, Storage, StorageError, SyncError, SyncPoint, Tracked, World,
+    tables, AllocError, AnyMap, BeginError, Birth, Change, ComponentId, Entities, Entry, Fault,
+    Follows, FreeError, GoOnError, Handle, HandleMap, History, ImageFault, InsertError, JoinMaps,
+    Limits, OpenWorld, OutOfMemory, Phase, Queues, Report, ReserveError, Reserver, ShareError,
+    SparseMap, State, Stop, Storage, StorageError, SyncError, SyncPoint, Tracked, World,
     WorldImageFault,
 };
 use refusing::{asked, held, most_held, refusing, Refusal};
@@ -2043,7 +2043,7 @@ mod frames {
     /// What a frame with ample memory makes of that world.
     fn after_a_frame() -> (Vec<Fault>, Vec<Told>) {
         let mut world = two();
-        let report = run_frame(&mut world, &SYSTEMS, 1).expect("memory");
+        let report = run_frame(&StdThreads, &mut world, &SYSTEMS, 1).expect("memory");
         assert_eq!(
             (report.born.len(), report.faults.len(), world.len()),
             (4, 2, 4)
@@ -2067,14 +2067,15 @@ mod frames {
         let (mut before, mut lost, mut unapplied, mut stopped) = (0, 0, 0, 0);
         each_in_turn(|refusal| {
             let mut world = two();
-            let (done, refused) = refusing(refusal, || run_frame(&mut world, &SYSTEMS, 1));
+            let (done, refused) =
+                refusing(refusal, || run_frame(&StdThreads, &mut world, &SYSTEMS, 1));
             let faults = match done {
                 Ok(report) => report.faults.to_vec(),
                 Err(FrameError::Memory) => {
                     before += 1;
                     assert_eq!(all(&world), all(&two()));
                     assert!(!world.needs_flush());
-                    let again = run_frame(&mut world, &SYSTEMS, 1);
+                    let again = run_frame(&StdThreads, &mut world, &SYSTEMS, 1);
                     again.expect("memory").faults
                 }
                 Err(FrameError::Lost(_)) => {
@@ -2366,7 +2367,7 @@ mod frames {
                         refused.store(times, std::sync::atomic::Ordering::Relaxed);
                         ran
                     };
-                    let ran = run_frame(&mut world, &[system], workers);
+                    let ran = run_frame(&StdThreads, &mut world, &[system], workers);
                     let refused = refused.into_inner();
                     match ran {
                         Ok(report) => assert_eq!((report.born.len(), refused), (4, 0)),

@@ -64,7 +64,8 @@ fn a_frame_returns_the_first_error() {
         .collect();
     for workers in WORKERS {
         let mut world = World::new();
-        let lost = run_frame(&mut world, &systems, workers).expect_err("system 7 stops");
+        let lost =
+            run_frame(&StdThreads, &mut world, &systems, workers).expect_err("system 7 stops");
         let FrameError::Lost(error) = lost else {
             panic!("{lost:?}")
         };
@@ -86,7 +87,8 @@ fn logs_return_the_first_error() {
         .collect();
     for workers in WORKERS {
         let mut entities = Entities::new();
-        let lost = run_logs(&mut entities, &systems, workers).expect_err("system 7 stops");
+        let lost =
+            run_logs(&StdThreads, &mut entities, &systems, workers).expect_err("system 7 stops");
         assert_eq!(lost, RunError::Lost(Some(first())));
         let mut born = vec![];
         let unbegun = run_to_sync_point(&StdThreads, &mut entities, &systems, workers, &mut born);
@@ -128,7 +130,8 @@ fn a_refused_spawn_as_an_error() {
     };
     let refused = ReserveError::Space { wanted: 1, left: 0 };
     for workers in WORKERS {
-        let lost = run_logs(&mut small(7, 9), &[spawn; 5], workers).expect_err("seven slots");
+        let lost =
+            run_logs(&StdThreads, &mut small(7, 9), &[spawn; 5], workers).expect_err("seven slots");
         assert_eq!(lost, RunError::Lost(Some(Stop::Full(refused))));
     }
 }
@@ -143,7 +146,8 @@ fn an_error_of_a_device() {
     };
     for workers in WORKERS {
         let mut world = World::new();
-        let lost = run_frame(&mut world, &[read; 3], workers).expect_err("it is closed");
+        let lost =
+            run_frame(&StdThreads, &mut world, &[read; 3], workers).expect_err("it is closed");
         let FrameError::Lost(error) = lost else {
             panic!("{lost:?}")
         };
@@ -167,7 +171,8 @@ impl io::Read for Closed {
 fn out_of_memory_as_an_error() {
     let stops = |_: &mut LogCommands<'_, ()>| -> Result<(), Stop> { Ok(Err(OutOfMemory)?) };
     for workers in WORKERS {
-        let lost = run_logs(&mut Entities::new(), &[stops; 5], workers).expect_err("it stops");
+        let lost = run_logs(&StdThreads, &mut Entities::new(), &[stops; 5], workers)
+            .expect_err("it stops");
         assert_eq!(lost, RunError::Lost(Some(Stop::Memory)));
     }
 }
@@ -178,8 +183,9 @@ fn a_run_without_an_error() {
     let idle = |_: &View<'_>, _: &mut SystemCommands<'_>| -> Result<(), Stop> { Ok(()) };
     let says = |commands: &mut LogCommands<'_, u8>| -> Result<(), Stop> { Ok(commands.push(1)?) };
     for workers in WORKERS {
-        run_frame(&mut World::new(), &[idle; 9], workers).expect("no system stops");
-        let logs = run_logs(&mut Entities::new(), &[says; 9], workers).expect("no system stops");
+        run_frame(&StdThreads, &mut World::new(), &[idle; 9], workers).expect("no system stops");
+        let logs = run_logs(&StdThreads, &mut Entities::new(), &[says; 9], workers)
+            .expect("no system stops");
         assert!(logs.iter().all(|log| log.len() == 1));
     }
 }
@@ -209,12 +215,12 @@ fn the_error_that_is_not_named() {
     let lent: &(dyn LogSystem<u8> + Sync) = &closure;
     let boxed: Box<dyn LogSystem<u8> + Sync> = Box::new(closure);
     let shared: Arc<dyn LogSystem<u8> + Send + Sync> = Arc::new(closure);
-    lost(run_logs(all, &[closure], 1));
-    lost(run_logs(all, &[last], 1));
-    lost(run_logs(all, &[lent], 1));
-    lost(run_logs(all, &[boxed], 1));
-    lost(run_logs(all, &[shared], 1));
-    lost(run_logs(all, &[counts], 1));
+    lost(run_logs(&StdThreads, all, &[closure], 1));
+    lost(run_logs(&StdThreads, all, &[last], 1));
+    lost(run_logs(&StdThreads, all, &[lent], 1));
+    lost(run_logs(&StdThreads, all, &[boxed], 1));
+    lost(run_logs(&StdThreads, all, &[shared], 1));
+    lost(run_logs(&StdThreads, all, &[counts], 1));
     assert_eq!(calls, 1);
 
     let issues = |_: &View<'_>, commands: &mut SystemCommands<'_>| {
@@ -233,7 +239,7 @@ fn the_error_that_is_not_named() {
     };
     macro_rules! all_lost {
         ($($system:expr)*) => {$(
-            let ran = run_frame(&mut world, &[$system], 1);
+            let ran = run_frame(&StdThreads, &mut world, &[$system], 1);
             lost(ran, &mut world);
         )*};
     }
@@ -259,15 +265,15 @@ fn systems_behind_pointers() {
         assert!(matches!(lost, RunError::Lost(Some(_))));
     };
     let mut entities = Entities::new();
-    is_own(run_logs(&mut entities, &[lent], 1).expect_err("it stops"));
-    is_own(run_logs(&mut entities, &[boxed], 1).expect_err("it stops"));
-    is_own(run_logs(&mut entities, &[shared], 1).expect_err("it stops"));
-    is_own(run_logs(&mut entities, &[counts], 1).expect_err("it stops"));
+    is_own(run_logs(&StdThreads, &mut entities, &[lent], 1).expect_err("it stops"));
+    is_own(run_logs(&StdThreads, &mut entities, &[boxed], 1).expect_err("it stops"));
+    is_own(run_logs(&StdThreads, &mut entities, &[shared], 1).expect_err("it stops"));
+    is_own(run_logs(&StdThreads, &mut entities, &[counts], 1).expect_err("it stops"));
     assert_eq!(calls, 1);
 
     let issues =
         |_: &View<'_>, _: &mut SystemCommands<'_>| -> Result<(), Own> { Err("own".into()) };
     let boxed: Box<dyn System<SharedSource, Own> + Sync> = Box::new(issues);
-    let lost = run_frame(&mut World::new(), &[boxed], 1).expect_err("it stops");
+    let lost = run_frame(&StdThreads, &mut World::new(), &[boxed], 1).expect_err("it stops");
     assert_eq!(lost.to_string(), "a system stopped: own");
 }

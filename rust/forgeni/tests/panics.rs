@@ -19,7 +19,9 @@ fn one() -> World {
 #[cfg(feature = "std")]
 mod frames {
     use super::*;
-    use forgeni::{run_frame, Birth, FrameError, OutOfMemory, System, SystemCommands, View};
+    use forgeni::{
+        run_frame, Birth, FrameError, OutOfMemory, StdThreads, System, SystemCommands, View,
+    };
     use std::panic::panic_any;
 
     /// What a system does.
@@ -67,7 +69,9 @@ mod frames {
 
     /// The number with which a frame of these systems panics.
     fn panic_of(world: &mut World, systems: &[Does], workers: usize) -> u32 {
-        let ran = catch_unwind(AssertUnwindSafe(|| run_frame(world, systems, workers)));
+        let ran = catch_unwind(AssertUnwindSafe(|| {
+            run_frame(&StdThreads, world, systems, workers)
+        }));
         let panic = ran.expect_err("a panic is handed on");
         *panic.downcast::<u32>().expect("the number")
     }
@@ -85,7 +89,8 @@ mod frames {
             assert_eq!((world.len(), world.frame()), (1, 0));
             assert_eq!(world.get(handle(0, 1), HP), Some(7));
             assert!(world.needs_flush());
-            let refused = run_frame(&mut world, &systems, workers).expect_err("not flushed");
+            let refused =
+                run_frame(&StdThreads, &mut world, &systems, workers).expect_err("not flushed");
             assert!(matches!(refused, FrameError::NeedsFlush), "{refused}");
             world.flush().expect("memory");
             assert_eq!((world.len(), world.frame()), (4, 1));
@@ -102,7 +107,7 @@ mod frames {
 
             // The next frame is like any other.
             let systems = [Does::Despawn, Does::Spawn(2)];
-            let report = run_frame(&mut world, &systems, workers).expect("memory");
+            let report = run_frame(&StdThreads, &mut world, &systems, workers).expect("memory");
             assert_eq!((report.born.len(), report.faults.len()), (2, 0));
             assert_eq!((world.len(), world.frame()), (2, 2));
         }
@@ -154,7 +159,8 @@ mod frames {
             assert_eq!(world.len(), 2);
 
             let systems = [Does::Spawn(2), Does::Memory];
-            let refused = run_frame(&mut world, &systems, workers).expect_err("memory");
+            let refused =
+                run_frame(&StdThreads, &mut world, &systems, workers).expect_err("memory");
             assert!(
                 matches!(refused, FrameError::Lost(Some(OutOfMemory))),
                 "{refused}"
@@ -169,7 +175,7 @@ mod frames {
     fn a_world_that_unwinds_with_its_frame() {
         let thread = thread::spawn(|| {
             let mut world = one();
-            let _ = run_frame(&mut world, &[Does::SpawnAndPanic(4, 3)], 2);
+            let _ = run_frame(&StdThreads, &mut world, &[Does::SpawnAndPanic(4, 3)], 2);
         });
         let panic = thread.join().expect_err("it panics");
         assert_eq!(panic.downcast_ref(), Some(&3_u32));
@@ -193,7 +199,9 @@ mod frames {
             commands.spawn_with(&[]).expect("a handle");
             panic_any(Loud)
         };
-        let ran = catch_unwind(AssertUnwindSafe(|| run_frame(&mut world, &[system], 1)));
+        let ran = catch_unwind(AssertUnwindSafe(|| {
+            run_frame(&StdThreads, &mut world, &[system], 1)
+        }));
         let loud = ran.expect_err("a panic is handed on");
         assert!(loud.is::<Loud>());
         assert!(catch_unwind(AssertUnwindSafe(|| drop(loud))).is_err());
@@ -201,7 +209,9 @@ mod frames {
         assert_eq!(world.len(), 2);
 
         // With two of them the second one is dropped, and that panics.
-        let ran = catch_unwind(AssertUnwindSafe(|| run_frame(&mut world, &[system; 2], 2)));
+        let ran = catch_unwind(AssertUnwindSafe(|| {
+            run_frame(&StdThreads, &mut world, &[system; 2], 2)
+        }));
         let panic = ran.expect_err("a panic is handed on");
         std::mem::forget(panic);
         world.flush().expect("memory");

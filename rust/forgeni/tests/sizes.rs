@@ -302,11 +302,7 @@ fn births_listed_by_order() {
 }
 
 /// The world and queues of a phase, each of whose systems did this.
-fn issued(
-    world: World,
-    count: usize,
-    issue: impl Fn(&mut Reserver<OpenWorld>),
-) -> (World, Queues) {
+fn issued(world: World, count: usize, issue: impl Fn(&mut Reserver<OpenWorld>)) -> (World, Queues) {
     let (open, mut systems) = world.open(count).expect("memory is ample");
     systems.iter_mut().for_each(issue);
     open.close(systems).expect("all are there")
@@ -465,7 +461,7 @@ fn queues_of_a_phase() {
 #[cfg(feature = "std")]
 mod frames {
     use super::*;
-    use forgeni::{run_frame, FrameError, OutOfMemory, SystemCommands, View};
+    use forgeni::{run_frame, FrameError, OutOfMemory, StdThreads, SystemCommands, View};
 
     fn launch(_: &View<'_>, commands: &mut SystemCommands<'_>) -> Result<(), OutOfMemory> {
         let one = commands.spawn_with(&[(HP, 1)]);
@@ -480,7 +476,8 @@ mod frames {
         let mut systems: Vec<Launch> = vec![launch; 65_536];
         let mut world = World::new();
         for (frame, workers) in [(0, 1), (1, 64)] {
-            let report = run_frame(&mut world, &systems, workers).expect("memory is ample");
+            let report =
+                run_frame(&StdThreads, &mut world, &systems, workers).expect("memory is ample");
             assert_eq!((report.born.len(), report.faults.len()), (65_536, 0));
             let all = world.by_birth().expect("memory is ample");
             let births = all
@@ -490,10 +487,12 @@ mod frames {
             let system = |system| Some(nth_birth(frame as u64, system, 0));
             assert!(births.eq((0..65_536).map(system)));
         }
-        let refused = run_frame(&mut world, &systems, 65).expect_err("too many workers");
+        let refused =
+            run_frame(&StdThreads, &mut world, &systems, 65).expect_err("too many workers");
         assert!(matches!(refused, FrameError::Workers));
         systems.push(launch);
-        let refused = run_frame(&mut world, &systems, 1).expect_err("too many systems");
+        let refused =
+            run_frame(&StdThreads, &mut world, &systems, 1).expect_err("too many systems");
         assert!(matches!(refused, FrameError::Systems));
         assert_eq!(world.len(), 2 * 65_536);
     }
@@ -517,10 +516,10 @@ mod frames {
                 .try_for_each(|one| commands.insert_with(one, &[(HP, 1)]))
         };
         let mut world = World::new();
-        let report = run_frame(&mut world, &[spawn], 1).expect("memory is ample");
+        let report = run_frame(&StdThreads, &mut world, &[spawn], 1).expect("memory is ample");
         let born = report.born;
         assert_eq!(born.len(), MANY as usize);
-        run_frame(&mut world, &[age, age], 2).expect("memory is ample");
+        run_frame(&StdThreads, &mut world, &[age, age], 2).expect("memory is ample");
         assert!(born.iter().all(|one| world.get(*one, HP) == Some(1)));
     }
 }

@@ -65,7 +65,7 @@ fn of_a_world() {
     let systems: [Box<dyn System + Send + Sync>; 3] =
         [Box::new(All), Box::new(spawn), Box::new(counts)];
     for frame in 1..3 {
-        run_frame(&mut world, &systems, 2).expect("memory");
+        run_frame(&StdThreads, &mut world, &systems, 2).expect("memory");
         assert_eq!(world.len(), 11 * frame);
     }
     drop(systems);
@@ -87,7 +87,7 @@ fn of_a_world_in_blocks() {
 fn of_logs() {
     let mut entities = Entities::new();
     let systems: [Arc<dyn LogSystem<usize> + Send + Sync>; 2] = [Arc::new(All), Arc::new(burst)];
-    let logs = run_logs(&mut entities, &systems, 2).expect("memory");
+    let logs = run_logs(&StdThreads, &mut entities, &systems, 2).expect("memory");
     assert!(logs.iter().map(Log::len).eq([18, 2]));
 }
 
@@ -138,7 +138,7 @@ fn systems_see_what_is_alive() {
     entities.try_set_row(all[0], 7).expect("alive");
     entities.try_set_row(all[2], 8).expect("alive");
     entities.free(all[2]).expect("alive");
-    let logs = run_logs(&mut entities, &[Sees(all)], 1).expect("memory");
+    let logs = run_logs(&StdThreads, &mut entities, &[Sees(all)], 1).expect("memory");
     entities.flush(&mut vec![]).expect("memory");
     let (phase, mut reservers) = entities.share_in_blocks(&[1]).expect("memory");
     let ran = run_in_blocks(&StdThreads, &phase, &mut reservers, &[Sees(all)], 1);

@@ -376,7 +376,7 @@ fn values_of_traces() {
 #[cfg(feature = "std")]
 mod frames {
     use super::*;
-    use forgeni::{run_frame, FrameError, Reservers, SystemCommands, View};
+    use forgeni::{run_frame, FrameError, Reservers, StdThreads, SystemCommands, View};
 
     #[test]
     fn errors_of_a_frame() {
@@ -406,7 +406,7 @@ mod frames {
             ]);
             Ok::<(), OutOfMemory>(())
         };
-        run_frame(&mut world, &[system], 1).expect("memory");
+        run_frame(&StdThreads, &mut world, &[system], 1).expect("memory");
     }
 
     #[test]

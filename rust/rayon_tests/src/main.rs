@@ -2,7 +2,7 @@
 //! `rayon::scope` and by a loop: medians in microseconds. And how long a walk over a map takes on
 //! one thread and on four.
 
-use forgeni::{run_frame, run_frame_on, Handle, HandleMap, OutOfMemory, Rayon, SystemCommands};
+use forgeni::{run_frame, Handle, HandleMap, OutOfMemory, Rayon, StdThreads, SystemCommands};
 use forgeni::{View, World};
 use rayon::iter::{IntoParallelRefMutIterator, ParallelIterator};
 use rayon::ThreadPoolBuilder;
@@ -44,13 +44,13 @@ fn main() {
     let mut times: [Vec<Duration>; 4] = Default::default();
     for _ in 0..ROUNDS {
         times[0].push(took(|| {
-            drop(run_frame_on(&Rayon, &mut world, &systems, 4).expect("memory"));
+            drop(run_frame(&Rayon, &mut world, &systems, 4).expect("memory"));
         }));
         times[1].push(took(|| {
             rayon::scope(|scope| (0..8).for_each(|_| scope.spawn(|_| black_box(()))));
         }));
         times[2].push(took(|| {
-            drop(run_frame(&mut world, &systems, 1).expect("memory"))
+            drop(run_frame(&StdThreads, &mut world, &systems, 1).expect("memory"))
         }));
         times[3].push(took(|| (0..8).for_each(|_| black_box(()))));
     }

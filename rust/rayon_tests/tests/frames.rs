@@ -1,6 +1,6 @@
 //! Frames on rayon's threads: the same as on threads of std, for any number of workers and threads.
 
-use forgeni::{run_frame, run_frame_on, run_logs_on, ComponentId, Entities, Entry, Join};
+use forgeni::{run_frame, run_logs, ComponentId, Entities, Entry, Join, StdThreads};
 use forgeni::{LogCommands, OutOfMemory, Rayon, SystemCommands, View, World};
 use rayon::{ThreadPool, ThreadPoolBuilder};
 use std::sync::Barrier;
@@ -43,12 +43,12 @@ fn story(frame: impl Fn(&mut World)) -> Vec<(String, Option<i64>)> {
 #[test]
 fn the_threads_make_no_difference() {
     let systems: Vec<_> = (0..16).map(system).collect();
-    let wanted = story(|world| drop(run_frame(world, &systems, 1).expect("memory")));
+    let wanted = story(|world| drop(run_frame(&StdThreads, world, &systems, 1).expect("memory")));
     assert!(wanted.len() > 1_000);
     for workers in [1, 2, 3, 4, 8, 64] {
         let on = |join: &(dyn Join + Sync)| {
             let told = story(|world| {
-                drop(run_frame_on(&join, world, &systems, workers).expect("memory"));
+                drop(run_frame(&join, world, &systems, workers).expect("memory"));
             });
             assert_eq!(told, wanted, "{workers} workers");
         };
@@ -69,7 +69,7 @@ fn systems_overlap() {
     };
     let mut world = World::new();
     for _ in 0..100 {
-        run_frame_on(&pool(4), &mut world, &[system; 8], 4).expect("memory");
+        run_frame(&pool(4), &mut world, &[system; 8], 4).expect("memory");
     }
 }
 
@@ -81,7 +81,7 @@ fn rayon_takes_the_pool_of_the_caller() {
         assert!(rayon::current_thread_index().is_some());
         Ok::<(), OutOfMemory>(())
     };
-    pool(3).install(|| run_frame_on(&Rayon, &mut World::new(), &[seen; 9], 3).expect("memory"));
+    pool(3).install(|| run_frame(&Rayon, &mut World::new(), &[seen; 9], 3).expect("memory"));
 }
 
 /// A system that panics in a thread of rayon: the panic is handed on, and the world is as it was.
@@ -94,7 +94,7 @@ fn a_system_panics() {
     };
     let mut world = World::new();
     let ran = std::panic::AssertUnwindSafe(|| {
-        drop(run_frame_on(&pool(2), &mut world, &[panics; 4], 4));
+        drop(run_frame(&pool(2), &mut world, &[panics; 4], 4));
     });
     let panic = std::panic::catch_unwind(ran).expect_err("a panic");
     assert_eq!(panic.downcast_ref(), Some(&"the system"));
@@ -110,10 +110,10 @@ fn systems_fill_logs() {
     let systems: Vec<_> = (0..16).map(system).collect();
     for workers in [1, 2, 4, 64] {
         let mut entities = Entities::new();
-        let logs = run_logs_on(&Rayon, &mut entities, &systems, workers).expect("memory");
+        let logs = run_logs(&Rayon, &mut entities, &systems, workers).expect("memory");
         let all: Vec<_> = logs.iter().flat_map(|log| log.entries().to_vec()).collect();
         assert_eq!(all, (0..16).map(Entry::Command).collect::<Vec<_>>());
-        let stopped = run_logs_on(&pool(2), &mut entities, &systems[..0], workers);
+        let stopped = run_logs(&pool(2), &mut entities, &systems[..0], workers);
         assert!(stopped.expect("nothing takes memory").is_empty());
     }
 }

@@ -21,7 +21,7 @@ use std::alloc::Global;
 /// `From<ReserveError>`, `?` converts what the calls of `commands` return.
 ///
 /// ```
-/// use forgeni::{run_frame, Handle, OutOfMemory, System, SystemCommands, View, World};
+/// use forgeni::{run_frame, Handle, OutOfMemory, StdThreads, System, SystemCommands, View, World};
 ///
 /// struct Despawn(Handle);
 ///
@@ -33,7 +33,7 @@ use std::alloc::Global;
 ///
 /// let mut world = World::new();
 /// let cart = world.spawn(&[])?;
-/// run_frame(&mut world, &[Despawn(cart)], 1)?;
+/// run_frame(&StdThreads, &mut world, &[Despawn(cart)], 1)?;
 /// assert!(world.is_empty());
 /// # Ok::<(), Box<dyn std::error::Error>>(())
 /// ```
@@ -49,7 +49,7 @@ pub trait System<S: Source, E> {
     /// Runs it once.
     ///
     /// ```
-    /// use forgeni::{run_frame, ComponentId, OutOfMemory, SystemCommands, View, World};
+    /// use forgeni::{run_frame, ComponentId, OutOfMemory, StdThreads, SystemCommands, View, World};
     ///
     /// const AGE: ComponentId = ComponentId(0);
     ///
@@ -63,7 +63,7 @@ pub trait System<S: Source, E> {
     ///
     /// let mut world = World::new();
     /// let oak = world.spawn(&[(AGE, 80)])?;
-    /// run_frame(&mut world, &[grow], 1)?;
+    /// run_frame(&StdThreads, &mut world, &[grow], 1)?;
     /// assert_eq!(world.get(oak, AGE), Some(81));
     /// # Ok::<(), Box<dyn std::error::Error>>(())
     /// ```

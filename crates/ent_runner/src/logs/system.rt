@@ -15,7 +15,7 @@ use std::alloc::Global;
 /// One value may run on any worker.
 ///
 /// ```
-/// use forgeni::{run_logs, Entities, Entry, LogCommands, LogSystem, OutOfMemory};
+/// use forgeni::{run_logs, Entities, Entry, LogCommands, LogSystem, OutOfMemory, StdThreads};
 ///
 /// struct Says(&'static str);
 ///
@@ -25,7 +25,7 @@ use std::alloc::Global;
 ///     }
 /// }
 ///
-/// let logs = run_logs(&mut Entities::new(), &[Says("one"), Says("two")], 2)?;
+/// let logs = run_logs(&StdThreads, &mut Entities::new(), &[Says("one"), Says("two")], 2)?;
 /// assert_eq!(logs[1].entries(), [Entry::Command("two")]);
 /// # Ok::<(), Box<dyn std::error::Error>>(())
 /// ```
@@ -40,7 +40,7 @@ pub trait LogSystem<C, S: Source, E> {
     /// Runs it once.
     ///
     /// ```
-    /// use forgeni::{run_logs, Entities, Handle, LogCommands, OutOfMemory};
+    /// use forgeni::{run_logs, Entities, Handle, LogCommands, OutOfMemory, StdThreads};
     ///
     /// fn launch(commands: &mut LogCommands<'_, (Handle, String)>) -> Result<(), OutOfMemory> {
     ///     match commands.spawn() {
@@ -49,7 +49,7 @@ pub trait LogSystem<C, S: Source, E> {
     ///     }
     /// }
     ///
-    /// let logs = run_logs(&mut Entities::new(), &[launch; 3], 2)?;
+    /// let logs = run_logs(&StdThreads, &mut Entities::new(), &[launch; 3], 2)?;
     /// assert!(logs.iter().all(|log| log.len() == 2));
     /// # Ok::<(), Box<dyn std::error::Error>>(())
     /// ```

@@ -1,7 +1,7 @@
 //! Frames of systems that compute, on some workers, beside threads of plain Rust.
 
 use crate::{counted, median, timed, Places, Run};
-use forgeni::{run_frame, OutOfMemory, System, SystemCommands, View, World};
+use forgeni::{run_frame, OutOfMemory, StdThreads, System, SystemCommands, View, World};
 use std::hint::black_box;
 use std::sync::atomic::{AtomicUsize, Ordering};
 use std::thread;
@@ -57,7 +57,7 @@ fn here(workers: usize, steps: u64) -> Run {
     let systems: Vec<_> = (0..SYSTEMS).map(|_| Computes(steps)).collect();
     let mut world = World::new();
     timed(|| {
-        let report = run_frame(&mut world, &systems, workers).expect("memory");
+        let report = run_frame(&StdThreads, &mut world, &systems, workers).expect("memory");
         report.born.len() as u64
     })
 }

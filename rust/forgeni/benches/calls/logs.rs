@@ -289,7 +289,7 @@ fn issue_by_systems<const PLACE: usize>() -> Run {
     let (mut game, all) = Game::new();
     let systems = systems(&all);
     timed(|| {
-        black_box(run_logs(&mut game.entities, &systems, 1).expect("memory"));
+        black_box(run_logs(&StdThreads, &mut game.entities, &systems, 1).expect("memory"));
         0
     })
 }

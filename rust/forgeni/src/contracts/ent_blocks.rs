@@ -3,7 +3,7 @@
 //! The definitions of crate `ent_blocks`, in the order in which one reads them:
 //! [`blocks`], [`drawing`], [`ending`].
 
-#[doc(alias("Block", "Reserver", "after_blocks", "after_use", "blocks_from", "blocks_of", "dealt", "handles_of", "lesser", "portion_of", "portions_of", "rest_of", "used_of", "used_up"))]
+#[doc(alias("Block", "Blocks", "Reserver", "after_blocks", "after_refusal", "after_use", "blocks_from", "dealt", "handles_of", "lesser", "portion_of", "portions_of", "rest_of", "used_of", "used_up"))]
 /// Handles in blocks: the front of the pool is dealt to callers, and each gets the handles of its own block, in the pool\'s order, whatever the others do.
 ///
 /// <pre>
@@ -85,6 +85,15 @@
 /// </pre>
 ///
 /// <pre>
+/// -- the allocator as it was when the phase was opened, the rows that are kept with its living
+/// -- handles, and the blocks as they were dealt
+/// pub record <b id="Blocks">Blocks</b> : Type 0 where
+///   pub start : <a href="../../ent_alloc/sequential/index.html#Allocator">Allocator</a>
+///   pub rows : <a href="../../logic/index.html#FinMap.FinMap">maps.FinMap</a> <a href="../../ent_handle/handle/index.html#handle_cmp">handle_cmp</a> <a href="../../logic/index.html#ℕ">ℕ</a>
+///   pub blocks : <a href="../../logic/index.html#List">List</a> <a href="#Block">Block</a>
+/// </pre>
+///
+/// <pre>
 /// -- the block of a reserver, and how many handles the largest of its refused requests was for
 /// pub record <b id="Reserver">Reserver</b> : Type 0 where
 ///   pub block : <a href="#Block">Block</a>
@@ -92,24 +101,40 @@
 /// </pre>
 ///
 /// <pre>
+/// -- after a request for that many, which the block didn't have
+/// abbrev pub <b id="after_refusal">after_refusal</b> : <a href="#Reserver">Reserver</a> → <a href="../../logic/index.html#ℕ">ℕ</a> → <a href="#Reserver">Reserver</a>
+/// <a href="#after_refusal">after_refusal</a> r n = record r { refused = <a href="../../logic/index.html#max">max</a> r.refused n }
+/// </pre>
+///
+/// <pre>
 /// -- nothing is left of its block
 /// abbrev pub <b id="used_up">used_up</b> : <a href="#Reserver">Reserver</a> → <a href="#Reserver">Reserver</a>
 /// <a href="#used_up">used_up</a> r = record r { block = record r.block { used = r.block.size } }
 /// </pre>
-///
-/// <pre>
-/// abbrev pub <b id="blocks_of">blocks_of</b> : <a href="../../logic/index.html#List">List</a> <a href="#Reserver">Reserver</a> → <a href="../../logic/index.html#List">List</a> <a href="#Block">Block</a>
-/// <a href="#blocks_of">blocks_of</a> reservers = <a href="../../logic/index.html#map">map</a> (λ (r : <a href="#Reserver">Reserver</a>). r.block) reservers
-/// </pre>
 pub mod blocks {}
 
-#[doc(alias("left_of"))]
+#[doc(alias("IsDrawn", "left_of"))]
 /// What a request for handles of a block returns, and what it leaves.
 ///
 /// <pre>
 /// -- how many handles of a block are left
 /// abbrev pub <b id="left_of">left_of</b> : <a href="../blocks/index.html#Block">Block</a> → <a href="../../logic/index.html#ℕ">ℕ</a>
 /// <a href="#left_of">left_of</a> b = b.size - b.used
+/// </pre>
+///
+/// <pre>
+/// -- The reply to a request for n handles of a block: the next ones, listed as every reply lists them.
+/// -- If fewer are left, there are none, and the reserver remembers how many were requested.
+/// pub record <b id="IsDrawn">IsDrawn</b> (phase : <a href="../blocks/index.html#Blocks">Blocks</a>) (before after : <a href="../blocks/index.html#Reserver">Reserver</a>) (n : <a href="../../logic/index.html#ℕ">ℕ</a>)
+///     (reply : <a href="../../logic/index.html#Result">Result</a> (<a href="../../logic/index.html#List">List</a> <a href="../../ent_handle/handle/index.html#Handle">Handle</a>) Refused) : Type 0 where
+///   pub given : <a href="../../logic/index.html#IfOk">IfOk</a> reply (λ handles. handles
+///       ≡ <a href="../../ent_alloc/sequential/index.html#listed">listed</a> phase.start.made (<a href="../../logic/index.html#take">take</a> n (<a href="../blocks/index.html#rest_of">rest_of</a> phase.start.pool before.block)))
+///   pub number : <a href="../../logic/index.html#IfOk">IfOk</a> reply (λ handles. <a href="../../logic/index.html#length">length</a> handles ≡ n)
+///   pub used : <a href="../../logic/index.html#OnOk">OnOk</a> reply (after ≡ record before { block = <a href="../blocks/index.html#after_use">after_use</a> before.block n })
+///   pub refused : <a href="../../logic/index.html#IfErr">IfErr</a> reply (λ why.
+///       (why ≡ Space n (<a href="#left_of">left_of</a> before.block)) × (<a href="#left_of">left_of</a> before.block &lt; n))
+///   pub within : <a href="../../logic/index.html#OnErr">OnErr</a> reply (before.block.used ≤ before.block.size)
+///   pub remembers : <a href="../../logic/index.html#OnErr">OnErr</a> reply (after ≡ <a href="../blocks/index.html#after_refusal">after_refusal</a> before n)
 /// </pre>
 pub mod drawing {}
 

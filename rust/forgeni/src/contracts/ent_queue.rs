@@ -1,7 +1,7 @@
 // Made of crates/ent_queue/specs by .ci/contracts.py. It isn't edited by hand.
 
 //! The definitions of crate `ent_queue`, in the order in which one reads them:
-//! [`command`], [`reserving`], [`drawing`], [`issuing`], [`logging`], [`commands`].
+//! [`command`], [`reserving`], [`issuing`], [`logging`], [`commands`].
 
 #[doc(alias("Command", "Despawn", "Insert", "Refused", "Remove", "Spawn", "SpawnMany"))]
 /// Commands: what a system asks of the world. A queue of them represents their list.
@@ -111,48 +111,6 @@ pub mod command {}
 /// <a href="#refused_by">refused_by</a> wanted fault.Memory = []
 /// </pre>
 pub mod reserving {}
-
-#[doc(alias("AreDrawnBy", "IsDrawnBy", "after_commands", "used_by"))]
-/// What the commands of a queue have drawn from the block of the system that filled it.
-///
-/// <pre>
-/// -- how many handles of the block a command has used
-/// abbrev pub <b id="used_by">used_by</b> : <a href="../command/index.html#Command">Command</a> → <a href="../../logic/index.html#ℕ">ℕ</a>
-/// <a href="#used_by">used_by</a> (<a href="../command/index.html#Spawn">Spawn</a> h items) = 1
-/// <a href="#used_by">used_by</a> (<a href="../command/index.html#SpawnMany">SpawnMany</a> hs items) = <a href="../../logic/index.html#length">length</a> hs
-/// <a href="#used_by">used_by</a> (<a href="../command/index.html#Insert">Insert</a> h items) = 0
-/// <a href="#used_by">used_by</a> (<a href="../command/index.html#Remove">Remove</a> h id) = 0
-/// <a href="#used_by">used_by</a> (<a href="../command/index.html#Despawn">Despawn</a> h) = 0
-/// <a href="#used_by">used_by</a> (<a href="../command/index.html#Refused">Refused</a> wanted why) = 0
-/// </pre>
-///
-/// <pre>
-/// -- Its handles are the next ones of the block. A refusal says how many were left of it, and that is
-/// -- fewer than were requested.
-/// abbrev pub <b id="IsDrawnBy">IsDrawnBy</b> : <a href="../../ent_alloc/sequential/index.html#Allocator">Allocator</a> → <a href="../../ent_blocks/blocks/index.html#Block">Block</a> → <a href="../command/index.html#Command">Command</a> → Type 0
-/// <a href="#IsDrawnBy">IsDrawnBy</a> s b (<a href="../command/index.html#Spawn">Spawn</a> h items) = h ∷ [] ≡ <a href="../../logic/index.html#take">take</a> 1 (<a href="../../ent_blocks/blocks/index.html#rest_of">rest_of</a> s.pool b)
-/// <a href="#IsDrawnBy">IsDrawnBy</a> s b (<a href="../command/index.html#SpawnMany">SpawnMany</a> hs items) = hs ≡ <a href="../../ent_alloc/sequential/index.html#listed">listed</a> s.made (<a href="../../logic/index.html#take">take</a> (<a href="../../logic/index.html#length">length</a> hs) (<a href="../../ent_blocks/blocks/index.html#rest_of">rest_of</a> s.pool b))
-/// <a href="#IsDrawnBy">IsDrawnBy</a> s b (<a href="../command/index.html#Insert">Insert</a> h items) = Unit {0}
-/// <a href="#IsDrawnBy">IsDrawnBy</a> s b (<a href="../command/index.html#Remove">Remove</a> h id) = Unit {0}
-/// <a href="#IsDrawnBy">IsDrawnBy</a> s b (<a href="../command/index.html#Despawn">Despawn</a> h) = Unit {0}
-/// <a href="#IsDrawnBy">IsDrawnBy</a> s b (<a href="../command/index.html#Refused">Refused</a> wanted (Space same left)) =
-///     (same ≡ wanted) × (left ≡ <a href="../../ent_blocks/drawing/index.html#left_of">left_of</a> b) × (left &lt; wanted)
-/// <a href="#IsDrawnBy">IsDrawnBy</a> s b (<a href="../command/index.html#Refused">Refused</a> wanted (Quota left)) = ⊥
-/// </pre>
-///
-/// <pre>
-/// -- each command at its turn
-/// abbrev pub <b id="AreDrawnBy">AreDrawnBy</b> : <a href="../../ent_alloc/sequential/index.html#Allocator">Allocator</a> → <a href="../../ent_blocks/blocks/index.html#Block">Block</a> → <a href="../../logic/index.html#List">List</a> <a href="../command/index.html#Command">Command</a> → Type 0
-/// <a href="#AreDrawnBy">AreDrawnBy</a> s b [] = Unit {0}
-/// <a href="#AreDrawnBy">AreDrawnBy</a> s b (c ∷ cs) = <a href="#IsDrawnBy">IsDrawnBy</a> s b c × <a href="#AreDrawnBy">AreDrawnBy</a> s (<a href="../../ent_blocks/blocks/index.html#after_use">after_use</a> b (<a href="#used_by">used_by</a> c)) cs
-/// </pre>
-///
-/// <pre>
-/// -- the block after these commands
-/// abbrev pub <b id="after_commands">after_commands</b> : <a href="../../ent_blocks/blocks/index.html#Block">Block</a> → <a href="../../logic/index.html#List">List</a> <a href="../command/index.html#Command">Command</a> → <a href="../../ent_blocks/blocks/index.html#Block">Block</a>
-/// <a href="#after_commands">after_commands</a> b commands = <a href="../../ent_blocks/blocks/index.html#after_use">after_use</a> b (sum_by <a href="#used_by">used_by</a> commands)
-/// </pre>
-pub mod drawing {}
 
 #[doc(alias("Issues"))]
 /// What was added to a queue, and the requests that it represents.

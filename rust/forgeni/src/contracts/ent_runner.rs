@@ -1,7 +1,7 @@
 // Made of crates/ent_runner/specs by .ci/contracts.py. It isn't edited by hand.
 
 //! The definitions of crate `ent_runner`, in the order in which one reads them:
-//! [`runs`], [`frame`], [`logs`], [`blocks_filling`], [`blocks`], [`blocks_queues`], [`blocks_refusing`], [`run_errors`].
+//! [`runs`], [`filling`], [`frame`], [`logs`], [`blocks`], [`blocks_refusing`], [`run_errors`].
 
 #[doc(alias("AreRun", "HasReturned", "StopShort", "first_some"))]
 /// Which systems workers have run, and how far the systems came if they were broken off.
@@ -68,14 +68,23 @@
 /// </pre>
 pub mod runs {}
 
-#[doc(alias("SystemMayIssue", "SystemMayLeave", "queue_at"))]
-/// A frame: systems run on workers over one shared world, each with a queue of its own, and the sync point applies the queues in the order of the systems.
+#[doc(alias("IsFilled"))]
+/// What one system of a run has filled, with a reserver that was lent to it.
 ///
 /// <pre>
-/// -- the queue of a system
-/// abbrev pub <b id="queue_at">queue_at</b> : <a href="../../logic/index.html#List">List</a> (<a href="../../logic/index.html#List">List</a> <a href="../../ent_queue/command/index.html#Command">Command</a>) → <a href="../../logic/index.html#ℕ">ℕ</a> → <a href="../../logic/index.html#List">List</a> <a href="../../ent_queue/command/index.html#Command">Command</a>
-/// <a href="#queue_at">queue_at</a> queues system = slice_index_or queues system []
+/// module _ {O : Type 0} (Adds : O → <a href="../../logic/index.html#List">List</a> <a href="../../ent_alloc/serving/index.html#Request">Request</a> → O → Type 0) (empty : O) where
+///   -- The output was filled from nothing on. The reserver has made exactly the requests that the
+///   -- output represents, and was `before` first and is `after` now.
+///   pub record <b id="IsFilled">IsFilled</b> {R : Type 0} (may : <a href="../../ent_alloc/serving/index.html#Replying">Replying</a> R) (before : R) (output : O) (after : R)
+///       : Type 0 where
+///     pub requests : <a href="../../logic/index.html#List">List</a> <a href="../../ent_alloc/serving/index.html#Request">Request</a>
+///     pub adds : Adds empty requests output
+///     pub served : <a href="../../ent_alloc/serving/index.html#AreServed">AreServed</a> may before requests after
 /// </pre>
+pub mod filling {}
+
+#[doc(alias("SystemMayIssue", "SystemMayLeave"))]
+/// A frame: systems run on workers over one shared world, each with a queue of its own, and the sync point applies the queues in the order of the systems.
 ///
 /// <pre>
 /// -- the system of this number may issue the commands
@@ -94,14 +103,11 @@ pub mod runs {}
 /// </pre>
 pub mod frame {}
 
-#[doc(alias("SystemMayLeave", "SystemMayLog", "log_at"))]
+#[doc(alias("SystemMayLeave", "SystemMayLog"))]
 /// Systems that fill logs: they run on workers, each with a log of its own, over one shared allocator.
 ///
 /// <pre>
 /// module _ {C : Type 0} where
-///   -- the log of a system
-///   abbrev pub <b id="log_at">log_at</b> : <a href="../../logic/index.html#List">List</a> (<a href="../../logic/index.html#List">List</a> (Entry C)) → <a href="../../logic/index.html#ℕ">ℕ</a> → <a href="../../logic/index.html#List">List</a> (Entry C)
-///   <a href="#log_at">log_at</a> logs system = slice_index_or logs system []
 /// </pre>
 ///
 /// <pre>
@@ -121,136 +127,48 @@ pub mod frame {}
 /// </pre>
 pub mod logs {}
 
-#[doc(alias("Draws", "FitBlock", "FitsBlock"))]
-/// What a log has of the block of the system that filled it.
+#[doc(alias("HaveFilled", "IsBrokenOff"))]
+/// Systems that fill outputs, each with handles of a block of its own. What comes of it depends on the blocks and on the systems alone: there is no history. Workers appear only in how far the systems came if they were broken off.
 ///
 /// <pre>
-/// module _ {C : Type 0} where
-///   -- A spawn is refused if and only if the block is used up. The refusal says that none is left.
-///   abbrev pub <b id="FitsBlock">FitsBlock</b> : <a href="../../ent_blocks/blocks/index.html#Block">Block</a> → Entry C → Type 0
-///   <a href="#FitsBlock">FitsBlock</a> b (Spawn h) = b.used &lt; b.size
-///   <a href="#FitsBlock">FitsBlock</a> b (Refused why) = (why ≡ Space 1 0) × (b.used ≡ b.size)
-///   <a href="#FitsBlock">FitsBlock</a> b (Command command) = Unit {0}
-/// </pre>
-///
-/// <pre>
-///   -- each entry at its turn
-///   abbrev pub <b id="FitBlock">FitBlock</b> : <a href="../../ent_blocks/blocks/index.html#Block">Block</a> → <a href="../../logic/index.html#List">List</a> (Entry C) → Type 0
-///   <a href="#FitBlock">FitBlock</a> b [] = Unit {0}
-///   <a href="#FitBlock">FitBlock</a> b (entry ∷ entries) =
-///       <a href="#FitsBlock">FitsBlock</a> b entry × <a href="#FitBlock">FitBlock</a> (<a href="../../ent_blocks/blocks/index.html#after_use">after_use</a> b (<a href="../../logic/index.html#length">length</a> (<a href="../../ent_log/logs/index.html#spawned_by">spawned_by</a> entry))) entries
-/// </pre>
-///
-/// <pre>
-///   -- The spawns among these entries returned the next handles of the block, in the pool's order, and
-///   -- these alone are used. The others were refused, since the block was used up.
-///   pub record <b id="Draws">Draws</b> (pool : <a href="../../logic/index.html#List">List</a> <a href="../../ent_handle/handle/index.html#Handle">Handle</a>) (before : <a href="../../ent_blocks/blocks/index.html#Block">Block</a>) (entries : <a href="../../logic/index.html#List">List</a> (Entry C)) (after : <a href="../../ent_blocks/blocks/index.html#Block">Block</a>)
-///       : Type 0 where
-///     pub given : <a href="../../ent_log/logs/index.html#spawned_in">spawned_in</a> entries ≡ <a href="../../logic/index.html#take">take</a> (<a href="../../logic/index.html#length">length</a> (<a href="../../ent_log/logs/index.html#spawned_in">spawned_in</a> entries)) (<a href="../../ent_blocks/blocks/index.html#rest_of">rest_of</a> pool before)
-///     pub used : after ≡ <a href="../../ent_blocks/blocks/index.html#after_use">after_use</a> before (<a href="../../logic/index.html#length">length</a> (<a href="../../ent_log/logs/index.html#spawned_in">spawned_in</a> entries))
-///     pub fit : <a href="#FitBlock">FitBlock</a> before entries
-/// </pre>
-pub mod blocks_filling {}
-
-#[doc(alias("HaveFilled", "IsBrokenOff", "blocks_after"))]
-/// Systems that fill logs, each from a block of its own. What comes of it depends on the blocks and on the systems alone: there is no history. Workers appear only in how far the systems came if they were broken off.
-///
-/// <pre>
-/// module _ {C : Type 0} where
-///   -- the blocks after systems have filled these logs: of each, one handle more is used for each
-///   -- spawn
-///   abbrev pub <b id="blocks_after">blocks_after</b> : <a href="../../logic/index.html#List">List</a> <a href="../../ent_blocks/blocks/index.html#Block">Block</a> → <a href="../../logic/index.html#List">List</a> (<a href="../../logic/index.html#List">List</a> (Entry C)) → <a href="../../logic/index.html#List">List</a> <a href="../../ent_blocks/blocks/index.html#Block">Block</a>
-///   <a href="#blocks_after">blocks_after</a> [] logs = []
-///   <a href="#blocks_after">blocks_after</a> (b ∷ blocks) [] = b ∷ blocks
-///   <a href="#blocks_after">blocks_after</a> (b ∷ blocks) (log ∷ logs) =
-///       <a href="../../ent_blocks/blocks/index.html#after_use">after_use</a> b (<a href="../../logic/index.html#length">length</a> (<a href="../../ent_log/logs/index.html#spawned_in">spawned_in</a> log)) ∷ <a href="#blocks_after">blocks_after</a> blocks logs
-/// </pre>
-///
-/// <pre>
-///   -- All systems have run, and each has a log that it may fill so. The spawns of each returned the
-///   -- next handles of its block.
-///   pub record <b id="HaveFilled">HaveFilled</b> {S : Type 0} (may : S → <a href="../../logic/index.html#List">List</a> (Entry C) → Type 0) (systems : <a href="../../logic/index.html#List">List</a> S)
-///       (pool : <a href="../../logic/index.html#List">List</a> <a href="../../ent_handle/handle/index.html#Handle">Handle</a>) (before : <a href="../../logic/index.html#List">List</a> <a href="../../ent_blocks/blocks/index.html#Block">Block</a>) (logs : <a href="../../logic/index.html#List">List</a> (<a href="../../logic/index.html#List">List</a> (Entry C))) (after : <a href="../../logic/index.html#List">List</a> <a href="../../ent_blocks/blocks/index.html#Block">Block</a>)
-///       : Type 0 where
-///     pub each_log : <a href="../../logic/index.html#length">length</a> logs ≡ <a href="../../logic/index.html#length">length</a> systems
-///     pub each_system : (n : <a href="../../logic/index.html#ℕ">ℕ</a>) (system : S) → <a href="../../logic/index.html#slice_get">slice_get</a> systems n ≡ <a href="../../logic/index.html#Some">Some</a> system
-///         → may system (<a href="../logs/index.html#log_at">log_at</a> logs n)
-///     pub draws : (n : <a href="../../logic/index.html#ℕ">ℕ</a>) (block : <a href="../../ent_blocks/blocks/index.html#Block">Block</a>) → <a href="../../logic/index.html#slice_get">slice_get</a> before n ≡ <a href="../../logic/index.html#Some">Some</a> block
-///         → <a href="../blocks_filling/index.html#Draws">Draws</a> pool block (<a href="../logs/index.html#log_at">log_at</a> logs n) (<a href="../../ent_blocks/blocks/index.html#after_use">after_use</a> block (<a href="../../logic/index.html#length">length</a> (<a href="../../ent_log/logs/index.html#spawned_in">spawned_in</a> (<a href="../logs/index.html#log_at">log_at</a> logs n))))
-///     pub used : after ≡ <a href="#blocks_after">blocks_after</a> before logs
+/// module _ {O : Type 0} (Adds : O → <a href="../../logic/index.html#List">List</a> <a href="../../ent_alloc/serving/index.html#Request">Request</a> → O → Type 0) (empty : O) (phase : <a href="../../ent_blocks/blocks/index.html#Blocks">Blocks</a>)
+///     (may : <a href="../../logic/index.html#ℕ">ℕ</a> → O → Type 0) where
+///   -- All systems have run, and each has an output that it may fill so. The block at the system's
+///   -- place served the requests that the output represents, one after the other, and no others: so
+///   -- they got its next handles, or were refused since fewer were left.
+///   pub record <b id="HaveFilled">HaveFilled</b> (systems : <a href="../../logic/index.html#ℕ">ℕ</a>) (before : <a href="../../logic/index.html#List">List</a> <a href="../../ent_blocks/blocks/index.html#Reserver">Reserver</a>) (outputs : <a href="../../logic/index.html#List">List</a> O)
+///       (after : <a href="../../logic/index.html#List">List</a> <a href="../../ent_blocks/blocks/index.html#Reserver">Reserver</a>) : Type 0 where
+///     pub each_before : <a href="../../logic/index.html#length">length</a> before ≡ systems
+///     pub each_output : <a href="../../logic/index.html#length">length</a> outputs ≡ systems
+///     pub each_after : <a href="../../logic/index.html#length">length</a> after ≡ systems
+///     pub each_system : (n : <a href="../../logic/index.html#ℕ">ℕ</a>) (output : O) → <a href="../../logic/index.html#slice_get">slice_get</a> outputs n ≡ <a href="../../logic/index.html#Some">Some</a> output → may n output
+///     pub each_block : (n : <a href="../../logic/index.html#ℕ">ℕ</a>) (first : <a href="../../ent_blocks/blocks/index.html#Reserver">Reserver</a>) (output : O) (last : <a href="../../ent_blocks/blocks/index.html#Reserver">Reserver</a>)
+///         → <a href="../../logic/index.html#slice_get">slice_get</a> before n ≡ <a href="../../logic/index.html#Some">Some</a> first → <a href="../../logic/index.html#slice_get">slice_get</a> outputs n ≡ <a href="../../logic/index.html#Some">Some</a> output
+///         → <a href="../../logic/index.html#slice_get">slice_get</a> after n ≡ <a href="../../logic/index.html#Some">Some</a> last → <a href="../filling/index.html#IsFilled">IsFilled</a> Adds empty (<a href="../../ent_blocks/drawing/index.html#IsDrawn">IsDrawn</a> phase) first output last
 /// </pre>
 ///
 /// <pre>
 ///   -- That many workers have run some of the systems, and stopped, with this error if one of them
 ///   -- returned one.
-///   pub record <b id="IsBrokenOff">IsBrokenOff</b> {S E : Type 0} (may : S → <a href="../../logic/index.html#List">List</a> (Entry C) → Type 0)
-///       (leave : S → <a href="../../logic/index.html#List">List</a> (Entry C) → E → Type 0) (systems : <a href="../../logic/index.html#List">List</a> S) (workers : <a href="../../logic/index.html#ℕ">ℕ</a>)
-///       (pool : <a href="../../logic/index.html#List">List</a> <a href="../../ent_handle/handle/index.html#Handle">Handle</a>)
-///       (before : <a href="../../logic/index.html#List">List</a> <a href="../../ent_blocks/blocks/index.html#Block">Block</a>) (error : <a href="../../logic/index.html#Option">Option</a> E) : Type 0 where
+///   pub record <b id="IsBrokenOff">IsBrokenOff</b> {E : Type 0} (leave : <a href="../../logic/index.html#ℕ">ℕ</a> → O → E → Type 0) (systems workers : <a href="../../logic/index.html#ℕ">ℕ</a>)
+///       (before : <a href="../../logic/index.html#List">List</a> <a href="../../ent_blocks/blocks/index.html#Reserver">Reserver</a>) (error : <a href="../../logic/index.html#Option">Option</a> E) : Type 0 where
 ///     -- for each worker the systems that it ran
 ///     pub ran : <a href="../../logic/index.html#List">List</a> (<a href="../../logic/index.html#List">List</a> <a href="../../logic/index.html#ℕ">ℕ</a>)
 ///     pub count : <a href="../../logic/index.html#ℕ">ℕ</a>
 ///     pub run : <a href="../runs/index.html#AreRun">AreRun</a> workers count ran
-///     -- what each of them had entered when it ended or stopped
-///     pub logs : <a href="../../logic/index.html#List">List</a> (<a href="../../logic/index.html#List">List</a> (Entry C))
+///     -- what each of them had filled when it ended or stopped
+///     pub outputs : <a href="../../logic/index.html#List">List</a> O
 ///     -- the error that each of them returned, if it did
 ///     pub errors : <a href="../../logic/index.html#List">List</a> (<a href="../../logic/index.html#Option">Option</a> E)
-///     pub short : <a href="../runs/index.html#StopShort">StopShort</a> (<a href="../logs/index.html#SystemMayLog">SystemMayLog</a> may systems) (<a href="../logs/index.html#SystemMayLeave">SystemMayLeave</a> leave systems) logs [] errors
-///         (<a href="../../logic/index.html#length">length</a> systems) count ran error
-///     pub draws : (n : <a href="../../logic/index.html#ℕ">ℕ</a>) (block : <a href="../../ent_blocks/blocks/index.html#Block">Block</a>) → n &lt; count → <a href="../../logic/index.html#slice_get">slice_get</a> before n ≡ <a href="../../logic/index.html#Some">Some</a> block
-///         → <a href="../blocks_filling/index.html#Draws">Draws</a> pool block (<a href="../logs/index.html#log_at">log_at</a> logs n) (<a href="../../ent_blocks/blocks/index.html#after_use">after_use</a> block (<a href="../../logic/index.html#length">length</a> (<a href="../../ent_log/logs/index.html#spawned_in">spawned_in</a> (<a href="../logs/index.html#log_at">log_at</a> logs n))))
+///     pub short : <a href="../runs/index.html#StopShort">StopShort</a> may leave outputs empty errors systems count ran error
+///     pub each_block : (n : <a href="../../logic/index.html#ℕ">ℕ</a>) (first : <a href="../../ent_blocks/blocks/index.html#Reserver">Reserver</a>) (output : O) → <a href="../../logic/index.html#slice_get">slice_get</a> before n ≡ <a href="../../logic/index.html#Some">Some</a> first
+///         → <a href="../../logic/index.html#slice_get">slice_get</a> outputs n ≡ <a href="../../logic/index.html#Some">Some</a> output
+///         → (last : <a href="../../ent_blocks/blocks/index.html#Reserver">Reserver</a>) × <a href="../filling/index.html#IsFilled">IsFilled</a> Adds empty (<a href="../../ent_blocks/drawing/index.html#IsDrawn">IsDrawn</a> phase) first output last
 /// </pre>
 pub mod blocks {}
 
-#[doc(alias("HaveIssued", "HaveStopped", "blocks_after_queues"))]
-/// Systems of a frame that fill queues, each from a block of its own. What comes of it depends on the world, the blocks and the systems alone: there is no history. Workers appear only in how far the systems came if they were broken off.
-///
-/// <pre>
-/// -- the blocks after systems have filled these queues
-/// abbrev pub <b id="blocks_after_queues">blocks_after_queues</b> : <a href="../../logic/index.html#List">List</a> <a href="../../ent_blocks/blocks/index.html#Block">Block</a> → <a href="../../logic/index.html#List">List</a> (<a href="../../logic/index.html#List">List</a> <a href="../../ent_queue/command/index.html#Command">Command</a>) → <a href="../../logic/index.html#List">List</a> <a href="../../ent_blocks/blocks/index.html#Block">Block</a>
-/// <a href="#blocks_after_queues">blocks_after_queues</a> [] queues = []
-/// <a href="#blocks_after_queues">blocks_after_queues</a> (b ∷ blocks) [] = b ∷ blocks
-/// <a href="#blocks_after_queues">blocks_after_queues</a> (b ∷ blocks) (queue ∷ queues) =
-///     <a href="../../ent_queue/drawing/index.html#after_commands">after_commands</a> b queue ∷ <a href="#blocks_after_queues">blocks_after_queues</a> blocks queues
-/// </pre>
-///
-/// <pre>
-/// -- All systems have run, and each has a queue that it may issue. The handles of each queue are the
-/// -- next ones of the system's block.
-/// pub record <b id="HaveIssued">HaveIssued</b> {S : Type 0} (may : S → <a href="../../ent_world/open_world/index.html#View">View</a> → <a href="../../logic/index.html#List">List</a> <a href="../../ent_queue/command/index.html#Command">Command</a> → Type 0) (systems : <a href="../../logic/index.html#List">List</a> S)
-///     (view : <a href="../../ent_world/open_world/index.html#View">View</a>) (s : <a href="../../ent_alloc/sequential/index.html#Allocator">Allocator</a>) (before : <a href="../../logic/index.html#List">List</a> <a href="../../ent_blocks/blocks/index.html#Block">Block</a>) (queues : <a href="../../logic/index.html#List">List</a> (<a href="../../logic/index.html#List">List</a> <a href="../../ent_queue/command/index.html#Command">Command</a>))
-///     (after : <a href="../../logic/index.html#List">List</a> <a href="../../ent_blocks/blocks/index.html#Block">Block</a>) : Type 0 where
-///   pub each_queue : <a href="../../logic/index.html#length">length</a> queues ≡ <a href="../../logic/index.html#length">length</a> systems
-///   pub each_system : (n : <a href="../../logic/index.html#ℕ">ℕ</a>) (system : S) → <a href="../../logic/index.html#slice_get">slice_get</a> systems n ≡ <a href="../../logic/index.html#Some">Some</a> system
-///       → may system view (<a href="../frame/index.html#queue_at">queue_at</a> queues n)
-///   pub draws : (n : <a href="../../logic/index.html#ℕ">ℕ</a>) (block : <a href="../../ent_blocks/blocks/index.html#Block">Block</a>) → <a href="../../logic/index.html#slice_get">slice_get</a> before n ≡ <a href="../../logic/index.html#Some">Some</a> block
-///       → <a href="../../ent_queue/drawing/index.html#AreDrawnBy">AreDrawnBy</a> s block (<a href="../frame/index.html#queue_at">queue_at</a> queues n)
-///   pub used : after ≡ <a href="#blocks_after_queues">blocks_after_queues</a> before queues
-/// </pre>
-///
-/// <pre>
-/// -- That many workers have run some of the systems, and stopped, with this error if one of them
-/// -- returned one.
-/// pub record <b id="HaveStopped">HaveStopped</b> {S E : Type 0} (may : S → <a href="../../ent_world/open_world/index.html#View">View</a> → <a href="../../logic/index.html#List">List</a> <a href="../../ent_queue/command/index.html#Command">Command</a> → Type 0)
-///     (leave : S → <a href="../../ent_world/open_world/index.html#View">View</a> → <a href="../../logic/index.html#List">List</a> <a href="../../ent_queue/command/index.html#Command">Command</a> → E → Type 0) (systems : <a href="../../logic/index.html#List">List</a> S) (workers : <a href="../../logic/index.html#ℕ">ℕ</a>) (view : <a href="../../ent_world/open_world/index.html#View">View</a>)
-///     (s : <a href="../../ent_alloc/sequential/index.html#Allocator">Allocator</a>) (before : <a href="../../logic/index.html#List">List</a> <a href="../../ent_blocks/blocks/index.html#Block">Block</a>) (error : <a href="../../logic/index.html#Option">Option</a> E) : Type 0 where
-///   -- for each worker the systems that it ran
-///   pub ran : <a href="../../logic/index.html#List">List</a> (<a href="../../logic/index.html#List">List</a> <a href="../../logic/index.html#ℕ">ℕ</a>)
-///   pub count : <a href="../../logic/index.html#ℕ">ℕ</a>
-///   pub run : <a href="../runs/index.html#AreRun">AreRun</a> workers count ran
-///   -- what each of them had issued when it ended or stopped
-///   pub queues : <a href="../../logic/index.html#List">List</a> (<a href="../../logic/index.html#List">List</a> <a href="../../ent_queue/command/index.html#Command">Command</a>)
-///   -- the error that each of them returned, if it did
-///   pub errors : <a href="../../logic/index.html#List">List</a> (<a href="../../logic/index.html#Option">Option</a> E)
-///   pub short : <a href="../runs/index.html#StopShort">StopShort</a> (<a href="../frame/index.html#SystemMayIssue">SystemMayIssue</a> may systems view) (<a href="../frame/index.html#SystemMayLeave">SystemMayLeave</a> leave systems view) queues
-///       [] errors (<a href="../../logic/index.html#length">length</a> systems) count ran error
-///   pub draws : (n : <a href="../../logic/index.html#ℕ">ℕ</a>) (block : <a href="../../ent_blocks/blocks/index.html#Block">Block</a>) → n &lt; count → <a href="../../logic/index.html#slice_get">slice_get</a> before n ≡ <a href="../../logic/index.html#Some">Some</a> block
-///       → <a href="../../ent_queue/drawing/index.html#AreDrawnBy">AreDrawnBy</a> s block (<a href="../frame/index.html#queue_at">queue_at</a> queues n)
-/// </pre>
-pub mod blocks_queues {}
-
 #[doc(alias("IsRefused"))]
-/// When systems in blocks are refused before any of them runs, as one fact: each field is a clause of `fill_in_blocks` and `run_in_blocks`.
+/// When systems in blocks are refused before any of them runs, as one fact.
 ///
 /// <pre>
 /// -- That many systems run on that many workers, with so many reservers, which are of the phase if
@@ -265,10 +183,13 @@ pub mod blocks_queues {}
 ///   pub other_phase : refuses failed.OtherPhase
 ///       ↔ ((0 &lt; workers) × (workers ≤ 64) × (systems ≤ 2 ^ 16) × (reservers ≡ systems)
 ///       × ¬ AreOf)
+///   pub memory_some : refuses failed.Memory → 0 &lt; systems
+///   pub not_needs_flush : ¬ refuses failed.NeedsFlush
+///   pub not_unborn : ¬ refuses failed.Unborn
 /// </pre>
 pub mod blocks_refusing {}
 
-#[doc(alias("IfLost", "IfNotLost", "IsOfBlocks"))]
+#[doc(alias("IfLost", "IfNotLost"))]
 /// How a run of systems fails.
 ///
 /// <pre>
@@ -283,13 +204,5 @@ pub mod blocks_refusing {}
 /// abbrev pub <b id="IfNotLost">IfNotLost</b> : {E : Type 0} → Type 0 → RunError E → Type 0
 /// <a href="#IfNotLost">IfNotLost</a> P (failed.Lost error) = Unit {0}
 /// <a href="#IfNotLost">IfNotLost</a> P _ = P
-/// </pre>
-///
-/// <pre>
-/// -- an error of a run in blocks
-/// abbrev pub <b id="IsOfBlocks">IsOfBlocks</b> : {E : Type 0} → RunError E → Type 0
-/// <a href="#IsOfBlocks">IsOfBlocks</a> failed.NeedsFlush = ⊥
-/// <a href="#IsOfBlocks">IsOfBlocks</a> failed.Unborn = ⊥
-/// <a href="#IsOfBlocks">IsOfBlocks</a> _ = Unit {0}
 /// </pre>
 pub mod run_errors {}

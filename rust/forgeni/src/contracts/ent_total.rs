@@ -416,7 +416,7 @@ pub mod image {}
 /// </pre>
 pub mod in_world {}
 
-#[doc(alias("lent_out", "returned"))]
+#[doc(alias("AreLent", "lent_out", "returned"))]
 /// Reservers of blocks that are lent to a run of systems.
 ///
 /// <pre>
@@ -433,5 +433,16 @@ pub mod in_world {}
 ///   <a href="#returned">returned</a> reservers [] = reservers
 ///   <a href="#returned">returned</a> [] (b ∷ back) = []
 ///   <a href="#returned">returned</a> (r ∷ reservers) (b ∷ back) = record r { reserver = b } ∷ <a href="#returned">returned</a> reservers back
+/// </pre>
+///
+/// <pre>
+///   -- A run of systems was lent what these reserve with, and they are the same reservers. They got it
+///   -- back if all systems ran, with what these used, and as it was if none ran. What they have is
+///   -- used up if the systems were broken off.
+///   pub record <b id="AreLent">AreLent</b> {X E : Type 0} (before after : <a href="../../logic/index.html#List">List</a> (<a href="../phases/index.html#Reserver">Reserver</a> S <a href="../../ent_blocks/blocks/index.html#Reserver">BlockReserver</a>))
+///       (result : <a href="../../logic/index.html#Result">Result</a> X (RunError E)) : Type 0 where
+///     pub same : after ≡ <a href="#returned">returned</a> before (<a href="../phases/index.html#reservers_of">reservers_of</a> after)
+///     pub as_they_were : <a href="../../logic/index.html#IfErr">IfErr</a> result (<a href="../../ent_runner/run_errors/index.html#IfNotLost">IfNotLost</a> (after ≡ before))
+///     pub <a href="../../ent_blocks/blocks/index.html#used_up">used_up</a> : <a href="../../logic/index.html#IfErr">IfErr</a> result (<a href="../../ent_runner/run_errors/index.html#IfLost">IfLost</a> (λ _. after ≡ <a href="../../logic/index.html#map">map</a> <a href="#lent_out">lent_out</a> before))
 /// </pre>
 pub mod lending {}

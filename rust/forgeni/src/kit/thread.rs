@@ -9,7 +9,7 @@
 /// doesn't call is called afterwards, and a part that it calls again does nothing.
 ///
 /// ```
-/// use forgeni::{run_logs_on, Entities, Join, LogCommands};
+/// use forgeni::{run_logs, Entities, Join, LogCommands};
 ///
 /// /// Threads of std, with a name.
 /// struct Named;
@@ -26,7 +26,7 @@
 /// }
 ///
 /// let halt = |commands: &mut LogCommands<'_, &str>| commands.push("halt");
-/// assert_eq!(run_logs_on(&Named, &mut Entities::new(), &[halt; 8], 2)?.len(), 8);
+/// assert_eq!(run_logs(&Named, &mut Entities::new(), &[halt; 8], 2)?.len(), 8);
 /// # Ok::<(), Box<dyn std::error::Error>>(())
 /// ```
 pub trait Join {
@@ -56,11 +56,11 @@ impl<J: Join + ?Sized> Join for &J {
 /// `std` one part runs after the other.
 ///
 /// ```
-/// use forgeni::{run_logs_on, Entities, LogCommands, StdThreads};
+/// use forgeni::{run_logs, Entities, LogCommands, StdThreads};
 ///
 /// let halt = |commands: &mut LogCommands<'_, &str>| commands.push("halt");
 /// // What `run_logs` does: at most three threads are started for four workers.
-/// let logs = run_logs_on(&StdThreads, &mut Entities::new(), &[halt; 100], 4)?;
+/// let logs = run_logs(&StdThreads, &mut Entities::new(), &[halt; 100], 4)?;
 /// assert_eq!(logs.len(), 100);
 /// # Ok::<(), Box<dyn std::error::Error>>(())
 /// ```

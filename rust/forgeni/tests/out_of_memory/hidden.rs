@@ -323,7 +323,9 @@ mod of_many {
 #[cfg(feature = "std")]
 mod systems {
     use super::*;
-    use forgeni::{run_frame, run_in_blocks, run_logs, Blocks, FrameError, LogCommands, RunError};
+    use forgeni::{
+        run_frame, run_in_blocks, run_logs, Blocks, FrameError, LogCommands, RunError, StdThreads,
+    };
     use forgeni::{SystemCommands, View};
     use std::sync::atomic::{AtomicUsize, Ordering};
 
@@ -336,7 +338,9 @@ mod systems {
             Ok(())
         };
         let systems = vec![system; 1_100];
-        let (done, refused) = refusing(refusal, || run_frame(&mut world, &systems, 1).map(drop));
+        let (done, refused) = refusing(refusal, || {
+            run_frame(&StdThreads, &mut world, &systems, 1).map(drop)
+        });
         let ran = ran.load(Ordering::Relaxed);
         match done {
             Err(FrameError::Memory) => assert_eq!(ran, 0),
@@ -367,7 +371,7 @@ mod systems {
             true => run_to_sync_point(&StdThreads, &mut entities, &systems, 1, &mut born)
                 .map(drop)
                 .map_err(|unbegun| unbegun.into_parts().1),
-            false => run_logs(&mut entities, &systems, 1).map(drop),
+            false => run_logs(&StdThreads, &mut entities, &systems, 1).map(drop),
         });
         let ran = ran.load(Ordering::Relaxed);
         match done {

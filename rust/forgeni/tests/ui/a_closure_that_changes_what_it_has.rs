@@ -1,6 +1,6 @@
 //! A system may run on any thread, so it changes nothing that it borrows.
 
-use forgeni::{run_frame, system, World};
+use forgeni::{run_frame, system, World, StdThreads};
 
 fn main() {
     let mut runs = 0;
@@ -8,5 +8,5 @@ fn main() {
         runs += 1;
         Ok(())
     });
-    let _ = run_frame(&mut World::new(), &[count], 1);
+    let _ = run_frame(&StdThreads, &mut World::new(), &[count], 1);
 }

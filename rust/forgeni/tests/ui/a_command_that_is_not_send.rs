@@ -1,6 +1,6 @@
 //! Logs go to threads, and their commands with them.
 
-use forgeni::{run_logs, Entities, LogCommands, OutOfMemory};
+use forgeni::{run_logs, Entities, LogCommands, OutOfMemory, StdThreads};
 use std::rc::Rc;
 
 fn note(commands: &mut LogCommands<'_, Rc<u8>>) -> Result<(), OutOfMemory> {
@@ -8,5 +8,5 @@ fn note(commands: &mut LogCommands<'_, Rc<u8>>) -> Result<(), OutOfMemory> {
 }
 
 fn main() {
-    let _ = run_logs(&mut Entities::new(), &[note], 2);
+    let _ = run_logs(&StdThreads, &mut Entities::new(), &[note], 2);
 }

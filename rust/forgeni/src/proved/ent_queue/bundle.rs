@@ -5,7 +5,7 @@
 /// A bundle of up to four components needs no allocation.
 ///
 /// ```
-/// use forgeni::{run_frame, system, Bundle, ComponentId, World};
+/// use forgeni::{run_frame, system, Bundle, ComponentId, StdThreads, World};
 ///
 /// const MASS: ComponentId = ComponentId(0);
 ///
@@ -16,7 +16,7 @@
 ///     Err(refused) => refused.or_memory(),
 /// });
 /// let mut world = World::new();
-/// run_frame(&mut world, &[throw], 1)?;
+/// run_frame(&StdThreads, &mut world, &[throw], 1)?;
 /// assert_eq!(world.len(), 10);
 /// # Ok::<(), Box<dyn std::error::Error>>(())
 /// ```

@@ -16,7 +16,7 @@ impl<S: Source> SystemCommands<'_, IssuedCommands, S> {
     /// in any order; if a component is listed twice, its last value counts.
     ///
     /// ```
-    /// use forgeni::{run_frame, system, ComponentId, World};
+    /// use forgeni::{run_frame, system, ComponentId, StdThreads, World};
     ///
     /// const HEAT: ComponentId = ComponentId(0);
     ///
@@ -25,7 +25,7 @@ impl<S: Source> SystemCommands<'_, IssuedCommands, S> {
     ///     Err(refused) => refused.or_memory(),
     /// });
     /// let mut world = World::new();
-    /// let report = run_frame(&mut world, &[burn], 1)?;
+    /// let report = run_frame(&StdThreads, &mut world, &[burn], 1)?;
     /// assert_eq!(world.get(report.born[0], HEAT), Some(900));
     /// # Ok::<(), Box<dyn std::error::Error>>(())
     /// ```
@@ -64,7 +64,7 @@ impl<S: Source> SystemCommands<'_, IssuedCommands, S> {
     /// Reserves a handle. Its entity gets the components when the queue is applied.
     ///
     /// ```
-    /// use forgeni::{run_frame, system, Bundle, ComponentId, World};
+    /// use forgeni::{run_frame, system, Bundle, ComponentId, StdThreads, World};
     ///
     /// const HEAT: ComponentId = ComponentId(0);
     ///
@@ -74,7 +74,7 @@ impl<S: Source> SystemCommands<'_, IssuedCommands, S> {
     ///     Err(refused) => refused.or_memory(),
     /// });
     /// let mut world = World::new();
-    /// let report = run_frame(&mut world, &[burn], 1)?;
+    /// let report = run_frame(&StdThreads, &mut world, &[burn], 1)?;
     /// assert_eq!(world.get(report.born[0], HEAT), Some(900));
     /// # Ok::<(), Box<dyn std::error::Error>>(())
     /// ```
@@ -117,7 +117,7 @@ impl<S: Source> SystemCommands<'_, IssuedCommands, S> {
     /// applied. They may be in any order; if a component is listed twice, its last value counts.
     ///
     /// ```
-    /// use forgeni::{run_frame, system, Limits, World};
+    /// use forgeni::{run_frame, system, Limits, StdThreads, World};
     ///
     /// let burst = system(|_, commands| match commands.spawn_many_with(50, &[]) {
     ///     Ok(_) => Ok(()),
@@ -125,7 +125,7 @@ impl<S: Source> SystemCommands<'_, IssuedCommands, S> {
     ///     Err(refused) => refused.or_memory(),
     /// });
     /// let mut world = World::with_limits(Limits::new(10, 1).unwrap());
-    /// let report = run_frame(&mut world, &[burst], 1)?;
+    /// let report = run_frame(&StdThreads, &mut world, &[burst], 1)?;
     /// assert_eq!((report.born.len(), report.faults.len()), (0, 1));
     /// # Ok::<(), Box<dyn std::error::Error>>(())
     /// ```
@@ -171,7 +171,7 @@ impl<S: Source> SystemCommands<'_, IssuedCommands, S> {
     /// applied. It takes time for each handle, which goes into the list and into the queue.
     ///
     /// ```
-    /// use forgeni::{run_frame, system, Bundle, ComponentId, World};
+    /// use forgeni::{run_frame, system, Bundle, ComponentId, StdThreads, World};
     ///
     /// const HEAT: ComponentId = ComponentId(0);
     ///
@@ -181,7 +181,7 @@ impl<S: Source> SystemCommands<'_, IssuedCommands, S> {
     ///     Err(refused) => refused.or_memory(),
     /// });
     /// let mut world = World::new();
-    /// assert_eq!(run_frame(&mut world, &[burst], 1)?.born.len(), 50);
+    /// assert_eq!(run_frame(&StdThreads, &mut world, &[burst], 1)?.born.len(), 50);
     /// # Ok::<(), Box<dyn std::error::Error>>(())
     /// ```
     ///
@@ -224,7 +224,7 @@ impl<S: Source> SystemCommands<'_, IssuedCommands, S> {
     /// They may be in any order; if a component is listed twice, its last value counts.
     ///
     /// ```
-    /// use forgeni::{run_frame, ComponentId, OutOfMemory, SystemCommands, View, World};
+    /// use forgeni::{run_frame, ComponentId, OutOfMemory, StdThreads, SystemCommands, View, World};
     ///
     /// const SPEED: ComponentId = ComponentId(0);
     ///
@@ -235,7 +235,7 @@ impl<S: Source> SystemCommands<'_, IssuedCommands, S> {
     ///
     /// let mut world = World::new();
     /// let cart = world.spawn(&[(SPEED, 40)])?;
-    /// run_frame(&mut world, &[brake], 1)?;
+    /// run_frame(&StdThreads, &mut world, &[brake], 1)?;
     /// assert_eq!(world.get(cart, SPEED), Some(0));
     /// # Ok::<(), Box<dyn std::error::Error>>(())
     /// ```
@@ -269,14 +269,14 @@ impl<S: Source> SystemCommands<'_, IssuedCommands, S> {
     /// Gives the entity the components, in place of those that it has under the same numbers.
     ///
     /// ```
-    /// use forgeni::{run_frame, system, Bundle, ComponentId, World};
+    /// use forgeni::{run_frame, system, Bundle, ComponentId, StdThreads, World};
     ///
     /// const SPEED: ComponentId = ComponentId(0);
     ///
     /// let mut world = World::new();
     /// let cart = world.spawn(&[])?;
     /// let fast = Bundle::of(&[(SPEED, 40)])?;
-    /// run_frame(&mut world, &[system(|_, commands| commands.insert(cart, &fast))], 1)?;
+    /// run_frame(&StdThreads, &mut world, &[system(|_, commands| commands.insert(cart, &fast))], 1)?;
     /// assert_eq!(world.get(cart, SPEED), Some(40));
     /// # Ok::<(), Box<dyn std::error::Error>>(())
     /// ```
@@ -309,13 +309,13 @@ impl<S: Source> SystemCommands<'_, IssuedCommands, S> {
     /// Removes the component from the entity, if it has it.
     ///
     /// ```
-    /// use forgeni::{run_frame, system, ComponentId, World};
+    /// use forgeni::{run_frame, system, ComponentId, StdThreads, World};
     ///
     /// const LIT: ComponentId = ComponentId(0);
     ///
     /// let mut world = World::new();
     /// let lamp = world.spawn(&[(LIT, 1)])?;
-    /// run_frame(&mut world, &[system(|_, commands| commands.remove(lamp, LIT))], 1)?;
+    /// run_frame(&StdThreads, &mut world, &[system(|_, commands| commands.remove(lamp, LIT))], 1)?;
     /// assert!(world.contains(lamp) && world.get(lamp, LIT).is_none());
     /// # Ok::<(), Box<dyn std::error::Error>>(())
     /// ```
@@ -343,7 +343,7 @@ impl<S: Source> SystemCommands<'_, IssuedCommands, S> {
     /// Despawns the entity.
     ///
     /// ```
-    /// use forgeni::{run_frame, ComponentId, OutOfMemory, SystemCommands, View, World};
+    /// use forgeni::{run_frame, ComponentId, OutOfMemory, StdThreads, SystemCommands, View, World};
     ///
     /// const AGE: ComponentId = ComponentId(0);
     ///
@@ -355,7 +355,7 @@ impl<S: Source> SystemCommands<'_, IssuedCommands, S> {
     /// let mut world = World::new();
     /// world.spawn(&[(AGE, 80)])?;
     /// world.spawn(&[(AGE, 300)])?;
-    /// run_frame(&mut world, &[wither], 1)?;
+    /// run_frame(&StdThreads, &mut world, &[wither], 1)?;
     /// assert_eq!(world.len(), 1);
     /// # Ok::<(), Box<dyn std::error::Error>>(())
     /// ```

@@ -14,7 +14,7 @@ impl<C, S: Source> SystemCommands<'_, Log<C>, S> {
     /// allocated first, so each reservation has one.
     ///
     /// ```
-    /// use forgeni::{run_logs, Entities, Handle, LogCommands, OutOfMemory};
+    /// use forgeni::{run_logs, Entities, Handle, LogCommands, OutOfMemory, StdThreads};
     ///
     /// fn launch(commands: &mut LogCommands<'_, (Handle, u32)>) -> Result<(), OutOfMemory> {
     ///     match commands.spawn() {
@@ -24,7 +24,7 @@ impl<C, S: Source> SystemCommands<'_, Log<C>, S> {
     ///     }
     /// }
     ///
-    /// let logs = run_logs(&mut Entities::new(), &[launch; 2], 2)?;
+    /// let logs = run_logs(&StdThreads, &mut Entities::new(), &[launch; 2], 2)?;
     /// assert!(logs.iter().all(|log| log.len() == 2 && log.refused() == 0));
     /// # Ok::<(), Box<dyn std::error::Error>>(())
     /// ```
@@ -64,11 +64,11 @@ impl<C, S: Source> SystemCommands<'_, Log<C>, S> {
     /// Adds a command, which the sync point passes on in its turn.
     ///
     /// ```
-    /// use forgeni::{run_logs, Entities, Entry, LogCommands, SyncPoint};
+    /// use forgeni::{run_logs, Entities, Entry, LogCommands, StdThreads, SyncPoint};
     ///
     /// let mut entities = Entities::new();
     /// let say = |commands: &mut LogCommands<'_, String>| commands.push("halt".into());
-    /// let mut logs = run_logs(&mut entities, &[say; 2], 2)?;
+    /// let mut logs = run_logs(&StdThreads, &mut entities, &[say; 2], 2)?;
     /// let mut sync = SyncPoint::begin(&mut entities, &mut logs, &mut Vec::new())?;
     /// assert_eq!(sync.take_next(), Some(Entry::Command("halt".into())));
     /// # Ok::<(), Box<dyn std::error::Error>>(())
@@ -98,7 +98,7 @@ impl<C, S: Source> SystemCommands<'_, Log<C>, S> {
     /// Returns the entries so far, in the order of issue.
     ///
     /// ```
-    /// use forgeni::{run_logs, Entities, Entry, LogCommands, OutOfMemory};
+    /// use forgeni::{run_logs, Entities, Entry, LogCommands, OutOfMemory, StdThreads};
     ///
     /// /// Two enemies are seen, but the guard shouts once.
     /// fn guard(commands: &mut LogCommands<'_, &'static str>) -> Result<(), OutOfMemory> {
@@ -110,7 +110,7 @@ impl<C, S: Source> SystemCommands<'_, Log<C>, S> {
     ///     Ok(())
     /// }
     ///
-    /// assert_eq!(run_logs(&mut Entities::new(), &[guard], 1)?[0].len(), 1);
+    /// assert_eq!(run_logs(&StdThreads, &mut Entities::new(), &[guard], 1)?[0].len(), 1);
     /// # Ok::<(), Box<dyn std::error::Error>>(())
     /// ```
     ///

@@ -20,6 +20,7 @@ const REFUSAL: usize = 14;
 ///
 /// ```
 /// use forgeni::{run_frame, IssuedCommands, OutOfMemory, Source, SystemCommands, View, World};
+/// use forgeni::StdThreads;
 ///
 /// type Commands<'a, S> = SystemCommands<'a, IssuedCommands, S>;
 ///
@@ -28,7 +29,7 @@ const REFUSAL: usize = 14;
 /// }
 ///
 /// let mut world = World::new();
-/// run_frame(&mut world, &[rain; 3], 2)?;
+/// run_frame(&StdThreads, &mut world, &[rain; 3], 2)?;
 /// assert_eq!(world.len(), 3);
 /// # Ok::<(), Box<dyn std::error::Error>>(())
 /// ```

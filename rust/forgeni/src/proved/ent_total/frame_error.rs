@@ -9,7 +9,7 @@ use core::fmt;
 /// Why a frame wasn't completed.
 ///
 /// ```
-/// use forgeni::{run_frame, FrameError, SystemCommands, View, World};
+/// use forgeni::{run_frame, FrameError, StdThreads, SystemCommands, View, World};
 ///
 /// fn breaks(_: &View<'_>, commands: &mut SystemCommands<'_>) -> Result<(), &'static str> {
 ///     let _reserved = commands.spawn_with(&[]);
@@ -17,10 +17,10 @@ use core::fmt;
 /// }
 ///
 /// let mut world = World::new();
-/// let lost = run_frame(&mut world, &[breaks], 1);
+/// let lost = run_frame(&StdThreads, &mut world, &[breaks], 1);
 /// assert!(matches!(lost, Err(FrameError::Lost(Some("no road")))));
 /// // What it reserved has to be born before the next frame.
-/// assert!(matches!(run_frame(&mut world, &[breaks], 1), Err(FrameError::NeedsFlush)));
+/// assert!(matches!(run_frame(&StdThreads, &mut world, &[breaks], 1), Err(FrameError::NeedsFlush)));
 /// world.flush()?;
 /// assert_eq!(world.len(), 1);
 /// # Ok::<(), Box<dyn std::error::Error>>(())

@@ -16,7 +16,7 @@ use crate::worlds::View;
 /// `From<ReserveError>`, `?` converts what the calls of `commands` return.
 ///
 /// ```
-/// use forgeni::{run_frame, Handle, OutOfMemory, System, SystemCommands, View, World};
+/// use forgeni::{run_frame, Handle, OutOfMemory, StdThreads, System, SystemCommands, View, World};
 ///
 /// struct Despawn(Handle);
 ///
@@ -28,7 +28,7 @@ use crate::worlds::View;
 ///
 /// let mut world = World::new();
 /// let cart = world.spawn(&[])?;
-/// run_frame(&mut world, &[Despawn(cart)], 1)?;
+/// run_frame(&StdThreads, &mut world, &[Despawn(cart)], 1)?;
 /// assert!(world.is_empty());
 /// # Ok::<(), Box<dyn std::error::Error>>(())
 /// ```
@@ -36,7 +36,7 @@ pub trait System<S: Source = crate::reserving::SharedSource, E = crate::handles:
     /// Runs it once.
     ///
     /// ```
-    /// use forgeni::{run_frame, ComponentId, OutOfMemory, SystemCommands, View, World};
+    /// use forgeni::{run_frame, ComponentId, OutOfMemory, StdThreads, SystemCommands, View, World};
     ///
     /// const AGE: ComponentId = ComponentId(0);
     ///
@@ -50,7 +50,7 @@ pub trait System<S: Source = crate::reserving::SharedSource, E = crate::handles:
     ///
     /// let mut world = World::new();
     /// let oak = world.spawn(&[(AGE, 80)])?;
-    /// run_frame(&mut world, &[grow], 1)?;
+    /// run_frame(&StdThreads, &mut world, &[grow], 1)?;
     /// assert_eq!(world.get(oak, AGE), Some(81));
     /// # Ok::<(), Box<dyn std::error::Error>>(())
     /// ```

@@ -11,7 +11,7 @@ use crate::commands::SystemCommands;
 /// One value may run on any worker.
 ///
 /// ```
-/// use forgeni::{run_logs, Entities, Entry, LogCommands, LogSystem, OutOfMemory};
+/// use forgeni::{run_logs, Entities, Entry, LogCommands, LogSystem, OutOfMemory, StdThreads};
 ///
 /// struct Says(&'static str);
 ///
@@ -21,7 +21,7 @@ use crate::commands::SystemCommands;
 ///     }
 /// }
 ///
-/// let logs = run_logs(&mut Entities::new(), &[Says("one"), Says("two")], 2)?;
+/// let logs = run_logs(&StdThreads, &mut Entities::new(), &[Says("one"), Says("two")], 2)?;
 /// assert_eq!(logs[1].entries(), [Entry::Command("two")]);
 /// # Ok::<(), Box<dyn std::error::Error>>(())
 /// ```
@@ -29,7 +29,7 @@ pub trait LogSystem<C, S: Source = crate::reserving::SharedSource, E = crate::ha
     /// Runs it once.
     ///
     /// ```
-    /// use forgeni::{run_logs, Entities, Handle, LogCommands, OutOfMemory};
+    /// use forgeni::{run_logs, Entities, Handle, LogCommands, OutOfMemory, StdThreads};
     ///
     /// fn launch(commands: &mut LogCommands<'_, (Handle, String)>) -> Result<(), OutOfMemory> {
     ///     match commands.spawn() {
@@ -38,7 +38,7 @@ pub trait LogSystem<C, S: Source = crate::reserving::SharedSource, E = crate::ha
     ///     }
     /// }
     ///
-    /// let logs = run_logs(&mut Entities::new(), &[launch; 3], 2)?;
+    /// let logs = run_logs(&StdThreads, &mut Entities::new(), &[launch; 3], 2)?;
     /// assert!(logs.iter().all(|log| log.len() == 2));
     /// # Ok::<(), Box<dyn std::error::Error>>(())
     /// ```
