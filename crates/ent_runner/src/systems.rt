@@ -27,7 +27,7 @@ pub trait Systems<O: Output, S: Source, E> {
     ghost may_leave: { Self → ℕ → O → E → Type 0 };
 
     /// Returns how many there are.
-    fn len(&self) -> usize
+    fn how_many(&self) -> usize
         ensures { result ≡ count self.now };
 
     /// Runs the system of this number.
@@ -72,7 +72,7 @@ impl<S: Source, E, T: System<S, E>, G: Gate> Systems<CommandQueue, S, E>
     ghost may_leave = { λ all number queue error.
         SystemMayLeave T.may_leave all.systems.now all.view number queue error };
 
-    fn len(&self) -> usize {
+    fn how_many(&self) -> usize {
         self.systems.len()
     }
 
@@ -102,7 +102,7 @@ impl<C: Drop, S: Source, E, T: LogSystem<C, S, E>> Systems<Log<C>, S, E> for Log
     ghost may_leave = { λ all number log error.
         LoggerMayLeave T.may_leave all.systems.now number log error };
 
-    fn len(&self) -> usize {
+    fn how_many(&self) -> usize {
         self.systems.len()
     }
 

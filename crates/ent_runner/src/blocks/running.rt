@@ -82,7 +82,7 @@ where
     ensures lost_some { IfErr result (λ h. IfLost (λ _. 0 < T.count systems.now) h.error) }
     ensures lost_reservers { IfErr result (λ h. IfLost (λ _. h.value.items ≡ []) h.error) }
 {
-    let count = systems.len();
+    let count = systems.how_many();
     if let Err(error) = check_run(reservers.len(), count, workers) {
         return Err(HandedBack::new(reservers, error));
     }

@@ -51,7 +51,7 @@ put_back-requires-clause-own g c =
 many : (g : given.Over) (c : In-Ok-run_in_blocks g)
     → length c.in-Ok-run_in_blocks.lent.items ≡ length c.args.reservers.now
 many g c =
-    c.in-Ok-run_in_blocks.ensures.ok.each_after ∙ sym c.len.ensures
+    c.in-Ok-run_in_blocks.ensures.ok.each_after ∙ sym c.how_many.ensures
     ∙ sym c.in_ok-check_run.ensures.ready
 
 pub returns-in-Ok-run_in_blocks-clause-ok : goal.returns-in-Ok-run_in_blocks-clause-ok

@@ -22,7 +22,7 @@ pub trait Systems<O: Output, S: Source, E> {
     /// </code>
     ///
     /// </details>
-    fn len(&self) -> usize;
+    fn how_many(&self) -> usize;
 
     /// Runs the system of this number.
     ///
@@ -64,7 +64,7 @@ pub struct Issuers<'v, 's, 'g, T, G> {
 impl<S: Source, E, T: System<S, E>, G: Gate> Systems<IssuedCommands, S, E>
     for Issuers<'_, '_, '_, T, G> {
     #[inline]
-    fn len(&self) -> usize {
+    fn how_many(&self) -> usize {
         self.systems.len()
     }
 
@@ -87,7 +87,7 @@ pub struct Loggers<'s, T> {
 
 impl<C, S: Source, E, T: LogSystem<C, S, E>> Systems<Log<C>, S, E> for Loggers<'_, T> {
     #[inline]
-    fn len(&self) -> usize {
+    fn how_many(&self) -> usize {
         self.systems.len()
     }
 

@@ -39,7 +39,7 @@ where
     //     (T.may_fill systems.now) (T.may_leave systems.now) (T.count systems.now) workers
     //     (reservers_of reservers.old))) }
 {
-    check_run(reservers.len(), systems.len(), workers)?;
+    check_run(reservers.len(), systems.how_many(), workers)?;
     if !are_of(phase, reservers) {
         return Err(RunError::OtherPhase);
     }

@@ -21,7 +21,7 @@ returns-clause-ok g c =
     rw (c.split.ensures.first, c.split.ensures.second)
     ((filled_done g.O.Output.adds g.O.Output.empty c.args.blocks.now c.args.reservers.items _ _ _
     c.in-Ok-work.ensures.count (g.T.Systems.may_fill c.args.systems.now) c.in-Ok-work.done.items
-    (search rules) (rw (c.in-Ok.ensures.crew.0, c.deref.ensures.value, c.len-count.ensures)
+    (search rules) (rw (c.in-Ok.ensures.crew.0, c.deref.ensures.value, c.how_many-count.ensures)
     at c.in-Ok-work.ensures.done)).0)
 
 pub returns-clause-own : goal.returns-clause-own
@@ -29,7 +29,7 @@ returns-clause-own g c =
     rw c.split.ensures.second
     ((filled_done g.O.Output.adds g.O.Output.empty c.args.blocks.now c.args.reservers.items _ _ _
     c.in-Ok-work.ensures.count (g.T.Systems.may_fill c.args.systems.now) c.in-Ok-work.done.items
-    (search rules) (rw (c.in-Ok.ensures.crew.0, c.deref.ensures.value, c.len-count.ensures)
+    (search rules) (rw (c.in-Ok.ensures.crew.0, c.deref.ensures.value, c.how_many-count.ensures)
     at c.in-Ok-work.ensures.done)).1)
 
 pub returns-in-Err-work-clause-lost : goal.returns-in-Err-work-clause-lost
@@ -38,5 +38,5 @@ returns-in-Err-work-clause-lost g c =
     (broken_off g.O.Output.adds g.O.Output.empty c.args.blocks.now c.args.reservers.items _ _ _
     c.in-Err-work.ensures.count (g.T.Systems.may_fill c.args.systems.now)
     (g.T.Systems.may_leave c.args.systems.now) c.args.workers (search rules) _
-    (rw (c.in-Ok.ensures.crew.0, c.deref.ensures.value, c.len-count.ensures)
+    (rw (c.in-Ok.ensures.crew.0, c.deref.ensures.value, c.how_many-count.ensures)
     at c.in-Err-work.ensures.broken_off))
