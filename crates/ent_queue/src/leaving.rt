@@ -19,7 +19,7 @@ impl<O> Commands<'_, O, Blocks> {
     ///     out.spawn_many_with(n, &[]).map_or_else(|refused| refused.or_memory(), |_| Ok(()))
     /// }
     ///
-    /// let (phase, mut reservers) = World::new().open_in_blocks(&[10, 30])?;
+    /// let (phase, mut reservers) = World::new().open_in::<Blocks>(&[10, 30])?;
     /// let queues = fill_in_blocks(&StdThreads, &phase, &mut reservers, &[burst; 2], 2)?;
     /// let mut world = phase.close(reservers)?.into_world()?;
     /// world.apply(queues)?;

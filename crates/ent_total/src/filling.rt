@@ -31,7 +31,7 @@ impl<J: Numbering, S: Phased> Reserver<J, S> {
     /// let (mut entities, mut born, mut heights) = (Entities::new(), Vec::new(), 0);
     /// let mut logs = [Log::new(), Log::new()];
     /// for _frame in 0..2 {
-    ///     let (phase, mut reservers) = entities.share_behind_blocks(&[128; 2])?;
+    ///     let (phase, mut reservers) = entities.share_in::<Overflow>(&[128; 2])?;
     ///     std::thread::scope(|scope| {
     ///         let pairs = reservers.iter_mut().zip(&mut logs);
     ///         let threads = pairs.map(|(mine, log)| scope.spawn(|| mine.fill(log, &sow)));

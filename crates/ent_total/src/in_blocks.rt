@@ -70,10 +70,10 @@ impl<J: Numbering, S: InBlocks> Reserver<J, S> {
     /// had no more.
     ///
     /// ```
-    /// use forgeni::{Entities, Limits};
+    /// use forgeni::{Entities, Limits, Overflow};
     ///
     /// let entities = Entities::with_limits(Limits::new(100, 1).unwrap());
-    /// let (_phase, reservers) = entities.share_behind_blocks(&[64, 64])?;
+    /// let (_phase, reservers) = entities.share_in::<Overflow>(&[64, 64])?;
     /// // The pool ends within the second block.
     /// assert_eq!((reservers[0].size(), reservers[1].size()), (64, 36));
     /// # Ok::<(), Box<dyn std::error::Error + Send + Sync>>(())
@@ -88,9 +88,9 @@ impl<J: Numbering, S: InBlocks> Reserver<J, S> {
     /// Returns the number of handles of the block that are used.
     ///
     /// ```
-    /// use forgeni::Entities;
+    /// use forgeni::{Entities, Overflow};
     ///
-    /// let (_phase, mut reservers) = Entities::new().share_behind_blocks(&[10])?;
+    /// let (_phase, mut reservers) = Entities::new().share_in::<Overflow>(&[10])?;
     /// reservers[0].reserve_many(7)?;
     /// // Three are left of the block, so these five come from past it.
     /// reservers[0].reserve_many(5)?;
@@ -108,9 +108,9 @@ impl<J: Numbering, S: InBlocks> Reserver<J, S> {
     /// Returns the number of handles that are left of the block.
     ///
     /// ```
-    /// use forgeni::Entities;
+    /// use forgeni::{Entities, Overflow};
     ///
-    /// let (phase, mut reservers) = Entities::new().share_behind_blocks(&[10])?;
+    /// let (phase, mut reservers) = Entities::new().share_in::<Overflow>(&[10])?;
     /// let mine = &mut reservers[0];
     /// mine.reserve_many(7)?;
     /// // As many sparks as the block still has, so that none depends on another thread.
@@ -130,10 +130,10 @@ impl<J: Numbering, S: InBlocks> Reserver<J, S> {
     /// [`BlockSize::adapt`](forgeni::BlockSize::adapt) takes it.
     ///
     /// ```
-    /// use forgeni::{BlockSize, Entities};
+    /// use forgeni::{BlockSize, Entities, Overflow};
     ///
     /// let mut size = BlockSize::new(1 << 16);
-    /// let (_phase, mut reservers) = Entities::new().share_behind_blocks(&[size.size()])?;
+    /// let (_phase, mut reservers) = Entities::new().share_in::<Overflow>(&[size.size()])?;
     /// reservers[0].reserve_many(1_000)?;
     /// // In the next frame the block is large enough.
     /// size.adapt(reservers[0].wanted());
@@ -152,9 +152,9 @@ impl<J: Numbering, S: Phased<Reserver = OverflowReserver>> Reserver<J, S> {
     /// Returns the number of handles that it has requested past its block, served or refused.
     ///
     /// ```
-    /// use forgeni::Entities;
+    /// use forgeni::{Entities, Overflow};
     ///
-    /// let (_phase, mut reservers) = Entities::new().share_behind_blocks(&[10, 10])?;
+    /// let (_phase, mut reservers) = Entities::new().share_in::<Overflow>(&[10, 10])?;
     /// reservers[0].reserve_many(8)?;
     /// // The block has only two left, so all three come from the shared handles.
     /// reservers[0].reserve_many(3)?;

@@ -142,7 +142,7 @@ fn sync(entities: &mut Entities, logs: &mut Vec<Log<usize>>, digest: &mut Digest
 pub fn blocks() -> Result<u64> {
     let mut digest = Digest(6);
     for workers in 1..3 {
-        let (phase, mut reservers) = Entities::new().share_in_blocks(&[2, 16, 0, 16])?;
+        let (phase, mut reservers) = Entities::new().share_in::<Blocks>(&[2, 16, 0, 16])?;
         let mut logs = run_in_blocks(&StdThreads, &phase, &mut reservers, &[fill; 4], workers)?;
         digest.take(&reservers);
         let mut entities = phase.close(reservers)?.into_entities()?;

@@ -125,7 +125,7 @@ impl Game {
     fn step(&mut self, workers: usize) -> Result<()> {
         let entities = std::mem::take(&mut self.entities);
         let sizes = self.sizes.map(|it| it.size());
-        let (phase, mut reservers) = entities.share_in_blocks(&sizes)?;
+        let (phase, mut reservers) = entities.share_in::<Blocks>(&sizes)?;
         let game = &*self;
         let systems: [_; SYSTEMS] = std::array::from_fn(|system| {
             move |commands: &mut LogCommands<'_, Command, Blocks>| game.run(system, commands)
@@ -242,7 +242,7 @@ fn play_world(workers: usize) -> Result<Vec<Vec<u8>>> {
         }
     });
     for _ in 0..WORLD_FRAMES {
-        let (phase, mut reservers) = world.open_in_blocks(&sizes.map(|it| it.size()))?;
+        let (phase, mut reservers) = world.open_in::<Blocks>(&sizes.map(|it| it.size()))?;
         let queues = fill_in_blocks(&StdThreads, &phase, &mut reservers, &systems, workers)?;
         for (size, reserver) in sizes.iter_mut().zip(&reservers) {
             size.adapt(reserver.wanted());

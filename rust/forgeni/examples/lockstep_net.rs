@@ -96,7 +96,7 @@ impl Game {
             }
         });
         let world = std::mem::take(&mut self.world);
-        let (phase, mut reservers) = world.open_in_blocks(&self.sizes.map(|it| it.size()))?;
+        let (phase, mut reservers) = world.open_in::<Blocks>(&self.sizes.map(|it| it.size()))?;
         let queues = fill_in_blocks(&StdThreads, &phase, &mut reservers, &systems, workers)?;
         for (size, reserver) in self.sizes.iter_mut().zip(&reservers) {
             size.adapt(reserver.wanted());

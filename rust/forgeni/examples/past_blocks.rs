@@ -23,7 +23,7 @@ fn main() -> Result<(), Box<dyn Error>> {
     let mut sizes = [BlockSize::new(1 << 16); SYSTEMS];
     let (mut wanted, mut past) = (0, 0);
     for frame in 0..FRAMES {
-        let (phase, mut reservers) = entities.share_behind_blocks(&sizes.map(|it| it.size()))?;
+        let (phase, mut reservers) = entities.share_in::<Overflow>(&sizes.map(|it| it.size()))?;
         let refused = run(frame, &mut reservers);
         assert_eq!(refused, 0, "the allocator has handles for all");
         for (size, reserver) in sizes.iter_mut().zip(&reservers) {

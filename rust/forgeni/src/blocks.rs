@@ -1,19 +1,16 @@
 //! Blocks: the handles that come next are dealt to callers in advance, so which handle a caller
 //! gets doesn't depend on which thread is first.
 //!
-//! There are two kinds:
-//! - [`Entities::share_in_blocks`](crate::Entities::share_in_blocks) and
-//!   [`World::open_in_blocks`](crate::World::open_in_blocks) deal blocks that refuse a request for
-//!   more than they have left. So no handle ever depends on a thread.
-//! - [`Entities::share_behind_blocks`](crate::Entities::share_behind_blocks) and
-//!   [`World::open_behind_blocks`](crate::World::open_behind_blocks) deal blocks, and share the
-//!   handles behind them. A reserver whose block is used up goes on to the shared handles, so none
-//!   is refused as long as the allocator has handles. If [`Ended::requested_past`] is 0 at the end,
-//!   no handle depends on a thread. Use it if no spawn may be lost.
+//! [`Entities::share_in`](crate::Entities::share_in) and [`World::open_in`](crate::World::open_in)
+//! open a [`Phase`] in blocks, of one of two kinds:
+//! - [`Blocks`] refuse a request for more than they have left. So no handle ever depends on a
+//!   thread.
+//! - [`Overflow`] shares the handles behind the blocks. A reserver whose block is used up goes on to
+//!   them, so none is refused as long as the allocator has handles. If [`Ended::requested_past`] is
+//!   0 at the end, no handle depends on a thread. Use it if no spawn may be lost.
 //!
-//! Each opens a [`Phase`] with the same calls. [`run_in_blocks`](crate::run_in_blocks) runs systems
-//! that fill logs in blocks of the first kind, and [`fill_in_blocks`](crate::fill_in_blocks) runs
-//! the systems of a world. A [`BlockSize`] for each system [adapts](BlockSize::adapt) to what it
+//! [`run_in_blocks`](crate::run_in_blocks) runs systems that fill logs in [`Blocks`], and
+//! [`fill_in_blocks`](crate::fill_in_blocks) runs the systems of a world. A [`BlockSize`] for each system [adapts](BlockSize::adapt) to what it
 //! wanted, frame by frame:
 //!
 //! ```
@@ -30,7 +27,7 @@
 //!             Err(why) => why.or_memory(),
 //!         })
 //!     };
-//!     let (phase, mut reservers) = entities.share_in_blocks(&sizes.map(|it| it.size()))?;
+//!     let (phase, mut reservers) = entities.share_in::<Blocks>(&sizes.map(|it| it.size()))?;
 //!     let mut logs = run_in_blocks(&StdThreads, &phase, &mut reservers, &[launch; 3], 2)?;
 //!     for (size, reserver) in sizes.iter_mut().zip(&reservers) {
 //!         size.adapt(reserver.wanted());
@@ -48,11 +45,11 @@
 //! With threads of your own, and blocks that never refuse:
 //!
 //! ```
-//! use forgeni::{BlockSize, Entities};
+//! use forgeni::{BlockSize, Entities, Overflow};
 //!
 //! let (mut entities, mut sizes) = (Entities::new(), [BlockSize::new(1_000); 3]);
 //! for wave in [40, 60, 900] {
-//!     let (phase, mut reservers) = entities.share_behind_blocks(&sizes.map(|it| it.size()))?;
+//!     let (phase, mut reservers) = entities.share_in::<Overflow>(&sizes.map(|it| it.size()))?;
 //!     std::thread::scope(|scope| {
 //!         for mine in &mut reservers {
 //!             scope.spawn(move || (0..wave).for_each(|_| drop(mine.reserve())));
@@ -88,20 +85,22 @@ impl Entities {
     /// [`share`](Self::share) gives each request the next handle, so which thread gets which handle
     /// depends on the order in which they ask. In blocks it doesn't: the handles of a caller depend
     /// on the allocator, on the sizes, and on what this caller reserved before. So a simulation
-    /// whose callers are its systems is the same with any number of threads. A reservation takes no
-    /// atomic step.
+    /// whose callers are its systems is the same with any number of threads. A reservation from a
+    /// block takes no atomic step.
     ///
-    /// A request for more than is left of a block is refused. If no spawn may be lost, use
-    /// [`share_behind_blocks`](Self::share_behind_blocks).
+    /// In [`Blocks`] a request for more than is left of a block is refused. [`Overflow`] shares the
+    /// handles behind the blocks: a reserver whose block is used up goes on to them, so it is
+    /// refused only if the allocator has no more. [`Ended::requested_past`] counts the handles that
+    /// were requested there: if it is 0, no handle depends on a thread.
     ///
     /// Opening takes time and memory for each block, however large it is. [`Phase::close`] ends the
     /// phase with [`Ended`], which gives the allocator back, and a [`flush`](Self::flush) brings to
     /// life what was used.
     ///
     /// ```
-    /// use forgeni::Entities;
+    /// use forgeni::{Blocks, Entities};
     ///
-    /// let (phase, mut reservers) = Entities::new().share_in_blocks(&[64, 64])?;
+    /// let (phase, mut reservers) = Entities::new().share_in::<Blocks>(&[64, 64])?;
     /// std::thread::scope(|scope| {
     ///     for (number, mine) in reservers.iter_mut().enumerate() {
     ///         scope.spawn(move || {
@@ -120,34 +119,12 @@ impl Entities {
     /// # Ok::<(), Box<dyn std::error::Error + Send + Sync>>(())
     /// ```
     ///
-    /// # Errors
-    ///
-    /// [`HandedBack`] has the allocator as it was, and [`ShareError::NeedsFlush`] or
-    /// [`ShareError::Memory`].
-    ///
-    /// # Aborts
-    ///
-    /// The same as for `share`.
-    pub fn share_in_blocks(
-        self,
-        sizes: &[u32],
-    ) -> Result<(Phase<Blocks>, Vec<Reserver<Blocks>>), HandedBack<Entities, ShareError>> {
-        opened(share_in(self, sizes), Ended::cancel)
-    }
-
-    /// Deals the next handles in blocks of these sizes, at most 1,023 of them, and shares the rest.
-    /// A reserver whose block is used up goes on to the shared handles, so it is refused only
-    /// if the allocator has no more.
-    ///
-    /// A reservation from a block makes no atomic step. As long as no reserver goes past its block,
-    /// its handles depend only on the allocator, the sizes and what it reserved before.
-    /// [`Ended::requested_past`] counts the handles requested past the blocks: if it is 0, no
-    /// handle depends on a thread.
+    /// With callers that go on past their blocks:
     ///
     /// ```
-    /// use forgeni::Entities;
+    /// use forgeni::{Entities, Overflow};
     ///
-    /// let (phase, mut reservers) = Entities::new().share_behind_blocks(&[2, 2])?;
+    /// let (phase, mut reservers) = Entities::new().share_in::<Overflow>(&[2, 2])?;
     /// let second = reservers[1].reserve()?;
     /// let first = reservers[0].reserve_many(2)?;
     /// let past = reservers[0].reserve()?;
@@ -166,16 +143,17 @@ impl Entities {
     ///
     /// # Errors
     ///
-    /// The same as for [`share`](Self::share), and [`ShareError::Count`] for more than 1,023
-    /// blocks.
+    /// [`HandedBack`] has the allocator as it was, and the first of these errors that applies:
+    /// [`ShareError::NeedsFlush`], [`ShareError::Count`] for more than 1,023 blocks of an
+    /// [`Overflow`], [`ShareError::Memory`].
     ///
     /// # Aborts
     ///
     /// The same as for `share`.
-    pub fn share_behind_blocks(
+    pub fn share_in<S: Deals>(
         self,
         sizes: &[u32],
-    ) -> Result<(Phase<Overflow>, Vec<Reserver<Overflow>>), HandedBack<Entities, ShareError>> {
+    ) -> Result<(Phase<S>, Vec<Reserver<S>>), HandedBack<Entities, ShareError>> {
         opened(share_in(self, sizes), Ended::cancel)
     }
 }

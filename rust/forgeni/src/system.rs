@@ -45,7 +45,7 @@ pub type WorldCommands<'a, S = SharedSource> = SystemCommands<'a, IssuedCommands
 ///
 /// ```
 /// # #[cfg(feature = "std")] {
-/// use forgeni::{run_in_blocks, run_logs, StdThreads};
+/// use forgeni::{run_in_blocks, run_logs, Blocks, StdThreads};
 /// use forgeni::{Entities, LogCommands, OutOfMemory, Source};
 ///
 /// fn burst<S: Source>(commands: &mut LogCommands<'_, u8, S>) -> Result<(), OutOfMemory> {
@@ -61,7 +61,7 @@ pub type WorldCommands<'a, S = SharedSource> = SystemCommands<'a, IssuedCommands
 /// let mut entities = Entities::new();
 /// let shared = run_logs(&StdThreads, &mut entities, &[burst; 2], 2)?;
 /// entities.flush(&mut Vec::new())?;
-/// let (phase, mut reservers) = entities.share_in_blocks(&[3, 3])?;
+/// let (phase, mut reservers) = entities.share_in::<Blocks>(&[3, 3])?;
 /// let in_blocks = run_in_blocks(&StdThreads, &phase, &mut reservers, &[burst; 2], 2)?;
 /// assert!(shared.iter().chain(&in_blocks).all(|log| log.len() == 6));
 /// # }

@@ -4,8 +4,8 @@
 //! of [`Reservers`] serves threads that come and go.
 //!
 //! A phase can also be opened [in blocks](crate::blocks), where the handles of a caller don't
-//! depend on the other threads: [`Entities::share_in_blocks`](crate::Entities::share_in_blocks)
-//! opens a `Phase<Blocks>`, which has the same calls.
+//! depend on the other threads: [`Entities::share_in`](crate::Entities::share_in) opens a
+//! `Phase<Blocks>`, which has the same calls.
 //!
 //! ```
 //! use forgeni::Entities;

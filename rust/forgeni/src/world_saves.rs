@@ -4,7 +4,7 @@
 use crate::numbers::next_number;
 use crate::phase::opened;
 use crate::phases::{clone_world, clone_world_from, open, open_in, read_world, read_world_within};
-use crate::{Blocks, EndedWorld, HandedBack, InWorld, OpenWorld, OutOfMemory, Overflow};
+use crate::{Deals, EndedWorld, HandedBack, InWorld, OpenWorld, OutOfMemory};
 use crate::{Phase, Reserver, ShareError, World, WorldImageFault};
 use alloc::vec::Vec;
 
@@ -181,13 +181,19 @@ impl World {
     /// no more handles. [`Phase::close`] ends the phase with [`EndedWorld`], which gives the world
     /// back.
     ///
-    /// Callers can be systems: [`fill_in_blocks`](crate::fill_in_blocks) runs them. Then
+    /// In [`Blocks`](crate::Blocks) a request for more than is left of a block is refused.
+    /// [`Overflow`](crate::Overflow) shares the handles behind the blocks: a reserver whose block is
+    /// used up goes on to them, so it is refused only if the world has no more.
+    /// [`EndedWorld::requested_past`] counts the handles that were requested there: if it is 0, no
+    /// handle depends on a thread.
+    ///
+    /// Callers can be systems: [`fill_in_blocks`](crate::fill_in_blocks) runs them in `Blocks`. Then
     /// [`apply`](Self::apply) takes their queues.
     ///
     /// ```
-    /// use forgeni::World;
+    /// use forgeni::{Blocks, World};
     ///
-    /// let (phase, mut reservers) = World::new().open_in_blocks(&[64, 64])?;
+    /// let (phase, mut reservers) = World::new().open_in::<Blocks>(&[64, 64])?;
     /// let one = reservers[1].reserve()?;
     /// assert_eq!(one.index(), 64);
     /// let mut world = phase.close(reservers)?.into_world()?;
@@ -198,35 +204,12 @@ impl World {
     /// # Ok::<(), Box<dyn std::error::Error + Send + Sync>>(())
     /// ```
     ///
-    /// # Errors
-    ///
-    /// [`HandedBack`] has the world as it was, and [`ShareError::NeedsFlush`] or
-    /// [`ShareError::Memory`].
-    ///
-    /// # Aborts
-    ///
-    /// The same as for [`open`](Self::open).
-    pub fn open_in_blocks(
-        self,
-        sizes: &[u32],
-    ) -> Result<
-        (Phase<InWorld<Blocks>>, Vec<Reserver<InWorld<Blocks>>>),
-        HandedBack<World, ShareError>,
-    > {
-        opened(open_in(self, sizes), EndedWorld::cancel)
-    }
-
-    /// Opens the world in blocks of these sizes, at most 1,023 of them, and shares the handles
-    /// behind them. A reserver whose block is used up goes on to the shared handles, so it is
-    /// refused only if the world has no more.
-    ///
-    /// As long as no reserver goes past its block, no handle depends on a thread.
-    /// [`EndedWorld::requested_past`] counts the handles requested past the blocks.
+    /// With callers that go on past their blocks:
     ///
     /// ```
-    /// use forgeni::World;
+    /// use forgeni::{Overflow, World};
     ///
-    /// let (phase, mut reservers) = World::new().open_behind_blocks(&[2, 2])?;
+    /// let (phase, mut reservers) = World::new().open_in::<Overflow>(&[2, 2])?;
     /// let wave = reservers[0].reserve_many(2)?;
     /// let past = reservers[0].reserve()?;
     /// assert_eq!((wave[1].index(), past.index()), (1, 4));
@@ -240,19 +223,17 @@ impl World {
     ///
     /// # Errors
     ///
-    /// The same as for [`open_in_blocks`](Self::open_in_blocks), and [`ShareError::Count`] for more
-    /// than 1,023 blocks.
+    /// [`HandedBack`] has the world as it was, and the first of these errors that applies:
+    /// [`ShareError::NeedsFlush`], [`ShareError::Count`] for more than 1,023 blocks of an
+    /// [`Overflow`](crate::Overflow), [`ShareError::Memory`].
     ///
     /// # Aborts
     ///
     /// The same as for [`open`](Self::open).
-    pub fn open_behind_blocks(
+    pub fn open_in<S: Deals>(
         self,
         sizes: &[u32],
-    ) -> Result<
-        (Phase<InWorld<Overflow>>, Vec<Reserver<InWorld<Overflow>>>),
-        HandedBack<World, ShareError>,
-    > {
+    ) -> Result<(Phase<InWorld<S>>, Vec<Reserver<InWorld<S>>>), HandedBack<World, ShareError>> {
         opened(open_in(self, sizes), EndedWorld::cancel)
     }
 }

@@ -12,7 +12,7 @@ use std::panic::{catch_unwind, AssertUnwindSafe};
 type Parts = (Phase<Overflow>, Vec<Reserver<Overflow>>);
 
 fn opened(sizes: &[u32]) -> Parts {
-    let opened = Entities::new().share_behind_blocks(sizes);
+    let opened = Entities::new().share_in::<Overflow>(sizes);
     opened.expect("memory")
 }
 
@@ -114,11 +114,11 @@ fn what_was_alive_and_what_is_refused() {
     let old = entities.alloc().expect("a handle");
     entities.try_set_row(old, 3).expect("memory");
     let refused = entities
-        .share_behind_blocks(&[0; 1_024])
+        .share_in::<Overflow>(&[0; 1_024])
         .expect_err("a block too many");
     let (entities, error) = refused.into_parts();
     assert_eq!(error, ShareError::Count);
-    let (phase, mut reservers) = entities.share_behind_blocks(&[0; 1_023]).expect("memory");
+    let (phase, mut reservers) = entities.share_in::<Overflow>(&[0; 1_023]).expect("memory");
     assert_eq!(
         (phase.count(), phase.entities().len(), reservers.len()),
         (1_023, 1, 1_023)
@@ -142,7 +142,7 @@ fn what_was_alive_and_what_is_refused() {
     assert_eq!((entities.reserved(), entities.alloc()), (0, Ok(new)));
     let _reserved = entities.request();
     let refused = entities
-        .share_behind_blocks(&[1])
+        .share_in::<Overflow>(&[1])
         .expect_err("it needs a flush");
     assert_eq!(refused.error(), &ShareError::NeedsFlush);
 }
@@ -221,7 +221,7 @@ fn world() -> (World, [Handle; 2]) {
 #[test]
 fn a_world_whose_spawns_go_past_the_blocks() {
     let (world, [old, other]) = world();
-    let (phase, mut reservers) = world.open_behind_blocks(&[2, 3]).expect("memory");
+    let (phase, mut reservers) = world.open_in::<Overflow>(&[2, 3]).expect("memory");
     assert_eq!((phase.count(), phase.entities().len()), (2, 2));
     assert_eq!(phase.view().get(old, AGE), Some(80));
     assert!(
@@ -268,7 +268,7 @@ fn adapt<S: InBlocks>(sizes: &mut [BlockSize], reservers: &[Reserver<S>]) {
 #[test]
 fn a_world_without_more_handles() {
     let world = World::with_limits(forgeni::Limits::new(5, 1).expect("limits"));
-    let (phase, mut reservers) = world.open_behind_blocks(&[2, 2]).expect("memory");
+    let (phase, mut reservers) = world.open_in::<Overflow>(&[2, 2]).expect("memory");
     let [one, two] = reservers.as_mut_slice() else {
         panic!("two reservers");
     };
@@ -293,21 +293,21 @@ fn a_world_without_more_handles() {
 fn a_world_that_is_not_opened_behind_blocks() {
     let (world, [old, _]) = world();
     let (world, error) = world
-        .open_behind_blocks(&[0; 1_024])
+        .open_in::<Overflow>(&[0; 1_024])
         .expect_err("a block too many")
         .into_parts();
     assert_eq!((error, world.len()), (ShareError::Count, 2));
-    let (phase, reservers) = world.open_behind_blocks(&[1; 1_023]).expect("memory");
+    let (phase, reservers) = world.open_in::<Overflow>(&[1; 1_023]).expect("memory");
     let mut world = phase.close(reservers).expect("all are here").cancel();
     assert!(world.contains(old) && !world.needs_flush());
     // Blocks that refuse may be any number.
-    let (phase, mut reservers) = world.open_in_blocks(&[1; 1_100]).expect("memory");
+    let (phase, mut reservers) = world.open_in::<Blocks>(&[1; 1_100]).expect("memory");
     assert_eq!(reservers[1_099].reserve().map(Handle::index), Ok(1_101));
     let ended = phase.close(reservers).expect("all are here");
     world = ended.into_world().expect("memory");
     for sizes in [&[1][..], &[0; 1_024]] {
         let unopened = world
-            .open_behind_blocks(sizes)
+            .open_in::<Overflow>(sizes)
             .expect_err("it needs a flush");
         let error;
         (world, error) = unopened.into_parts();
@@ -343,15 +343,17 @@ fn one_function_for_all_kinds_of_blocks() {
         of.requested_past()
     }
     let sizes = [3, 0, 4];
-    let parts = Entities::new().share_in_blocks(&sizes).expect("memory");
+    let parts = Entities::new().share_in::<Blocks>(&sizes).expect("memory");
     let (ended, counts) = all_and_one(parts);
     assert_eq!((past::<Blocks>(ended), counts), (0, [7, 3]));
-    let parts = Entities::new().share_behind_blocks(&sizes).expect("memory");
+    let parts = Entities::new()
+        .share_in::<Overflow>(&sizes)
+        .expect("memory");
     let (ended, counts) = all_and_one(parts);
     assert_eq!((past::<Overflow>(ended), counts), (3, [10, 0]));
-    let (ended, counts) = all_and_one(World::new().open_in_blocks(&sizes).expect("memory"));
+    let (ended, counts) = all_and_one(World::new().open_in::<Blocks>(&sizes).expect("memory"));
     assert_eq!((ended.requested_past(), counts), (0, [7, 3]));
-    let (ended, counts) = all_and_one(World::new().open_behind_blocks(&sizes).expect("memory"));
+    let (ended, counts) = all_and_one(World::new().open_in::<Overflow>(&sizes).expect("memory"));
     assert_eq!((ended.requested_past(), counts), (3, [10, 0]));
 }
 
@@ -366,7 +368,7 @@ fn logs_and_pools_of_a_world_in_blocks() {
         };
         assert_eq!(mine.fill(log, &fills), Ok(()));
     }
-    let (phase, mut reservers) = World::new().open_behind_blocks(&[1, 1]).expect("memory");
+    let (phase, mut reservers) = World::new().open_in::<Overflow>(&[1, 1]).expect("memory");
     let mut log = Log::new();
     for wanted in [1, 2] {
         burst::<InWorld<Overflow>>(&mut reservers[0], &mut log);
@@ -390,7 +392,7 @@ fn they_go_to_any_thread() {
     goes::<PartsOf<InWorld<Blocks>>>();
     goes::<PartsOf<InWorld<Overflow>>>();
     goes::<EndedWorld>();
-    let (phase, mut reservers) = world().0.open_in_blocks(&[4; 3]).expect("memory");
+    let (phase, mut reservers) = world().0.open_in::<Blocks>(&[4; 3]).expect("memory");
     let (phase, seen) = (&phase, std::sync::atomic::AtomicUsize::new(0));
     std::thread::scope(|scope| {
         for mine in &mut reservers {

@@ -67,7 +67,7 @@ fn used() -> (Entities, Model) {
 type Parts<S = Blocks> = (Phase<S>, Vec<Reserver<S>>);
 
 fn opened(sizes: &[u32]) -> Parts {
-    used().0.share_in_blocks(sizes).expect("memory")
+    used().0.share_in::<Blocks>(sizes).expect("memory")
 }
 
 fn closed((phase, reservers): Parts) -> Entities {
@@ -184,7 +184,7 @@ fn digests(workers: usize) -> Vec<u64> {
     (0..100)
         .map(|frame| {
             let (phase, mut reservers) = std::mem::take(&mut entities)
-                .share_in_blocks(&[6; SYSTEMS as usize])
+                .share_in::<Blocks>(&[6; SYSTEMS as usize])
                 .expect("memory");
             let seen = &values;
             let system = |number: u64| {
@@ -609,7 +609,7 @@ fn image_of(world: &World) -> Vec<u8> {
 }
 
 fn open(world: World, sizes: &[u32]) -> Parts<InWorld<Blocks>> {
-    world.open_in_blocks(sizes).expect("memory")
+    world.open_in::<Blocks>(sizes).expect("memory")
 }
 
 fn ended((phase, reservers): Parts<InWorld<Blocks>>) -> World {
@@ -957,7 +957,9 @@ fn a_world_is_opened_in_blocks_only_after_a_flush() {
     let one = reservers[0].reserve().expect("a handle");
     assert_eq!((phase.count(), reservers[0].wanted()), (1, 1));
     let closed = ended((phase, reservers));
-    let unopened = closed.open_in_blocks(&[2]).expect_err("it needs a flush");
+    let unopened = closed
+        .open_in::<Blocks>(&[2])
+        .expect_err("it needs a flush");
     assert_eq!(unopened.to_string(), "a flush is needed first");
     let (mut world, error) = unopened.into_parts();
     assert_eq!(error, ShareError::NeedsFlush);

@@ -12,7 +12,7 @@ use std::thread;
 type Parts = (Phase<Blocks>, Vec<Reserver<Blocks>>);
 
 fn opened(entities: Entities, sizes: &[u32]) -> Parts {
-    entities.share_in_blocks(sizes).expect("memory")
+    entities.share_in::<Blocks>(sizes).expect("memory")
 }
 
 /// The allocator after a phase of which all reservers are here.
@@ -246,7 +246,7 @@ fn new_slots() {
 fn a_phase_that_is_not_opened() {
     let mut entities = small(9, 9);
     entities.request().expect("a handle");
-    let (entities, error) = entities.share_in_blocks(&[1]).unwrap_err().into_parts();
+    let (entities, error) = entities.share_in::<Blocks>(&[1]).unwrap_err().into_parts();
     assert_eq!((error, entities.reserved()), (ShareError::NeedsFlush, 1));
 }
 

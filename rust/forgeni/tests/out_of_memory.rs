@@ -2114,7 +2114,7 @@ mod frames {
 
     /// Blocks of six handles.
     fn opened() -> Parts {
-        two().open_in_blocks(&[6; 3]).expect("memory")
+        two().open_in::<Blocks>(&[6; 3]).expect("memory")
     }
 
     fn used_of(reservers: &[Reserver<InWorld<Blocks>>]) -> Vec<u32> {
@@ -2230,8 +2230,8 @@ mod frames {
                 refused
             });
         }
-        refuses::<Blocks>(World::open_in_blocks);
-        refuses::<Overflow>(World::open_behind_blocks);
+        refuses::<Blocks>(World::open_in::<Blocks>);
+        refuses::<Overflow>(World::open_in::<Overflow>);
     }
 
     /// An allocator that isn't shared in blocks is handed back. What the phase ends with gives it
@@ -2266,15 +2266,15 @@ mod frames {
                 refused + more
             });
         }
-        refuses::<Blocks>(Entities::share_in_blocks);
-        refuses::<Overflow>(Entities::share_behind_blocks);
+        refuses::<Blocks>(Entities::share_in::<Blocks>);
+        refuses::<Overflow>(Entities::share_in::<Overflow>);
     }
 
     /// The world after blocks that were used, and past them, is made again if memory ran out.
     #[test]
     fn a_world_behind_blocks_that_are_used() {
         each_in_turn(|refusal| {
-            let (phase, mut reservers) = two().open_behind_blocks(&[2, 40]).expect("memory");
+            let (phase, mut reservers) = two().open_in::<Overflow>(&[2, 40]).expect("memory");
             for wanted in [2, 3] {
                 reservers[0].reserve_many(wanted).expect("a handle");
             }
@@ -2386,6 +2386,8 @@ const ONE_REFUSED: &str = "FORGENI_ONE_REFUSED";
 
 /// Makes that call while one request is refused. It makes no more requests than a few.
 fn with_one_refused(call: &str, after: usize) {
+    use forgeni::{Blocks, Overflow};
+
     let refusal = Refusal::One { after };
     match call {
         "share" => {
@@ -2395,22 +2397,22 @@ fn with_one_refused(call: &str, after: usize) {
         }
         "blocks" => {
             let entities = three();
-            let (shared, refused) = refusing(refusal, || entities.share_in_blocks(&[3; 5]));
+            let (shared, refused) = refusing(refusal, || entities.share_in::<Blocks>(&[3; 5]));
             assert_eq!(shared.is_err(), refused > 0);
         }
         "behind" => {
             let entities = three();
-            let (shared, refused) = refusing(refusal, || entities.share_behind_blocks(&[3; 5]));
+            let (shared, refused) = refusing(refusal, || entities.share_in::<Overflow>(&[3; 5]));
             assert_eq!(shared.is_err(), refused > 0);
         }
         "world" => {
             let world = two();
-            let (opened, refused) = refusing(refusal, || world.open_in_blocks(&[3; 5]));
+            let (opened, refused) = refusing(refusal, || world.open_in::<Blocks>(&[3; 5]));
             assert_eq!(opened.is_err(), refused > 0);
         }
         "world_behind" => {
             let world = two();
-            let (opened, refused) = refusing(refusal, || world.open_behind_blocks(&[3; 5]));
+            let (opened, refused) = refusing(refusal, || world.open_in::<Overflow>(&[3; 5]));
             assert_eq!(opened.is_err(), refused > 0);
         }
         _ => {

@@ -106,13 +106,13 @@ fn blocks_return_the_first_error() {
         .map(|number| move |_: &View<'_>, _: &mut WorldCommands<'_, Blocks>| told(number))
         .collect();
     for workers in WORKERS {
-        let shared = Entities::new().share_in_blocks(&[1; 40]);
+        let shared = Entities::new().share_in::<Blocks>(&[1; 40]);
         let (phase, mut reservers) = shared.expect("memory");
         let ran = run_in_blocks(&StdThreads, &phase, &mut reservers, &logging, workers);
         let error = ran.expect_err("system 7 stops");
         assert_eq!(error, RunError::Lost(Some(first())));
 
-        let (phase, mut reservers) = World::new().open_in_blocks(&[1; 40]).expect("memory");
+        let (phase, mut reservers) = World::new().open_in::<Blocks>(&[1; 40]).expect("memory");
         let filled = fill_in_blocks(&StdThreads, &phase, &mut reservers, &issuing, workers);
         let error = filled.expect_err("system 7 stops");
         assert_eq!(error, RunError::Lost(Some(first())));

@@ -1,7 +1,7 @@
 //! What is a system, of either kind and over either source of handles.
 
 use forgeni::{
-    fill_in_blocks, run_frame, run_in_blocks, run_logs, Entities, Handle, Log, LogCommands,
+    fill_in_blocks, run_frame, run_in_blocks, run_logs, Blocks, Entities, Handle, Log, LogCommands,
     LogSystem, OutOfMemory, Source, StdThreads, System, View, World, WorldCommands,
 };
 use std::sync::{Arc, Mutex};
@@ -74,7 +74,7 @@ fn of_a_world() {
 
 #[test]
 fn of_a_world_in_blocks() {
-    let (phase, mut reservers) = World::new().open_in_blocks(&[9, 1]).expect("memory");
+    let (phase, mut reservers) = World::new().open_in::<Blocks>(&[9, 1]).expect("memory");
     let systems: [&(dyn System<_> + Sync); 2] = [&All, &spawn];
     let queues = fill_in_blocks(&StdThreads, &phase, &mut reservers, &systems, 2).expect("memory");
     let ended = phase.close(reservers).expect("all are here");
@@ -93,7 +93,7 @@ fn of_logs() {
 
 #[test]
 fn of_logs_in_blocks() {
-    let shared = Entities::new().share_in_blocks(&[9, 1]);
+    let shared = Entities::new().share_in::<Blocks>(&[9, 1]);
     let (phase, mut reservers) = shared.expect("memory");
     let systems: [Box<dyn LogSystem<_, _> + Sync>; 2] = [Box::new(All), Box::new(burst)];
     let ran = run_in_blocks(&StdThreads, &phase, &mut reservers, &systems, 2);
@@ -103,7 +103,7 @@ fn of_logs_in_blocks() {
 /// A run of systems that fill logs can use the blocks of a world too.
 #[test]
 fn of_logs_in_the_blocks_of_a_world() {
-    let (phase, mut reservers) = World::new().open_in_blocks(&[9, 1]).expect("memory");
+    let (phase, mut reservers) = World::new().open_in::<Blocks>(&[9, 1]).expect("memory");
     let systems: [Box<dyn LogSystem<_, _> + Sync>; 2] = [Box::new(All), Box::new(burst)];
     let ran = run_in_blocks(&StdThreads, &phase, &mut reservers, &systems, 2);
     assert!(ran.expect("memory").iter().map(Log::len).eq([18, 2]));
@@ -140,7 +140,7 @@ fn systems_see_what_is_alive() {
     entities.free(all[2]).expect("alive");
     let logs = run_logs(&StdThreads, &mut entities, &[Sees(all)], 1).expect("memory");
     entities.flush(&mut vec![]).expect("memory");
-    let (phase, mut reservers) = entities.share_in_blocks(&[1]).expect("memory");
+    let (phase, mut reservers) = entities.share_in::<Blocks>(&[1]).expect("memory");
     let ran = run_in_blocks(&StdThreads, &phase, &mut reservers, &[Sees(all)], 1);
     let in_blocks = ran.expect("memory");
     let entries = |logs: &[Log<Handle>]| logs[0].entries().to_vec();

@@ -1,4 +1,5 @@
 //! An output whose reader may leave, as `head` does, and an error stream that stays silent then.
+ghost use Rattle.std.specs.Prelude.{◌≡◌};
 
 use std::cell::Cell;
 use std::io;
@@ -13,7 +14,10 @@ pub struct Noting<'a, W> {
 
 impl<'a, W> Noting<'a, W> {
     /// Makes one that sets `has_left`.
-    pub fn new(writer: W, has_left: &'a Cell<bool>) -> Self {
+    pub fn new(writer: W, has_left: &'a Cell<bool>) -> Self
+        ensures writer { result.writer ≡ writer }
+        ensures has_left { result.has_left ≡ has_left.entry }
+    {
         Noting { writer, has_left }
     }
 }
@@ -45,7 +49,10 @@ pub struct Muted<'a, W> {
 
 impl<'a, W> Muted<'a, W> {
     /// Makes one that looks at `has_left`, which a `Noting` sets.
-    pub fn new(writer: W, has_left: &'a Cell<bool>) -> Self {
+    pub fn new(writer: W, has_left: &'a Cell<bool>) -> Self
+        ensures writer { result.writer ≡ writer }
+        ensures has_left { result.has_left ≡ has_left.entry }
+    {
         Muted { writer, has_left }
     }
 }

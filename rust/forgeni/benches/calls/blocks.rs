@@ -105,7 +105,7 @@ fn counted(threads: usize) -> f64 {
 type Parts = (Phase<Blocks>, Vec<Reserver<Blocks>>);
 
 fn opened(entities: Entities, sizes: &[u32]) -> Parts {
-    entities.share_in_blocks(sizes).expect("memory")
+    entities.share_in::<Blocks>(sizes).expect("memory")
 }
 
 fn closed((phase, reservers): Parts) -> Entities {

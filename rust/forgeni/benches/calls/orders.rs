@@ -6,7 +6,7 @@
 //! from an image has births wherever slots wait.
 
 use crate::{counted, median, rounds, timed, Run};
-use forgeni::{Birth, Entities, Handle, Storage, World};
+use forgeni::{Birth, Blocks, Entities, Handle, Storage, World};
 use std::hint::black_box;
 
 /// How many births there are: few, and ten times as many.
@@ -61,7 +61,7 @@ pub fn table() {
 
 /// A world in blocks of these sizes, of which half is used.
 fn half_used(world: World, sizes: &[u32]) -> World {
-    let (phase, mut reservers) = world.open_in_blocks(sizes).expect("memory");
+    let (phase, mut reservers) = world.open_in::<Blocks>(sizes).expect("memory");
     for (reserver, size) in reservers.iter_mut().zip(sizes) {
         let reserved = reserver.reserve_many(size / 2);
         reserved.expect("the block has them");

@@ -229,18 +229,20 @@ fn std_s_calls_end_the_process() {
 /// Sizes above those at which a list might be thought long.
 mod of_many {
     use super::*;
+    use forgeni::Blocks;
+
     /// More than 500 blocks.
     #[test]
     fn blocks() {
         let sizes = [2; 1_100];
         each_block_in_turn(|refusal| {
             let entities = three();
-            let (opened, refused) = refusing(refusal, || entities.share_in_blocks(&sizes));
+            let (opened, refused) = refusing(refusal, || entities.share_in::<Blocks>(&sizes));
             let (phase, mut reservers) = opened.unwrap_or_else(|undealt| {
                 assert!(refused > 0);
                 let (entities, error) = undealt.into_parts();
                 assert_eq!((error, entities.len()), (ShareError::Memory, 2));
-                entities.share_in_blocks(&sizes).expect("memory")
+                entities.share_in::<Blocks>(&sizes).expect("memory")
             });
             assert_eq!(reservers.len(), 1_100);
             reservers[1_099].reserve().expect("of the block");
@@ -261,13 +263,13 @@ mod of_many {
         });
         each_block_in_turn(|refusal| {
             let world = two();
-            let (opened, refused) = refusing(refusal, || world.open_in_blocks(&sizes));
+            let (opened, refused) = refusing(refusal, || world.open_in::<Blocks>(&sizes));
             let (phase, reservers) = opened.unwrap_or_else(|undealt| {
                 assert!(refused > 0);
                 let (world, error) = undealt.into_parts();
                 assert_eq!(error, ShareError::Memory);
                 assert_eq!(all(&world), all(&two()));
-                world.open_in_blocks(&sizes).expect("memory")
+                world.open_in::<Blocks>(&sizes).expect("memory")
             });
             assert_eq!(reservers.len(), 1_100);
             let ended = phase.close(reservers).expect("all are here");
@@ -401,7 +403,7 @@ mod systems {
         };
         let systems = vec![system; 1_100];
         each_in_turn(|refusal| {
-            let shared = three().share_in_blocks(&[1; 1_100]);
+            let shared = three().share_in::<Blocks>(&[1; 1_100]);
             let (phase, mut reservers) = shared.expect("memory");
             let mut run = || run_in_blocks(&StdThreads, &phase, &mut reservers, &systems, 1);
             let (done, refused) = refusing(refusal, &mut run);

@@ -9,7 +9,7 @@ use crate::allocator::source::Source;
 /// Phases, and how they end, depend only on this trait, whatever their source is.
 ///
 /// ```
-/// use forgeni::{Entities, Phase, Phased, Reserver};
+/// use forgeni::{Entities, Overflow, Phase, Phased, Reserver};
 ///
 /// /// Ends a phase of either kind, if all of its reservers are there.
 /// fn end<S: Phased>(phase: Phase<S>, all: Vec<Reserver<S>>) -> Option<S::Closed> {
@@ -18,7 +18,7 @@ use crate::allocator::source::Source;
 ///
 /// let (shared, reservers) = Entities::new().share(2)?;
 /// assert!(end(shared, reservers).is_some());
-/// let (in_blocks, reservers) = Entities::new().share_behind_blocks(&[10])?;
+/// let (in_blocks, reservers) = Entities::new().share_in::<Overflow>(&[10])?;
 /// assert!(end(in_blocks, reservers).is_some());
 /// # Ok::<(), Box<dyn std::error::Error + Send + Sync>>(())
 /// ```

@@ -8,10 +8,10 @@
 /// next block has enough for that one too, unless the limit is less.
 ///
 /// ```
-/// use forgeni::{BlockSize, Entities};
+/// use forgeni::{BlockSize, Blocks, Entities};
 ///
 /// let mut sizes = [BlockSize::new(1000); 2];
-/// let (_phase, mut reservers) = Entities::new().share_in_blocks(&sizes.map(|it| it.size()))?;
+/// let (_phase, mut reservers) = Entities::new().share_in::<Blocks>(&sizes.map(|it| it.size()))?;
 /// reservers[0].reserve_many(50)?;
 /// assert!(reservers[1].reserve_many(100).is_err());
 /// for (size, reserver) in sizes.iter_mut().zip(&reservers) {
@@ -89,11 +89,11 @@ impl BlockSize {
     /// Returns the size of the block in the next phase.
     ///
     /// ```
-    /// use forgeni::{BlockSize, Entities};
+    /// use forgeni::{BlockSize, Blocks, Entities};
     ///
     /// let mut sizes = [BlockSize::new(1_000); 3];
     /// sizes[2].adapt(400);
-    /// let (_phase, reservers) = Entities::new().share_in_blocks(&sizes.map(|it| it.size()))?;
+    /// let (_phase, reservers) = Entities::new().share_in::<Blocks>(&sizes.map(|it| it.size()))?;
     /// assert_eq!(reservers.iter().map(|one| one.size()).collect::<Vec<_>>(), [64, 64, 800]);
     /// # Ok::<(), Box<dyn std::error::Error>>(())
     /// ```

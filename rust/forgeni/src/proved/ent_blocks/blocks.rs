@@ -11,7 +11,7 @@ use crate::handles::Handle;
 
 /// The source of a phase in which the front of the pool is dealt in blocks, one to each reserver. A
 /// request for more than is left of a block is refused.
-/// [`Entities::share_in_blocks`](crate::Entities::share_in_blocks) opens a phase of it.
+/// [`Entities::share_in`](crate::Entities::share_in) opens a phase of it.
 ///
 /// Which handles a reserver gets depends on the allocator, on the sizes, and on what it has
 /// reserved before: not on other reservers or on threads. Many threads may reserve at once: no
@@ -20,7 +20,7 @@ use crate::handles::Handle;
 /// ```
 /// use forgeni::{Blocks, Entities, Phase, Reserver};
 ///
-/// let parts: (Phase<Blocks>, Vec<Reserver<Blocks>>) = Entities::new().share_in_blocks(&[10; 2])?;
+/// let parts: (Phase<Blocks>, Vec<Reserver<Blocks>>) = Entities::new().share_in::<Blocks>(&[10; 2])?;
 /// let (_phase, mut reservers) = parts;
 /// let mut firsts = [None; 2];
 /// std::thread::scope(|scope| {

@@ -12,14 +12,14 @@ use crate::handles::OutOfMemory;
 /// block, and [`Overflow`](crate::Overflow), whose reservers go on to handles that all share.
 ///
 /// ```
-/// use forgeni::{Deals, Entities, Phase, Reserver};
+/// use forgeni::{Blocks, Deals, Entities, Phase, Reserver};
 ///
 /// /// Ends a phase in blocks of either kind, if all of its reservers are there.
 /// fn end<S: Deals>(phase: Phase<S>, all: Vec<Reserver<S>>) -> Option<Entities> {
 ///     phase.close(all).ok()?.into_entities().ok()
 /// }
 ///
-/// let (phase, reservers) = Entities::new().share_in_blocks(&[10])?;
+/// let (phase, reservers) = Entities::new().share_in::<Blocks>(&[10])?;
 /// assert!(end(phase, reservers).is_some());
 /// # Ok::<(), Box<dyn std::error::Error + Send + Sync>>(())
 /// ```

@@ -9,9 +9,9 @@ use crate::handles::{HandedBack, OutOfMemory};
 /// A phase that has ended: the allocator, in which what was used is not yet reserved.
 ///
 /// ```
-/// use forgeni::Entities;
+/// use forgeni::{Entities, Overflow};
 ///
-/// let (phase, mut reservers) = Entities::new().share_behind_blocks(&[10])?;
+/// let (phase, mut reservers) = Entities::new().share_in::<Overflow>(&[10])?;
 /// reservers[0].reserve_many(10)?;
 /// let ended = phase.close(reservers)?;
 /// // Nothing was requested past the block, so no handle depends on a thread.
@@ -34,9 +34,9 @@ impl Ended {
     /// It takes time and memory as the gaps among the handles that were used ask for.
     ///
     /// ```
-    /// use forgeni::Entities;
+    /// use forgeni::{Entities, Overflow};
     ///
-    /// let (phase, mut reservers) = Entities::new().share_behind_blocks(&[2, 2])?;
+    /// let (phase, mut reservers) = Entities::new().share_in::<Overflow>(&[2, 2])?;
     /// let one = reservers[1].reserve()?;
     /// let mut entities = phase.close(reservers)?.into_entities()?;
     /// entities.flush(&mut Vec::new())?;
@@ -97,9 +97,9 @@ impl Ended {
     /// Returns the allocator as it was when the phase was opened: nothing is reserved.
     ///
     /// ```
-    /// use forgeni::Entities;
+    /// use forgeni::{Entities, Overflow};
     ///
-    /// let (phase, mut reservers) = Entities::new().share_behind_blocks(&[2])?;
+    /// let (phase, mut reservers) = Entities::new().share_in::<Overflow>(&[2])?;
     /// let first = reservers[0].reserve()?;
     /// // The frame is done again, without what it reserved.
     /// let mut entities = phase.close(reservers)?.cancel();
@@ -127,9 +127,9 @@ impl Ended {
     /// If it is 0, the handles that each caller got don't depend on the threads.
     ///
     /// ```
-    /// use forgeni::Entities;
+    /// use forgeni::{Entities, Overflow};
     ///
-    /// let (phase, mut reservers) = Entities::new().share_behind_blocks(&[2, 2])?;
+    /// let (phase, mut reservers) = Entities::new().share_in::<Overflow>(&[2, 2])?;
     /// reservers[1].reserve_many(2)?;
     /// reservers[1].reserve_many(3)?;
     /// // The block was used up, so three came from the shared handles.

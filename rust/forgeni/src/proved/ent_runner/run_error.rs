@@ -32,7 +32,7 @@ use core::fmt;
 ///     Ok(())
 /// }
 ///
-/// let (phase, mut reservers) = Entities::new().share_in_blocks(&[10])?;
+/// let (phase, mut reservers) = Entities::new().share_in::<Blocks>(&[10])?;
 /// let refused = run_in_blocks(&StdThreads, &phase, &mut reservers, &[idle; 2], 4);
 /// assert_eq!(refused.err(), Some(RunError::Reservers));
 /// # }

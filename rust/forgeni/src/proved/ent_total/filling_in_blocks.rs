@@ -28,7 +28,7 @@ use crate::kit::thread::Join;
 ///
 /// let (mut world, mut sizes) = (World::new(), [BlockSize::new(1000); 3]);
 /// for _frame in 0..2 {
-///     let (phase, mut reservers) = world.open_in_blocks(&sizes.map(|it| it.size()))?;
+///     let (phase, mut reservers) = world.open_in::<Blocks>(&sizes.map(|it| it.size()))?;
 ///     let queues = fill_in_blocks(&StdThreads, &phase, &mut reservers, &[launch; 3], 2)?;
 ///     for (size, reserver) in sizes.iter_mut().zip(&reservers) {
 ///         size.adapt(reserver.wanted());

@@ -15,9 +15,9 @@ use crate::worlds::{Dealt, View, WorldRest};
 /// The source of a world's phase: it serves as `S` does, and has the rest of the world.
 ///
 /// ```
-/// use forgeni::World;
+/// use forgeni::{Blocks, World};
 ///
-/// let (phase, mut reservers) = World::new().open_in_blocks(&[10; 4])?;
+/// let (phase, mut reservers) = World::new().open_in::<Blocks>(&[10; 4])?;
 /// std::thread::scope(|scope| {
 ///     for mine in &mut reservers {
 ///         scope.spawn(|| mine.reserve_many(10));
@@ -129,13 +129,13 @@ impl<S: Deals> Phase<InWorld<S>> {
     /// Returns a view of the world, like the one that a system of a frame gets.
     ///
     /// ```
-    /// use forgeni::{ComponentId, World};
+    /// use forgeni::{Blocks, ComponentId, World};
     ///
     /// const AGE: ComponentId = ComponentId(0);
     ///
     /// let mut world = World::new();
     /// let oak = world.spawn(&[(AGE, 80)])?;
-    /// let (phase, _reservers) = world.open_in_blocks(&[10])?;
+    /// let (phase, _reservers) = world.open_in::<Blocks>(&[10])?;
     /// assert_eq!(phase.view().get(oak, AGE), Some(80));
     /// # Ok::<(), Box<dyn std::error::Error>>(())
     /// ```
@@ -258,9 +258,9 @@ pub fn open_in<S: Deals>(
 /// A world whose phase in blocks has ended, in which what was used is not yet reserved.
 ///
 /// ```
-/// use forgeni::World;
+/// use forgeni::{Overflow, World};
 ///
-/// let (phase, mut reservers) = World::new().open_behind_blocks(&[10])?;
+/// let (phase, mut reservers) = World::new().open_in::<Overflow>(&[10])?;
 /// reservers[0].reserve_many(10)?;
 /// let ended = phase.close(reservers)?;
 /// // Nothing was requested past the block, so no handle depends on a thread.
@@ -284,9 +284,9 @@ impl EndedWorld {
     /// life. What is left of the blocks is given next, in the same order.
     ///
     /// ```
-    /// use forgeni::World;
+    /// use forgeni::{Blocks, World};
     ///
-    /// let (phase, mut reservers) = World::new().open_in_blocks(&[10, 10])?;
+    /// let (phase, mut reservers) = World::new().open_in::<Blocks>(&[10, 10])?;
     /// let one = reservers[1].reserve()?;
     /// let mut world = phase.close(reservers)?.into_world()?;
     /// world.flush()?;
@@ -345,9 +345,9 @@ impl EndedWorld {
     /// Returns the world as it was when the phase was opened: nothing is reserved.
     ///
     /// ```
-    /// use forgeni::World;
+    /// use forgeni::{Blocks, World};
     ///
-    /// let (phase, mut reservers) = World::new().open_in_blocks(&[10])?;
+    /// let (phase, mut reservers) = World::new().open_in::<Blocks>(&[10])?;
     /// let first = reservers[0].reserve()?;
     /// let mut world = phase.close(reservers)?.cancel();
     /// // The handle is given again, so it must not be used any more.
@@ -379,9 +379,9 @@ impl EndedWorld {
     /// [`Ended::requested_past`](crate::in_blocks::Ended::requested_past) does.
     ///
     /// ```
-    /// use forgeni::World;
+    /// use forgeni::{Overflow, World};
     ///
-    /// let (phase, mut reservers) = World::new().open_behind_blocks(&[10, 10])?;
+    /// let (phase, mut reservers) = World::new().open_in::<Overflow>(&[10, 10])?;
     /// reservers[0].reserve_many(10)?;
     /// reservers[0].reserve_many(5)?;
     /// assert_eq!(phase.close(reservers)?.requested_past(), 5);

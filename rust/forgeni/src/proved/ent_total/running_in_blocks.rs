@@ -79,7 +79,7 @@ where
 ///     Ok(one) => commands.push(format!("{one}")),
 ///     Err(refused) => refused.or_memory(),
 /// };
-/// let (phase, mut reservers) = Entities::new().share_in_blocks(&[64, 64])?;
+/// let (phase, mut reservers) = Entities::new().share_in::<Blocks>(&[64, 64])?;
 /// let mut logs = run_in_blocks(&StdThreads, &phase, &mut reservers, &[spawn; 2], 4)?;
 /// let mut entities = phase.close(reservers)?.into_entities()?;
 /// let mut born = Vec::new();
@@ -101,7 +101,7 @@ where
 ///     Err(OutOfMemory)
 /// }
 ///
-/// let (phase, mut reservers) = Entities::new().share_in_blocks(&[2, 2])?;
+/// let (phase, mut reservers) = Entities::new().share_in::<Blocks>(&[2, 2])?;
 /// let run = run_in_blocks(&StdThreads, &phase, &mut reservers, &[fails; 2], 1);
 /// assert_eq!(run.err(), Some(RunError::Lost(Some(OutOfMemory))));
 ///

@@ -14,6 +14,15 @@ pub struct Noting<'a, W> {
 
 impl<'a, W> Noting<'a, W> {
     /// Makes one that sets `has_left`.
+    ///
+    /// <details><summary>Contract</summary>
+    ///
+    /// <code style="display: block; tab-size: 4; white-space: pre-wrap">// In the words of [contracts](crate::contracts):
+    /// ensures writer { result.writer ≡ writer }
+    /// ensures has_left { result.has_left ≡ has_left.entry }
+    /// </code>
+    ///
+    /// </details>
     #[inline]
     pub fn new(writer: W, has_left: &'a Cell<bool>) -> Self {
         Noting { writer, has_left }
@@ -46,6 +55,15 @@ pub struct Muted<'a, W> {
 
 impl<'a, W> Muted<'a, W> {
     /// Makes one that looks at `has_left`, which a `Noting` sets.
+    ///
+    /// <details><summary>Contract</summary>
+    ///
+    /// <code style="display: block; tab-size: 4; white-space: pre-wrap">// In the words of [contracts](crate::contracts):
+    /// ensures writer { result.writer ≡ writer }
+    /// ensures has_left { result.has_left ≡ has_left.entry }
+    /// </code>
+    ///
+    /// </details>
     #[inline]
     pub fn new(writer: W, has_left: &'a Cell<bool>) -> Self {
         Muted { writer, has_left }

@@ -13,7 +13,7 @@ use crate::reserving::{SharedReserver, SharedSource};
 
 /// The source of a phase in which the front of the pool is dealt in blocks, one to each caller, and
 /// all callers share the rest.
-/// [`Entities::share_behind_blocks`](crate::Entities::share_behind_blocks) opens a phase of it.
+/// [`Entities::share_in`](crate::Entities::share_in) opens a phase of it.
 ///
 /// As long as no caller goes past its block, the handles of a caller depend on the allocator, on
 /// the sizes, and on what it has reserved before: not on other callers or on threads. What it gets
@@ -26,7 +26,7 @@ use crate::reserving::{SharedReserver, SharedSource};
 ///     Ok(mine.reserve_many(10)?.len())
 /// }
 ///
-/// let (phase, mut reservers) = Entities::new().share_behind_blocks(&[10, 10])?;
+/// let (phase, mut reservers) = Entities::new().share_in::<Overflow>(&[10, 10])?;
 /// for mine in &mut reservers {
 ///     wave(mine)?;
 /// }
