@@ -5,13 +5,14 @@
 //! open a [`Phase`] in blocks, of one of two kinds:
 //! - [`Blocks`] refuse a request for more than they have left. So no handle ever depends on a
 //!   thread.
-//! - [`Overflow`] shares the handles behind the blocks. A reserver whose block is used up goes on to
-//!   them, so none is refused as long as the allocator has handles. If [`Ended::requested_past`] is
-//!   0 at the end, no handle depends on a thread. Use it if no spawn may be lost.
+//! - [`Overflow`] shares the handles behind the blocks. A reserver whose block is used up goes on
+//!   to them, so none is refused as long as the allocator has handles. If
+//!   [`Ended::requested_past`] is 0 at the end, no handle depends on a thread. Use it if no spawn
+//!   may be lost.
 //!
 //! [`run_in_blocks`](crate::run_in_blocks) runs systems that fill logs in [`Blocks`], and
-//! [`fill_in_blocks`](crate::fill_in_blocks) runs the systems of a world. A [`BlockSize`] for each system [adapts](BlockSize::adapt) to what it
-//! wanted, frame by frame:
+//! [`fill_in_blocks`](crate::fill_in_blocks) runs the systems of a world. A [`BlockSize`] for each
+//! system [adapts](BlockSize::adapt) to what it wanted, frame by frame:
 //!
 //! ```
 //! # #[cfg(feature = "std")] {

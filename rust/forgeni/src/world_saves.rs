@@ -182,13 +182,13 @@ impl World {
     /// back.
     ///
     /// In [`Blocks`](crate::Blocks) a request for more than is left of a block is refused.
-    /// [`Overflow`](crate::Overflow) shares the handles behind the blocks: a reserver whose block is
-    /// used up goes on to them, so it is refused only if the world has no more.
+    /// [`Overflow`](crate::Overflow) shares the handles behind the blocks: a reserver whose block
+    /// is used up goes on to them, so it is refused only if the world has no more.
     /// [`EndedWorld::requested_past`] counts the handles that were requested there: if it is 0, no
     /// handle depends on a thread.
     ///
-    /// Callers can be systems: [`fill_in_blocks`](crate::fill_in_blocks) runs them in `Blocks`. Then
-    /// [`apply`](Self::apply) takes their queues.
+    /// Callers can be systems: [`fill_in_blocks`](crate::fill_in_blocks) runs them in `Blocks`.
+    /// Then [`apply`](Self::apply) takes their queues.
     ///
     /// ```
     /// use forgeni::{Blocks, World};
