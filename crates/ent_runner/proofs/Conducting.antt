@@ -2,8 +2,8 @@
 use Rattle.ent_runner.proofs.Common.{common_steps, rules, ◌≡◌, ℕ, ◌<◌, ◌≤◌, List, [], ◌∷◌, ◌++◌}
 use Rattle.ent_runner.proofs.Common.{length, map, get_or, refl, ap, sym, ◌∙◌, arith, Option, Some}
 use Rattle.ent_runner.proofs.Common.{None, false, Bool, take, drop, inl, inr, true, ◌⊎◌, Vec}
-use Rattle.ent_runner.proofs.Common.{Global, reverse, slice_get, replicate, IfErr, IsSome, OnErr}
-use Rattle.ent_runner.proofs.Common.{Ok, Err, Result, ◌-◌, Any, vec_capacity, All, AllPairs}
+use Rattle.ent_runner.proofs.Common.{Global, reverse, slice_get, replicate, IsSome}
+use Rattle.ent_runner.proofs.Common.{◌-◌, vec_capacity, All, AllPairs}
 use Rattle.ent_runner.proofs.Common.{flat_map, range_with_len, IsPermutation, cases_lt}
 use Rattle.ent_runner.proofs.Common.{slice_get_within, get_or_from_slice_get, slice_get-get_or}
 use Rattle.ent_runner.proofs.Common.{length-map, length-append, take-append-le, take_all}

@@ -1,13 +1,13 @@
 -- Systems that filled outputs as the jobs of a crew, each from its own block.
-use Rattle.ent_runner.proofs.Common.{StopShort, get_or, slice_get, All, All-map, List, Option, Some}
-use Rattle.ent_runner.proofs.Common.{rules, arith, inl, inr, length, map, sym, ℕ, ⊎_elim, ◌<◌, ◌∙◌}
+use Rattle.ent_runner.proofs.Common.{get_or, slice_get, All, All-map, List, Option, Some}
+use Rattle.ent_runner.proofs.Common.{rules, arith, length, map, ℕ, ⊎_elim, ◌<◌, ◌∙◌}
 use Rattle.ent_runner.proofs.Common.{◌≡◌, ◌⊎◌, length-map, get_or_from_slice_get, slice_get-get_or}
 use Rattle.ent_runner.proofs.Common.{slice_get_within, Blocks, IsDrawn, IsOfPhase, AreBrokenOff}
 use Rattle.ent_runner.proofs.Common.{AreDone, IsDealt, IsFilled, HaveFilled, Ended, Stopped, None}
 use Rattle.ent_runner.proofs.Common.{ap, first_error, Request}
 use Rattle.ent_blocks.specs.Blocks.{Reserver}
 use Rattle.ent_runner.specs.Blocks.{IsBrokenOff}
-use Rattle.ent_runner.proofs.EachOutput.{HoldsAt, each_done, each_either, first_of, stop_short}
+use Rattle.ent_runner.proofs.EachOutput.{each_done, each_either, first_of, stop_short}
 use Rattle.ent_runner.proofs.Lists.{get_mapped, mapped_at}
 
 module _ {O : Type 0} where

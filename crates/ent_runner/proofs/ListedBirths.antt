@@ -3,12 +3,12 @@
 -- It speaks of the definitions alone.
 use Rattle.ent_runner.proofs.Common.{IsPermutation, rules, ◌≡◌, ◌≢◌, ℕ, zero, suc, ◌+◌, ◌^◌, ◌<◌}
 use Rattle.ent_runner.proofs.Common.{◌≤◌, List, [], ◌∷◌, ◌++◌, length, ap, arith, eq-eqb, ne_eqb}
-use Rattle.ent_runner.proofs.Common.{false, not, Some, None, common_steps, ◌==◌, filter, All}
+use Rattle.ent_runner.proofs.Common.{not, Some, None, common_steps, ◌==◌, filter, All}
 use Rattle.ent_runner.proofs.Common.{AllPairs, Contains, flat_map, cases_eq, slice_get_within}
 use Rattle.ent_runner.proofs.Common.{slice_get-get_or, length-append, All-nil, All-cons, All-append}
 use Rattle.ent_runner.proofs.Common.{All-contains, AllPairs-filter, Contains-permutation}
 use Rattle.ent_runner.proofs.Common.{IsPermutation-sym, length_permutation, Handle, available, born}
-use Rattle.ent_runner.proofs.Common.{stands_in, IsSound, IsLive, Call, AreGivenOnce, after_history}
+use Rattle.ent_runner.proofs.Common.{IsSound, IsLive, Call, AreGivenOnce, after_history}
 use Rattle.ent_runner.proofs.Common.{filter_all, AllPairs-tail, AllPairs-left, AllPairs-right}
 use Rattle.ent_runner.proofs.Common.{Contains-from_stands_in, stands_in-from_Contains}
 use Rattle.ent_runner.proofs.Common.{born-IsPermutation, given_in-not_live, Command, World}

@@ -1,6 +1,6 @@
 -- Lists of lists, and the numbers of a range.
 use Rattle.ent_runner.proofs.Common.{rules, ◌≡◌, ℕ, zero, suc, ◌<◌, List, [], ◌∷◌, length, map}
-use Rattle.ent_runner.proofs.Common.{refl, ap, arith, ◌++◌, ◌-◌, length-append, get_or_push, Some}
+use Rattle.ent_runner.proofs.Common.{refl, ap, arith, ◌-◌, Some}
 use Rattle.ent_runner.proofs.Common.{Bool, ◌∙◌, common_steps, filter, slice_get, All, sum_by}
 use Rattle.ent_runner.proofs.Common.{flat_map, range_with_len, All-nil, All-cons, All-head}
 use Rattle.ent_runner.proofs.Common.{All-tail, All-append, All-left, All-right, slice_get-get_or}

@@ -1,5 +1,5 @@
 -- What a system filled that began with nothing, as a job of a crew: if it ended, and if it stopped.
-use Rattle.ent_runner.proofs.Common.{rules, ◌≡◌, ◌∙◌, ap, ℕ, List, Result, Ok, Err, IfErr, OnOk}
+use Rattle.ent_runner.proofs.Common.{rules, ◌≡◌, ◌∙◌, ℕ, List, Result, Ok, Err, IfErr, OnOk}
 use Rattle.ent_runner.proofs.Common.{Some, slice_get, get_or, get_or_from_slice_get, Replying}
 use Rattle.ent_runner.proofs.Common.{Request, Blocks, IsDrawn, IsOfPhase, Commands, Extends}
 use Rattle.ent_runner.proofs.Common.{output_of, reserver_of, source_of, IsDealt, IsFilled}

@@ -1,5 +1,4 @@
 //! The systems of a run are the jobs of a crew.
-ghost use Rattle.ent_blocks.specs.Drawing.{IsDrawn};
 ghost use Rattle.ent_shared.specs.Phase.{IsOf};
 ghost use Rattle.ent_shared.specs.Replies.{IsReturned};
 ghost use Rattle.ent_runner.specs.Filling.{IsFilled};

@@ -1,5 +1,5 @@
 -- What lists of reservers are while they are walked, and what they reserve with is taken or put.
-use Rattle.ent_total.proofs.Common.{rules, ◌≡◌, ◌∙◌, refl, ap, sym, ℕ, ◌<◌, ◌+◌, ◌≤◌, List, All}
+use Rattle.ent_total.proofs.Common.{◌≡◌, ◌∙◌, refl, ap, sym, ℕ, ◌<◌, ◌+◌, ◌≤◌, List, All}
 use Rattle.ent_total.proofs.Common.{[], ◌∷◌, ◌++◌, arith, length, map, take, drop}
 use Rattle.ent_total.specs.Lending.{AreFrom, AreLent, lent_out, returned}
 use Rattle.ent_total.specs.Phases.{Reserver, reservers_of}

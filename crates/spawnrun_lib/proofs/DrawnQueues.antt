@@ -2,9 +2,8 @@
 -- its block, and the blocks after it follow from the queues.
 use Rattle.spawnrun_lib.proofs.Common.{rules, ◌≡◌, refl, sym, ap, ◌∙◌, arith, ℕ, zero, suc, List, []}
 use Rattle.spawnrun_lib.proofs.Common.{◌∷◌, length, Block, Command, World, Operation, at_within}
-use Rattle.spawnrun_lib.proofs.Common.{AreDrawnBy, View, queue_at, view_of}
+use Rattle.spawnrun_lib.proofs.Common.{View, view_of}
 use Rattle.std.proofs.Common.{Some, slice_get, if◌then◌else◌}
-use Rattle.std.proofs.lemmas.List.{length-map}
 use Rattle.std.proofs.lemmas.Option.{get_or_from_slice_get, slice_get_within}
 use Rattle.ent_blocks.specs.Blocks.{Blocks, Reserver, are_among, blocks_of, is_same}
 use Rattle.ent_blocks.specs.Drawing.{IsDrawn}

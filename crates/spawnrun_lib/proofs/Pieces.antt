@@ -2,14 +2,13 @@
 use Rattle.spawnrun_lib.proofs.Common.{◌≡◌, ℕ, ◌+◌, ◌-◌, ◌<◌, ◌≤◌, ◌/◌, ◌%◌, ◌^◌, List, [], ◌∷◌}
 use Rattle.spawnrun_lib.proofs.Common.{◌++◌, ◌∙◌, zero, suc, inl, inr, ap, append_assoc, arith, Birth}
 use Rattle.spawnrun_lib.proofs.Common.{cases_lt, decimal, get_or, length, length-append, codes}
-use Rattle.spawnrun_lib.proofs.Common.{length-take-le, rules, set, subst, sym, take, take_more}
+use Rattle.spawnrun_lib.proofs.Common.{rules, set, subst, sym, take, take_more}
 use Rattle.std.proofs.lemmas.Fmt.{decimal_digit, decimal_step}
 use Rattle.std.proofs.lemmas.List.{get_or-replicate, get_or-set_other, get_or-set_same}
 use Rattle.std.proofs.lemmas.List.{length-replicate, length-set, same_from_push}
 use Rattle.std.proofs.Common.{replicate, ℤ, pos, negsuc, ◌≤ℤ◌, unsigned_abs}
 use Rattle.std.specs.Fmt.{signed_decimal}
 use Rattle.std.proofs.lemmas.Bool.{cases_eq}
-use Rattle.ent_handle.specs.declared.component.ComponentId.{ComponentId}
 use Rattle.spawnrun_lib.specs.Heads.{AreAlike}
 use Rattle.spawnrun_lib.specs.Pieces.{AreLabels, IsLabel}
 use Rattle.spawnrun_lib.specs.declared.piece.Piece.{Piece}

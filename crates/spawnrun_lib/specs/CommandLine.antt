@@ -1,5 +1,5 @@
 -- The program's command line, in the words of clap.
-use Rattle.std.specs.Prelude.{◌≡◌, ◌⊎◌, ℕ, List, [], ◌∷◌, ◌<◌, ◌≤◌, map, Option, None, Some, pos}
+use Rattle.std.specs.Prelude.{◌≡◌, ◌⊎◌, ℕ, List, [], ◌∷◌, ◌<◌, ◌≤◌, map, None, Some, pos}
 use Rattle.std.specs.Prelude.{true, codes}
 use Rattle.std.specs.Borrow.{Bor}
 use Rattle.clap.specs.Words.{App, IsAmong, Row, Rule, Text, fault_of, first_of, new_app, new_rule}

@@ -2,12 +2,10 @@
 -- a block of its own, so the report follows from the script and the size of the blocks: there is no
 -- history in it, no order in which systems ran, and no word of workers.
 use Rattle.std.specs.Prelude.{◌≡◌, ℕ, ◌+◌, List, [], ◌∷◌, ◌++◌, length, map, slice_get, Some}
-use Rattle.ent_handle.specs.Handle.{Handle}
 use Rattle.ent_alloc.specs.Sequential.{born}
 use Rattle.ent_blocks.specs.Blocks.{Block, blocks_from}
 use Rattle.ent_queue.specs.Command.{Command}
 use Rattle.ent_queue.specs.Drawing.{AreDrawnBy, after_commands}
-use Rattle.ent_world.specs.Effects.{Applied}
 use Rattle.ent_world.specs.InBlocks.{world_after}
 use Rattle.ent_world.specs.Sync.{sync}
 use Rattle.ent_world.specs.World.{World, first_world}

@@ -1,7 +1,6 @@
 ghost use Rattle.std.specs.Prelude.{◌≡◌, ◌++◌, ◌∷◌, [], map, OnOk, OnErr};
 ghost use Rattle.ent_queue.specs.Commands.{IsReady, Extends, output_of};
 ghost use Rattle.ent_queue.specs.Issuing.{Issues};
-ghost use Rattle.spawnrun_lib.specs.Issuing.{OnEach};
 ghost use Rattle.spawnrun_lib.specs.Parts.{names_of, command_on, HasIssuedOn};
 ghost use Rattle.spawnrun_lib.specs.Parts.{HasStoppedAmong, HasStoppedOn};
 ghost use Rattle.spawnrun_lib.specs.Rolls.{IsRollOf};

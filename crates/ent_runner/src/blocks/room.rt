@@ -1,8 +1,8 @@
 //! What systems in blocks need before they run: a reserver each, a crew, and room for what they
 //! hand back.
-ghost use Rattle.std.specs.Prelude.{◌≡◌, ◌≢◌, ◌<◌, ◌≤◌, ◌^◌, ◌↔◌, ◌⊎◌, [], length, All, IfOk};
+ghost use Rattle.std.specs.Prelude.{◌≡◌, ◌≢◌, ◌<◌, ◌≤◌, ◌^◌, ◌↔◌, ◌⊎◌, [], IfOk};
 ghost use Rattle.std.specs.Prelude.{IfErr, OnOk, IsErrOf};
-ghost use Rattle.std.specs.Prelude.{IsTrue, vec_capacity};
+ghost use Rattle.std.specs.Prelude.{vec_capacity};
 ghost use Rattle.ent_runner.specs.RunErrors.{IfLost, IsOfBlocks};
 ghost use Rattle.ent_runner.specs.declared.run_error.RunError.TheVariants as failed;
 

@@ -1,5 +1,4 @@
 //! Systems of several types in one list.
-ghost use Rattle.std.specs.Prelude.{◌≡◌, [], OnOk, IfErr};
 ghost use Rattle.either.specs.Either.{MatchEither};
 
 use crate::frame::system::System;

@@ -1,5 +1,5 @@
-use Rattle.ent_total.proofs.Common.{rules, arith, ◌≡◌, ◌∙◌, ◌++◌, ◌∷◌, [], ◌<◌, ap, length, map}
-use Rattle.ent_total.proofs.Common.{take, subst, sym}
+use Rattle.ent_total.proofs.Common.{rules, arith, ◌∙◌, ◌<◌, ap, length}
+use Rattle.ent_total.proofs.Common.{subst, sym}
 use Rattle.ent_total.proofs.Common.{All-push, All-same}
 use Rattle.ent_blocks.specs.Drawing.{IsOfPhase}
 use Rattle.ent_total.proofs.Lent.{unchanged_yet, walked_length}

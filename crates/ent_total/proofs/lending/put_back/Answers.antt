@@ -1,9 +1,9 @@
-use Rattle.ent_total.proofs.Common.{rules, arith, ◌≡◌, ◌∙◌, ◌<◌, ◌∷◌, [], ap, length, subst, sym}
+use Rattle.ent_total.proofs.Common.{rules, arith, ◌<◌, ◌∷◌, [], ap, length, subst, sym}
 use Rattle.ent_total.proofs.Common.{length-append}
 use Rattle.ent_blocks.specs.Drawing.{IsOfPhase}
 use Rattle.ent_total.proofs.Lent.{returned_more, sources_stay, length-returned}
 use Rattle.ent_total.proofs.Walking.{walked}
-use Rattle.ent_total.specs.Lending.{AreFrom, returned}
+use Rattle.ent_total.specs.Lending.{AreFrom}
 use Rattle.ent_total.proofs.lending.put_back.Goals as goal
 
 pub put_back-requires : goal.put_back-requires

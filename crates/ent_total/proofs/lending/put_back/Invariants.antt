@@ -1,4 +1,4 @@
-use Rattle.ent_total.proofs.Common.{◌≡◌, ◌++◌, ◌≤◌, length, All}
+use Rattle.ent_total.proofs.Common.{◌≡◌, ◌++◌, length, All}
 use Rattle.ent_blocks.specs.Drawing.{IsOfPhase}
 use Rattle.ent_total.specs.Lending.{returned}
 use Rattle.ent_total.proofs.lending.put_back.Given as goal

@@ -1,4 +1,4 @@
-use Rattle.spawnrun_lib.proofs.Common.{◌-◌, ◌≤◌, map, string_bytes}
+use Rattle.spawnrun_lib.proofs.Common.{◌-◌, map, string_bytes}
 use Rattle.spawnrun_lib.specs.Pieces.{AreLabels}
 use Rattle.spawnrun_lib.proofs.labels.Labels.of.Given as goal
 
