@@ -4,8 +4,6 @@ use Rattle.ent_world.specs.declared.fault.SyncReport.{SyncReport}
 use Rattle.ent_total.specs.Batch.{Queues, Stopped}
 use Rattle.ent_total.specs.declared.sync_error.SyncError.{SyncError}
 use Rattle.ent_total.specs.declared.sync_error.SyncError.TheVariants as applied
-use Rattle.ent_total.specs.declared.go_on_error.GoOnError.{GoOnError}
-use Rattle.ent_total.specs.declared.go_on_error.GoOnError.TheVariants as gone
 
 -- the queues that come back
 abbrev pub queues_in : SyncError → Queues
@@ -49,32 +47,3 @@ IsCounted (Ok report) before after = after ≡ 0
 IsCounted (Err (applied.OtherWorld queues)) before after = after ≡ before
 IsCounted (Err (applied.Memory queues)) before after = after ≡ before
 IsCounted (Err (applied.Stopped stopped)) before after = after ≡ 0
-
--- the sync point that comes back
-abbrev pub stopped_in : GoOnError → Stopped
-stopped_in (gone.OtherWorld stopped) = stopped
-stopped_in (gone.NeedsFlush stopped) = stopped
-stopped_in (gone.Stopped stopped) = stopped
-
--- if it stopped again, this is true of the later stop
-abbrev pub IfStoppedAgain : GoOnError → (Stopped → Type 0) → Type 0
-IfStoppedAgain (gone.OtherWorld stopped) P = Unit {0}
-IfStoppedAgain (gone.NeedsFlush stopped) P = Unit {0}
-IfStoppedAgain (gone.Stopped stopped) P = P stopped
-
--- it did not go on
-abbrev pub IsUnmoved : GoOnError → Type 0
-IsUnmoved (gone.OtherWorld stopped) = Unit {0}
-IsUnmoved (gone.NeedsFlush stopped) = Unit {0}
-IsUnmoved (gone.Stopped stopped) = ⊥
-
--- each reason
-abbrev pub IsOfOtherWorld : GoOnError → Type 0
-IsOfOtherWorld (gone.OtherWorld stopped) = Unit {0}
-IsOfOtherWorld (gone.NeedsFlush stopped) = ⊥
-IsOfOtherWorld (gone.Stopped stopped) = ⊥
-
-abbrev pub IsUnflushed : GoOnError → Type 0
-IsUnflushed (gone.OtherWorld stopped) = ⊥
-IsUnflushed (gone.NeedsFlush stopped) = Unit {0}
-IsUnflushed (gone.Stopped stopped) = ⊥

@@ -2,9 +2,9 @@
 ghost use Rattle.std.specs.Prelude.{◌≡◌, ◌≢◌, ◌↔◌, ◌<◌, IfOk, IfErr, IsErrAnd, length};
 ghost use Rattle.ent_world.specs.Sync.{IsStop};
 ghost use Rattle.ent_total.specs.Applying.{IfStopped, IsOtherWorld, IsMemory};
-ghost use Rattle.ent_total.specs.Applying.{IsUnbegun, IfStoppedAgain, IsOfOtherWorld, IsUnflushed};
-ghost use Rattle.ent_total.specs.Applying.{IsUnmoved, IsCounted, queues_in, stopped_in};
+ghost use Rattle.ent_total.specs.Applying.{IsUnbegun, IsCounted, queues_in};
 ghost use Rattle.ent_total.specs.Batch.{IsSynced, IsSyncedUntil, IsFinished, IsLeftUntil};
+ghost use Rattle.ent_total.specs.declared.go_on_error.GoOnError.TheVariants as gone;
 
 use crate::go_on_error::GoOnError;
 use crate::queues::Queues;
@@ -12,6 +12,7 @@ use crate::stop::Stop;
 use crate::stopped::Stopped;
 use crate::sync_error::SyncError;
 use crate::world::World;
+use ent_handle::HandedBack;
 use ent_world::{SyncFault, SyncReport};
 
 impl World {
@@ -130,37 +131,42 @@ impl Stopped {
     ///
     /// # Errors
     ///
+    /// [`HandedBack`] has the sync point, and the first of these errors that applies.
+    ///
     /// - [`GoOnError::OtherWorld`]: it stopped in another world. Nothing has changed.
     /// - [`GoOnError::NeedsFlush`]: handles were requested in the world since then. Nothing has
     ///   changed.
-    /// - [`GoOnError::Stopped`]: memory ran out again, there or later. It can be continued from
+    /// - [`GoOnError::Memory`]: memory ran out again, there or later. It can be continued from
     ///   there.
-    pub fn go_on(self, world: &mut World) -> Result<SyncReport, GoOnError>
+    pub fn go_on(self, world: &mut World) -> Result<SyncReport, HandedBack<Self, GoOnError>>
         ensures applied { IfOk result (λ report.
             IsFinished self.stop self.queues.queues world.old.world world.new.world report) }
-        ensures stopped { IfErr result (λ error. IfStoppedAgain error (λ later.
-            IsLeftUntil self.stop later.stop self.queues.queues world.old.world world.new.world
-            later.so_far)) }
-        ensures stays { IfErr result (λ error. (stopped_in error).queues ≡ self.queues) }
-        ensures other_world { IsErrAnd result IsOfOtherWorld
+        ensures stopped { IfErr result (λ h. h.error ≡ gone.Memory
+            → IsLeftUntil self.stop h.value.stop self.queues.queues world.old.world
+            world.new.world h.value.so_far) }
+        ensures stays { IfErr result (λ h. h.value.queues ≡ self.queues) }
+        ensures other_world { IsErrAnd result (λ h. h.error ≡ gone.OtherWorld)
             ↔ (self.queues.world ≢ world.old.number) }
-        ensures needs_flush { IsErrAnd result IsUnflushed
+        ensures needs_flush { IsErrAnd result (λ h. h.error ≡ gone.NeedsFlush)
             ↔ ((self.queues.world ≡ world.old.number) × (0 < world.old.world.allocator.asked)) }
-        ensures nothing { IfErr result (λ error. IsUnmoved error
-            → (stopped_in error ≡ self) × (world.new ≡ world.old)) }
+        ensures nothing { IfErr result (λ h. h.error ≢ gone.Memory
+            → (h.value ≡ self) × (world.new ≡ world.old)) }
         ensures number { world.new.number ≡ world.old.number }
         ensures spawned { world.new.spawned ≡ world.old.spawned }
     {
         if self.world() != world.number {
-            return Err(GoOnError::OtherWorld(self));
+            return Err(HandedBack::new(self, GoOnError::OtherWorld));
         }
         if world.needs_flush() {
-            return Err(GoOnError::NeedsFlush(self));
+            return Err(HandedBack::new(self, GoOnError::NeedsFlush));
         }
         let (queues, stop) = self.into_parts();
         match apply_left(&mut world.world, queues.list(), stop) {
             Ok(report) => Ok(report),
-            Err((later, so_far)) => Err(GoOnError::Stopped(Stopped::new(queues, later, so_far))),
+            Err((later, so_far)) => {
+                let stopped = Stopped::new(queues, later, so_far);
+                Err(HandedBack::new(stopped, GoOnError::Memory))
+            }
         }
     }
 }

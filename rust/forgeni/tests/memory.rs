@@ -99,9 +99,9 @@ impl Left {
                 SyncError::Stopped(stopped) => Self::Rest(stopped, true),
                 other => panic!("{other}"),
             }),
-            Self::Rest(stopped, _) => stopped.go_on(world).map_err(|why| match why {
-                GoOnError::Stopped(stopped) => Self::Rest(stopped, true),
-                other => panic!("{other}"),
+            Self::Rest(stopped, _) => stopped.go_on(world).map_err(|why| match why.into_parts() {
+                (stopped, GoOnError::Memory) => Self::Rest(stopped, true),
+                (_, other) => panic!("{other}"),
             }),
         }
     }
@@ -115,8 +115,8 @@ fn with_a_request(world: World, stopped: Stopped) -> (World, Stopped) {
     let (mut world, _) = open.close(systems).expect("closed");
     let place = stopped.stop();
     let error = stopped.go_on(&mut world).expect_err("not flushed");
-    let GoOnError::NeedsFlush(stopped) = error else {
-        panic!("{error}");
+    let (stopped, GoOnError::NeedsFlush) = error.into_parts() else {
+        panic!("it goes on without a flush");
     };
     assert_eq!(stopped.stop(), place);
     world.flush().expect("memory");
@@ -126,9 +126,9 @@ fn with_a_request(world: World, stopped: Stopped) -> (World, Stopped) {
 /// It goes on in its own world alone.
 fn in_another_world(stopped: Stopped) -> Stopped {
     let error = stopped.go_on(&mut World::new()).expect_err("another");
-    match error {
-        GoOnError::OtherWorld(stopped) => stopped,
-        other => panic!("{other}"),
+    match error.into_parts() {
+        (stopped, GoOnError::OtherWorld) => stopped,
+        (_, other) => panic!("{other}"),
     }
 }
 

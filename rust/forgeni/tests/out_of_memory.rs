@@ -1800,7 +1800,8 @@ fn ended(world: &mut World, done: Result<Report, SyncError>) -> Vec<Fault> {
         }
         Err(SyncError::Stopped(stopped)) => {
             let mut faults = stopped.so_far().faults.clone();
-            let Err(GoOnError::OtherWorld(stopped)) = stopped.go_on(&mut two()) else {
+            let elsewhere = stopped.go_on(&mut two()).expect_err("another world");
+            let (stopped, GoOnError::OtherWorld) = elsewhere.into_parts() else {
                 panic!("it is another world");
             };
             assert_eq!(stopped.so_far().faults, faults);
@@ -1904,7 +1905,7 @@ fn the_place_of_a_stop() {
         let stopped = error.into_parts().expect_err("it stopped");
         let elsewhere = stopped.go_on(&mut two()).expect_err("another world");
         assert_eq!(elsewhere.to_string(), "the queues are of another world");
-        let stopped = elsewhere.into_stopped();
+        let (stopped, _) = elsewhere.into_parts();
         assert_eq!(stopped.stop(), place);
         let rest = stopped.go_on(&mut world).expect("memory");
         assert_eq!(rest.faults, []);
@@ -1968,11 +1969,12 @@ fn what_goes_on_goes_on_again() {
         let (done, refused) = refusing(refusal, || stopped.go_on(&mut again));
         match done {
             Ok(report) => faults.extend(report.faults),
-            Err(GoOnError::Stopped(stopped)) => {
+            Err(unended) => {
+                let (stopped, error) = unended.into_parts();
+                assert_eq!(error, GoOnError::Memory);
                 faults.extend(&stopped.so_far().faults);
                 faults.extend(stopped.go_on(&mut again).expect("memory").faults);
             }
-            Err(other) => panic!("{other}"),
         }
         assert_eq!((faults, all(&again)), (wanted.clone(), world.clone()));
         refused
