@@ -6,6 +6,7 @@ use Rattle.ent_total.proofs.Common.{length-word, same_words, same_parts, Allocat
 use Rattle.ent_total.proofs.Common.{magic, world_image, least, HasImage, WorldImageFault, Memory}
 use Rattle.ent_total.proofs.Common.{refused_is, read_is, world_bounded, image, before_count}
 use Rattle.std.proofs.Common.{IfOk}
+use Rattle.ent_total.specs.Image.{IsReadFrom}
 use Rattle.ent_total.specs.declared.world.World.{World}
 
 -- bytes that end with a number alike are alike
@@ -66,17 +67,16 @@ none_before bytes short rest is =
     )
 
 -- an image of a world, and four bytes
-pub bounded : (bytes : List ℕ) (result : Result World WorldImageFault)
-    → IfOk result (λ w. image w.world w.spawned ≡ bytes) → IfOk result (λ w. HasImage w.world)
-    → IfOk result (λ w. least w.world + 4 ≤ length bytes)
-bounded bytes (Ok w) found has = omega (
+pub bounded : (bytes : List ℕ) (number : ℕ) (result : Result World WorldImageFault)
+    → IfOk result (IsReadFrom bytes number) → IfOk result (λ w. least w.world + 4 ≤ length bytes)
+bounded bytes number (Ok w) read = omega (
   arith,
-  world_bounded (world_image w.world) (Ok w.world) refl has,
+  world_bounded (world_image w.world) (Ok w.world) refl read.has_image,
   length-append (world_image w.world) (word w.spawned),
-  ap length found,
+  ap length read.image_is,
   length-word w.spawned,
 )
-bounded bytes (Err fault) found has = tt
+bounded bytes number (Err fault) read = tt
 
 -- what is read has what the world had
 pub kept_by_image : (P : WorldValue → Type 0) (bytes : List ℕ) (number : ℕ)

@@ -7,6 +7,7 @@ use Rattle.ent_world.specs.World.{World}
 use Rattle.ent_world.specs.Image.{image as world_image, HasImage}
 use Rattle.ent_world.specs.declared.image_fault.WorldImageFault.{WorldImageFault}
 use Rattle.ent_world.specs.declared.image_fault.WorldImageFault.TheVariants.{Bound}
+use Rattle.ent_total.specs.declared.world.World.{World as Numbered}
 
 -- the image of the world, and the number in four bytes
 abbrev pub image : World → ℕ → List ℕ
@@ -21,3 +22,9 @@ abbrev pub IsBeyond : List ℕ → ℕ → WorldImageFault → Type 0
 IsBeyond bytes most fault =
     (w : World) × (spawned : ℕ) × HasImage w × (image w spawned ≡ bytes)
     × (most < slots_after_flush w.allocator) × (fault ≡ Bound (slots_after_flush w.allocator))
+
+-- the bytes are the image of this world, which has this number
+pub record IsReadFrom (bytes : List ℕ) (number : ℕ) (w : Numbered) : Type 0 where
+  pub image_is : image w.world w.spawned ≡ bytes
+  pub has_image : HasImage w.world
+  pub number_is : w.number ≡ number

@@ -1,9 +1,11 @@
 -- What contracts see of a world in a phase, and of its reservers, which issue commands in it.
-use Rattle.std.specs.Prelude.{◌≡◌, ℕ, List, [], ◌∷◌, ◌++◌, Err, refl, map}
+use Rattle.std.specs.Prelude.{◌≡◌, ℕ, List, [], ◌∷◌, ◌++◌, Result, Ok, Err, refl, map}
 use Rattle.std.specs.Coded.{Coded, code_by, coded×, coded_ℕ}
+use Rattle.std.proofs.Common.{Vec, Global}
 use Rattle.ent_alloc.specs.declared.refused.Refused.TheVariants.{Space, Quota}
 use Rattle.ent_alloc.specs.declared.reserve_error.ReserveError.{ReserveError}
 use Rattle.ent_alloc.specs.declared.reserve_error.ReserveError.TheVariants as fault
+use Rattle.ent_handle.specs.Handle.{Handle}
 use Rattle.ent_shared.specs.Ending.{EndsWithAll, EndsWithSome}
 use Rattle.ent_shared.specs.Phase.{Shared, Reserver as SharedReserver, IsOf}
 use Rattle.ent_shared.specs.Replies.{IsReturned}
@@ -38,6 +40,15 @@ reserver_of c = c.reserver.0
 
 abbrev pub queue_of : Commands → List Command
 queue_of c = c.reserver.1
+
+-- the handles that a spawn returned
+abbrev pub handle_in : {E : Type 0} → Result Handle E → List Handle
+handle_in (Ok h) = h ∷ []
+handle_in (Err why) = []
+
+abbrev pub handles_in : {E : Type 0} → Result (Vec Handle Global) E → List Handle
+handles_in (Ok hs) = hs.items
+handles_in (Err why) = []
 
 -- with these commands instead, or with one more
 abbrev pub with_queue : Commands → List Command → Commands

@@ -1,11 +1,12 @@
 pub mod Applying
 pub mod Batch
-pub mod Births
+pub mod Spawning
 pub mod Closing
 pub mod Framing
 pub mod Issuing
 pub mod Phases
 pub mod Reserving
 pub mod Image
+pub mod InBlocks
 pub mod InWorld
 pub mod Lending

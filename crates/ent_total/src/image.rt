@@ -10,7 +10,7 @@ ghost use Rattle.ent_alloc.specs.Within.{slots_after_flush};
 ghost use Rattle.ent_world.specs.Image.{most, least, HasImage};
 ghost use Rattle.ent_world.specs.FirstFault.{HasFault, MayTakeMemory};
 ghost use Rattle.ent_world.specs.Within.{within, allowed};
-ghost use Rattle.ent_total.specs.Image.{image, before_count, IsBeyond};
+ghost use Rattle.ent_total.specs.Image.{image, before_count, IsBeyond, IsReadFrom};
 
 use crate::world::World;
 use ent_handle::{Memory, read_word, write_word};
@@ -69,9 +69,7 @@ impl World {
 /// Each error except `Memory` says that no world has this image. `Memory` comes if there isn't
 /// enough memory for what the image has, whatever it is.
 pub fn read_world(alloc: Global, bytes: &[u8], number: u64) -> Result<World, WorldImageFault>
-    ensures found { IfOk result (λ w. image w.world w.spawned ≡ bytes.now) }
-    ensures has_image { IfOk result (λ w. HasImage w.world) }
-    ensures number { IfOk result (λ w. w.number ≡ number) }
+    ensures found { IfOk result (IsReadFrom bytes.now number) }
 
     // The image of a world is read as this world, unless memory runs out.
     ensures exact { (w : WorldValue) (spawned : ℕ) → HasImage w → spawned < 2 ^ 32
@@ -114,9 +112,7 @@ pub fn read_world_within(
     number: u64,
     most: u32,
 ) -> Result<World, WorldImageFault>
-    ensures found { IfOk result (λ w. image w.world w.spawned ≡ bytes.now) }
-    ensures has_image { IfOk result (λ w. HasImage w.world) }
-    ensures number { IfOk result (λ w. w.number ≡ number) }
+    ensures found { IfOk result (IsReadFrom bytes.now number) }
 
     // A flush of what is read leaves no more slots than are allowed.
     ensures within { IfOk result (λ w. slots_after_flush w.world.allocator ≤ most) }
@@ -150,9 +146,7 @@ fn allowed(read: Result<World, WorldImageFault>, most: u32) -> Result<World, Wor
 
 /// What `read_world` returns.
 fn of_image(alloc: Global, bytes: &[u8], number: u64) -> Result<World, WorldImageFault>
-    ensures found { IfOk result (λ w. image w.world w.spawned ≡ bytes.now) }
-    ensures has_image { IfOk result (λ w. HasImage w.world) }
-    ensures number { IfOk result (λ w. w.number ≡ number) }
+    ensures found { IfOk result (IsReadFrom bytes.now number) }
     ensures exact { (w : WorldValue) (spawned : ℕ) → HasImage w → spawned < 2 ^ 32
         → image w spawned ≡ bytes.now
         → (result ≡ Ok (record { world = w; number = number; spawned = spawned }))

@@ -1,8 +1,8 @@
 //! An allocator is dealt in blocks, one for each reserver.
 ghost use Rattle.std.specs.Prelude.{◌≡◌, ◌-◌, ◌<◌, ◌≤◌, ◌↔◌, All, length, map};
 ghost use Rattle.std.specs.Prelude.{IfOk, IfErr, IsErrAnd};
-ghost use Rattle.ent_blocks.specs.Blocks.{blocks_from};
 ghost use Rattle.ent_shared.specs.Record.{requested_by};
+ghost use Rattle.ent_total.specs.InBlocks.{HasDealt};
 ghost use Rattle.ent_total.specs.declared.share_error.ShareError.TheVariants.{NeedsFlush, Count};
 
 use crate::numbering::Numbering;
@@ -32,11 +32,8 @@ pub fn share_in<J: Numbering, S: Deals>(
 ) -> Result<Opening<J, S>, HandedBack<Entities, ShareError>>
     ensures start { IfOk result (λ o. S.start o.source ≡ entities.allocator) }
     ensures rows { IfOk result (λ o. S.rows o.source ≡ entities.rows) }
-    ensures blocks { IfOk result (λ o.
-        S.blocks o.source ≡ blocks_from 0 (length entities.allocator.pool) sizes.now) }
-    ensures reservers { IfOk result (λ o. map S.block o.returned ≡ S.blocks o.source) }
-    ensures takes { IfOk result (λ o. S.takes o.source o.returned) }
-    ensures fresh { IfOk result (λ o. All S.fresh o.returned) }
+    ensures dealt { IfOk result (λ o. HasDealt S.blocks S.block S.takes S.fresh
+        (length entities.allocator.pool) sizes.now o.source o.returned) }
     ensures needs_flush { IsErrAnd result (λ h. h.error ≡ NeedsFlush)
         ↔ (0 < entities.allocator.asked) }
     ensures no_count { IsErrAnd result (λ h. h.error ≡ Count)

@@ -1,7 +1,7 @@
 //! A world in a phase in blocks.
 ghost use Rattle.std.specs.Prelude.{◌≡◌, ◌<◌, ◌↔◌, All, IfOk, IfErr, IsErrAnd, length, map};
-ghost use Rattle.ent_blocks.specs.Blocks.{blocks_from};
 ghost use Rattle.ent_blocks.specs.Ending.{TakesAnew};
+ghost use Rattle.ent_total.specs.InBlocks.{HasDealt};
 ghost use Rattle.ent_total.specs.InWorld.{view_in};
 ghost use Rattle.ent_total.specs.declared.share_error.ShareError.TheVariants.{NeedsFlush, Count};
 ghost use Rattle.ent_world.specs.InBlocks.{world_with, world_after};
@@ -232,11 +232,8 @@ pub fn open_in<J: Numbering, S: Deals>(
         world_with (S.start o.source.source) o.source.rest ≡ world.world) }
     ensures same { IfOk result (λ o.
         (o.source.of_world ≡ world.number) × (o.source.spawned ≡ world.spawned)) }
-    ensures blocks { IfOk result (λ o. S.blocks o.source.source
-        ≡ blocks_from 0 (length world.world.allocator.pool) sizes.now) }
-    ensures reservers { IfOk result (λ o. map S.block o.returned ≡ S.blocks o.source.source) }
-    ensures takes { IfOk result (λ o. S.takes o.source.source o.returned) }
-    ensures fresh { IfOk result (λ o. All S.fresh o.returned) }
+    ensures dealt { IfOk result (λ o. HasDealt S.blocks S.block S.takes S.fresh
+        (length world.world.allocator.pool) sizes.now o.source.source o.returned) }
     ensures needs_flush { IsErrAnd result (λ h. h.error ≡ NeedsFlush)
         ↔ (0 < world.world.allocator.asked) }
     ensures no_count { IsErrAnd result (λ h. h.error ≡ Count)

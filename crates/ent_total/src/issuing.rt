@@ -6,7 +6,8 @@ ghost use Rattle.ent_shared.specs.Replies.{IsReturned};
 ghost use Rattle.ent_storage.specs.Bundle.{bundle_of};
 ghost use Rattle.ent_queue.specs.Command.{Spawn, SpawnMany, Insert, Remove, Despawn};
 ghost use Rattle.ent_queue.specs.Reserving.{refused_by};
-ghost use Rattle.ent_total.specs.Issuing.{Extends, IsRefused, issued, with_queue, queue_of};
+ghost use Rattle.ent_total.specs.Issuing.{Extends, IsRefused, handle_in, handles_in, issued};
+ghost use Rattle.ent_total.specs.Issuing.{queue_of, with_queue};
 ghost use Rattle.ent_total.specs.Issuing.{reserver_of, shared_of, view_of};
 
 use crate::numbering::Numbering;
@@ -56,11 +57,9 @@ impl<J: Numbering> Reserver<J, OpenWorld> {
         ensures refusal { IfErr result
             (IsRefused (shared_of self.old) (reserver_of self.old) (reserver_of self.new) 1) }
 
-        // What was given is recorded.
-        ensures recorded { IfOk result (λ handle. handles_given (reserver_of self.new).own
-            ≡ handles_given (reserver_of self.old).own ++ handle ∷ []) }
-        ensures unrecorded { OnErr result
-            (handles_given (reserver_of self.new).own ≡ handles_given (reserver_of self.old).own) }
+        // What was given is recorded, and nothing else.
+        ensures recorded { handles_given (reserver_of self.new).own
+            ≡ handles_given (reserver_of self.old).own ++ handle_in result }
     {
         let queue = self.take_queue(alloc);
         let shared = self.source.shared();
@@ -110,11 +109,9 @@ impl<J: Numbering> Reserver<J, OpenWorld> {
         ensures refusal { IfErr result
             (IsRefused (shared_of self.old) (reserver_of self.old) (reserver_of self.new) n) }
 
-        // What was given is recorded.
-        ensures recorded { IfOk result (λ handles. handles_given (reserver_of self.new).own
-            ≡ handles_given (reserver_of self.old).own ++ handles.items) }
-        ensures unrecorded { OnErr result
-            (handles_given (reserver_of self.new).own ≡ handles_given (reserver_of self.old).own) }
+        // What was given is recorded, and nothing else.
+        ensures recorded { handles_given (reserver_of self.new).own
+            ≡ handles_given (reserver_of self.old).own ++ handles_in result }
     {
         let queue = self.take_queue(alloc);
         let shared = self.source.shared();

@@ -76,7 +76,7 @@ pub fn new_world(alloc: Global, limits: Limits, number: u64) -> World
 }
 
 impl World {
-    ghost use Rattle.ent_total.specs.Births.{next_birth};
+    ghost use Rattle.ent_total.specs.Spawning.{IsSpawnRefused, next_birth};
 
     /// Brings an entity to life at once, with these components, in any order. If a component is
     /// listed twice, its last value counts.
@@ -113,15 +113,8 @@ impl World {
         ensures number { self.new.number ≡ self.old.number }
 
         // When it is refused, and what holds then.
-        ensures needs_flush { IsErrOf result AllocFault.NeedsFlush
-            ↔ (0 < self.old.world.allocator.asked) }
-        ensures space { IsErrOf result AllocFault.Space
-            → (self.old.world.allocator.asked ≡ 0) × (self.old.world.allocator.pool ≡ []) }
-        ensures full { (self.old.world.allocator.asked ≡ 0) × (self.old.world.allocator.pool ≡ [])
-            → IsErrOf result AllocFault.Space
-            ⊎ (IsErrOf result AllocFault.Memory × (4 < length (bundle_of components.now))) }
-        ensures memory { IsErrOf result AllocFault.Memory
-            → (top self.old.world.allocator ≡ 0) ⊎ (0 < length (bundle_of components.now)) }
+        ensures refused { IsSpawnRefused self.old.world.allocator
+            (length (bundle_of components.now)) result }
         ensures err { OnErr result (self.new ≡ self.old) }
     {
         let birth = Birth {
@@ -167,15 +160,8 @@ impl World {
         }) }
 
         // When it is refused, and what holds then.
-        ensures needs_flush { IsErrOf result AllocFault.NeedsFlush
-            ↔ (0 < self.old.world.allocator.asked) }
-        ensures space { IsErrOf result AllocFault.Space
-            → (self.old.world.allocator.asked ≡ 0) × (self.old.world.allocator.pool ≡ []) }
-        ensures full { (self.old.world.allocator.asked ≡ 0) × (self.old.world.allocator.pool ≡ [])
-            → IsErrOf result AllocFault.Space
-            ⊎ (IsErrOf result AllocFault.Memory × (4 < length (bundle_of components.now))) }
-        ensures memory { IsErrOf result AllocFault.Memory
-            → (top self.old.world.allocator ≡ 0) ⊎ (0 < length (bundle_of components.now)) }
+        ensures refused { IsSpawnRefused self.old.world.allocator
+            (length (bundle_of components.now)) result }
         ensures err { OnErr result (self.new ≡ self.old) }
     {
         let Ok(bundle) = Bundle::of(alloc, components) else {

@@ -1,7 +1,7 @@
 // Made of crates/ent_total/specs by .ci/contracts.py. It isn't edited by hand.
 
 //! The definitions of crate `ent_total`, in the order in which one reads them:
-//! [`batch`], [`applying`], [`births`], [`closing`], [`phases`], [`issuing`], [`reserving`], [`image`], [`in_world`], [`lending`].
+//! [`batch`], [`applying`], [`spawning`], [`closing`], [`phases`], [`issuing`], [`reserving`], [`image`], [`in_world`], [`lending`].
 
 #[doc(alias("IsFinished", "IsLeftUntil", "IsSynced", "IsSyncedUntil", "Queues", "Stopped"))]
 /// Queues that are applied together, and where their sync point stopped.
@@ -88,7 +88,7 @@
 /// </pre>
 pub mod batch {}
 
-#[doc(alias("IfStopped", "IfStoppedAgain", "IsCounted", "IsMemory", "IsOfOtherWorld", "IsOtherWorld", "IsUnbegun", "IsUnflushed", "IsUnmoved", "parts_of", "queues_in", "stopped_in"))]
+#[doc(alias("IfStopped", "IsCounted", "IsMemory", "IsOtherWorld", "IsUnbegun", "parts_of", "queues_in"))]
 /// What holds of a sync point that wasn\'t completed.
 ///
 /// <pre>
@@ -147,49 +147,10 @@ pub mod batch {}
 /// <a href="#IsCounted">IsCounted</a> (<a href="../../logic/index.html#Err">Err</a> (applied.Memory queues)) before after = after ≡ before
 /// <a href="#IsCounted">IsCounted</a> (<a href="../../logic/index.html#Err">Err</a> (applied.Stopped stopped)) before after = after ≡ 0
 /// </pre>
-///
-/// <pre>
-/// -- the sync point that comes back
-/// abbrev pub <b id="stopped_in">stopped_in</b> : GoOnError → <a href="../batch/index.html#Stopped">Stopped</a>
-/// <a href="#stopped_in">stopped_in</a> (gone.OtherWorld stopped) = stopped
-/// <a href="#stopped_in">stopped_in</a> (gone.NeedsFlush stopped) = stopped
-/// <a href="#stopped_in">stopped_in</a> (gone.Stopped stopped) = stopped
-/// </pre>
-///
-/// <pre>
-/// -- if it stopped again, this is true of the later stop
-/// abbrev pub <b id="IfStoppedAgain">IfStoppedAgain</b> : GoOnError → (<a href="../batch/index.html#Stopped">Stopped</a> → Type 0) → Type 0
-/// <a href="#IfStoppedAgain">IfStoppedAgain</a> (gone.OtherWorld stopped) P = Unit {0}
-/// <a href="#IfStoppedAgain">IfStoppedAgain</a> (gone.NeedsFlush stopped) P = Unit {0}
-/// <a href="#IfStoppedAgain">IfStoppedAgain</a> (gone.Stopped stopped) P = P stopped
-/// </pre>
-///
-/// <pre>
-/// -- it did not go on
-/// abbrev pub <b id="IsUnmoved">IsUnmoved</b> : GoOnError → Type 0
-/// <a href="#IsUnmoved">IsUnmoved</a> (gone.OtherWorld stopped) = Unit {0}
-/// <a href="#IsUnmoved">IsUnmoved</a> (gone.NeedsFlush stopped) = Unit {0}
-/// <a href="#IsUnmoved">IsUnmoved</a> (gone.Stopped stopped) = ⊥
-/// </pre>
-///
-/// <pre>
-/// -- each reason
-/// abbrev pub <b id="IsOfOtherWorld">IsOfOtherWorld</b> : GoOnError → Type 0
-/// <a href="#IsOfOtherWorld">IsOfOtherWorld</a> (gone.OtherWorld stopped) = Unit {0}
-/// <a href="#IsOfOtherWorld">IsOfOtherWorld</a> (gone.NeedsFlush stopped) = ⊥
-/// <a href="#IsOfOtherWorld">IsOfOtherWorld</a> (gone.Stopped stopped) = ⊥
-/// </pre>
-///
-/// <pre>
-/// abbrev pub <b id="IsUnflushed">IsUnflushed</b> : GoOnError → Type 0
-/// <a href="#IsUnflushed">IsUnflushed</a> (gone.OtherWorld stopped) = ⊥
-/// <a href="#IsUnflushed">IsUnflushed</a> (gone.NeedsFlush stopped) = Unit {0}
-/// <a href="#IsUnflushed">IsUnflushed</a> (gone.Stopped stopped) = ⊥
-/// </pre>
 pub mod applying {}
 
-#[doc(alias("next_birth"))]
-/// The births of entities that are spawned outside of phases.
+#[doc(alias("IsSpawnRefused", "next_birth"))]
+/// Entities that are spawned outside of phases.
 ///
 /// <pre>
 /// -- The birth of the entity that is spawned next: by no system, and it counts those that were spawned
@@ -197,7 +158,19 @@ pub mod applying {}
 /// abbrev pub <b id="next_birth">next_birth</b> : World → Birth
 /// <a href="#next_birth">next_birth</a> w = record { frame = w.world.phase; system = <a href="../../ent_world/sync/index.html#no_system">no_system</a>; ordinal = w.spawned }
 /// </pre>
-pub mod births {}
+///
+/// <pre>
+/// -- When a spawn with that many components is refused, and why. An entity of up to four components
+/// -- takes no memory but for new slots and values.
+/// pub record <b id="IsSpawnRefused">IsSpawnRefused</b> (s : <a href="../../ent_alloc/sequential/index.html#Allocator">Allocator</a>) (components : <a href="../../logic/index.html#ℕ">ℕ</a>) (result : <a href="../../logic/index.html#Result">Result</a> <a href="../../ent_handle/handle/index.html#Handle">Handle</a> AllocFault)
+///     : Type 0 where
+///   pub needs_flush : <a href="../../logic/index.html#IsErrOf">IsErrOf</a> result fault.NeedsFlush ↔ (0 &lt; s.asked)
+///   pub space : <a href="../../logic/index.html#IsErrOf">IsErrOf</a> result fault.Space → (s.asked ≡ 0) × (s.pool ≡ [])
+///   pub full : (s.asked ≡ 0) × (s.pool ≡ [])
+///       → <a href="../../logic/index.html#IsErrOf">IsErrOf</a> result fault.Space ⊎ (<a href="../../logic/index.html#IsErrOf">IsErrOf</a> result fault.Memory × (4 &lt; components))
+///   pub memory : <a href="../../logic/index.html#IsErrOf">IsErrOf</a> result fault.Memory → (<a href="../../ent_alloc/sequential/index.html#top">top</a> s ≡ 0) ⊎ (0 &lt; components)
+/// </pre>
+pub mod spawning {}
 
 #[doc(alias("IsMissing", "count_missing"))]
 /// Why a phase was not closed.
@@ -267,7 +240,7 @@ pub mod closing {}
 /// </pre>
 pub mod phases {}
 
-#[doc(alias("Commands", "Extends", "IsRefused", "Issuer", "OpenWorld", "issued", "queue_of", "reserver_of", "shared_of", "view_of", "with_queue"))]
+#[doc(alias("Commands", "Extends", "IsRefused", "Issuer", "OpenWorld", "handle_in", "handles_in", "issued", "queue_of", "reserver_of", "shared_of", "view_of", "with_queue"))]
 /// What contracts see of a world in a phase, and of its reservers, which issue commands in it.
 ///
 /// <pre>
@@ -304,6 +277,19 @@ pub mod phases {}
 /// <pre>
 /// abbrev pub <b id="queue_of">queue_of</b> : <a href="#Commands">Commands</a> → <a href="../../logic/index.html#List">List</a> <a href="../../ent_queue/command/index.html#Command">Command</a>
 /// <a href="#queue_of">queue_of</a> c = c.reserver.1
+/// </pre>
+///
+/// <pre>
+/// -- the handles that a spawn returned
+/// abbrev pub <b id="handle_in">handle_in</b> : {E : Type 0} → <a href="../../logic/index.html#Result">Result</a> <a href="../../ent_handle/handle/index.html#Handle">Handle</a> E → <a href="../../logic/index.html#List">List</a> <a href="../../ent_handle/handle/index.html#Handle">Handle</a>
+/// <a href="#handle_in">handle_in</a> (<a href="../../logic/index.html#Ok">Ok</a> h) = h ∷ []
+/// <a href="#handle_in">handle_in</a> (<a href="../../logic/index.html#Err">Err</a> why) = []
+/// </pre>
+///
+/// <pre>
+/// abbrev pub <b id="handles_in">handles_in</b> : {E : Type 0} → <a href="../../logic/index.html#Result">Result</a> (Vec <a href="../../ent_handle/handle/index.html#Handle">Handle</a> Global) E → <a href="../../logic/index.html#List">List</a> <a href="../../ent_handle/handle/index.html#Handle">Handle</a>
+/// <a href="#handles_in">handles_in</a> (<a href="../../logic/index.html#Ok">Ok</a> hs) = hs.items
+/// <a href="#handles_in">handles_in</a> (<a href="../../logic/index.html#Err">Err</a> why) = []
 /// </pre>
 ///
 /// <pre>

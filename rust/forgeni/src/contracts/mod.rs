@@ -2,7 +2,7 @@
 
 //! What the contracts in these docs mean: the definitions that they cite, as they were proved.
 //!
-//! There are 462, and each one cites only what comes before it. To understand a contract, follow its links. To read them all,
+//! There are 460, and each one cites only what comes before it. To understand a contract, follow its links. To read them all,
 //! begin here:
 //!
 //! - [`logic`]: Rattle's own words and signs.
@@ -16,7 +16,7 @@
 //! - [`ent_queue`]: [`command`](ent_queue::command), [`reserving`](ent_queue::reserving), [`issuing`](ent_queue::issuing), [`logging`](ent_queue::logging), [`commands`](ent_queue::commands)
 //! - [`ent_world`]: [`world`](ent_world::world), [`image`](ent_world::image), [`open_world`](ent_world::open_world), [`effects`](ent_world::effects), [`sync`](ent_world::sync), [`rest`](ent_world::rest), [`memory`](ent_world::memory), [`in_blocks`](ent_world::in_blocks)
 //! - [`ent_runner`]: [`runs`](ent_runner::runs), [`filling`](ent_runner::filling), [`frame`](ent_runner::frame), [`logs`](ent_runner::logs), [`blocks`](ent_runner::blocks), [`blocks_refusing`](ent_runner::blocks_refusing), [`run_errors`](ent_runner::run_errors)
-//! - [`ent_total`]: [`batch`](ent_total::batch), [`applying`](ent_total::applying), [`births`](ent_total::births), [`closing`](ent_total::closing), [`phases`](ent_total::phases), [`issuing`](ent_total::issuing), [`reserving`](ent_total::reserving), [`image`](ent_total::image), [`in_world`](ent_total::in_world), [`lending`](ent_total::lending)
+//! - [`ent_total`]: [`batch`](ent_total::batch), [`applying`](ent_total::applying), [`spawning`](ent_total::spawning), [`closing`](ent_total::closing), [`phases`](ent_total::phases), [`issuing`](ent_total::issuing), [`reserving`](ent_total::reserving), [`image`](ent_total::image), [`in_world`](ent_total::in_world), [`lending`](ent_total::lending)
 //!
 //! A definition is a statement or a function of values as contracts see them: a `Vec` is a list, an `Entities` a record. It
 //! is never run.

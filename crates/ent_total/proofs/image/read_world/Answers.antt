@@ -9,8 +9,8 @@ returns-clause-refused c =
     refused_from_exact c.args.bytes.now c.args.number c.of_image.result c.of_image.ensures.exact
 
 pub returns-clause-bound : goal.returns-clause-bound
-returns-clause-bound c = bounded c.args.bytes.now c.of_image.result c.of_image.ensures.found
-    c.of_image.ensures.has_image
+returns-clause-bound c =
+    bounded c.args.bytes.now c.args.number c.of_image.result c.of_image.ensures.found
 
 pub returns-clause-given_once : goal.returns-clause-given_once
 returns-clause-given_once c w spawned given has fits is spent =

@@ -1,28 +1,19 @@
 use Rattle.std.proofs.Common.{IfOk, IfErr}
 use Rattle.ent_total.proofs.Common.{◌≡◌, ◌≢◌, ◌⊎◌, ◌+◌, ◌≤◌, refl, Err, sym, subst, length}
-use Rattle.ent_total.proofs.Common.{HasImage, image, before_count, least, HasFault, MayTakeMemory}
+use Rattle.ent_total.proofs.Common.{before_count, least, HasFault, MayTakeMemory}
 use Rattle.ent_total.proofs.Common.{Memory}
 use Rattle.ent_alloc.specs.Within.{slots_after_flush}
 use Rattle.ent_world.specs.Within.{within}
-use Rattle.ent_total.specs.Image.{IsBeyond}
+use Rattle.ent_total.specs.Image.{IsBeyond, IsReadFrom}
 use Rattle.ent_world.proofs.Within.{allowed-ok, allowed-few, allowed-memory, allowed-exact}
-use Rattle.ent_world.proofs.Within.{allowed-fault, both}
+use Rattle.ent_world.proofs.Within.{allowed-fault}
 use Rattle.ent_total.proofs.ImageEnd.{of, allocator_in}
 use Rattle.ent_total.proofs.image.read_world_within.Goals as goal
 
 pub returns-clause-found : goal.returns-clause-found
 returns-clause-found c =
-    subst (λ r. IfOk r (λ w. image w.world w.spawned ≡ c.args.bytes.now)) (sym c.allowed.ensures)
+    subst (λ r. IfOk r (IsReadFrom c.args.bytes.now c.args.number)) (sym c.allowed.ensures)
     (allowed-ok allocator_in c.args.most _ c.read_world.result c.read_world.ensures.found)
-
-pub returns-clause-has_image : goal.returns-clause-has_image
-returns-clause-has_image c = subst (λ r. IfOk r (λ w. HasImage w.world)) (sym c.allowed.ensures)
-    (allowed-ok allocator_in c.args.most _ c.read_world.result c.read_world.ensures.has_image)
-
-pub returns-clause-number : goal.returns-clause-number
-returns-clause-number c =
-    subst (λ r. IfOk r (λ w. w.number ≡ c.args.number)) (sym c.allowed.ensures)
-    (allowed-ok allocator_in c.args.most _ c.read_world.result c.read_world.ensures.number)
 
 pub returns-clause-within : goal.returns-clause-within
 returns-clause-within c =
@@ -45,10 +36,10 @@ returns-clause-fault c =
     → HasFault (before_count c.args.bytes.now) fault
     ⊎ IsBeyond c.args.bytes.now c.args.most fault)) (sym c.allowed.ensures) (allowed-fault
     allocator_in c.args.most (HasFault (before_count c.args.bytes.now))
-    (λ w. HasImage w.world × (image w.world w.spawned ≡ c.args.bytes.now))
-    (IsBeyond c.args.bytes.now c.args.most) c.read_world.result
-    (both _ _ c.read_world.result c.read_world.ensures.has_image c.read_world.ensures.found)
-    (λ w is more. (w.world, w.spawned, is.0, is.1, more, refl)) c.read_world.ensures.fault)
+    (IsReadFrom c.args.bytes.now c.args.number) (IsBeyond c.args.bytes.now c.args.most)
+    c.read_world.result c.read_world.ensures.found
+    (λ w is more. (w.world, w.spawned, is.has_image, is.image_is, more, refl))
+    c.read_world.ensures.fault)
 
 pub returns-clause-memory : goal.returns-clause-memory
 returns-clause-memory c =

@@ -7,8 +7,13 @@ pub begin-requires-clause-room : goal.begin-requires-clause-room
 begin-requires-clause-room g c =
     omega (arith, c.in-Ok-deal.ensures.many, c.in-Ok.ensures.capacity)
 
-pub returns-in-Ok-begin-clause-fresh : goal.returns-in-Ok-begin-clause-fresh
-returns-in-Ok-begin-clause-fresh g c = rw c.in-Ok-begin.ensures.opening c.in-Ok-deal.ensures.fresh
+pub returns-in-Ok-begin-clause-dealt : goal.returns-in-Ok-begin-clause-dealt
+returns-in-Ok-begin-clause-dealt g c = record {
+  blocks = search rules;
+  reservers_are = search rules;
+  takes_all = search rules;
+  unused = rw c.in-Ok-begin.ensures.opening c.in-Ok-deal.ensures.fresh;
+}
 
 pub returns-in-Err-begin-clause-no_count : goal.returns-in-Err-begin-clause-no_count
 returns-in-Err-begin-clause-no_count g c =

@@ -11,8 +11,13 @@ pub end_with_all-requires-clause-own : goal.end_with_all-requires-clause-own
 end_with_all-requires-clause-own g c =
     rw (c.in-Err-begin.ensures.err.0, c.in-Err-begin.ensures.err.1) c.in-Ok-deal_blocks.ensures.own
 
-pub returns-in-Ok-begin-clause-fresh : goal.returns-in-Ok-begin-clause-fresh
-returns-in-Ok-begin-clause-fresh g c = rw c.in-Ok-begin.ensures.opening c.in-Ok-deal_blocks.ensures.fresh
+pub returns-in-Ok-begin-clause-dealt : goal.returns-in-Ok-begin-clause-dealt
+returns-in-Ok-begin-clause-dealt g c = record {
+  blocks = search rules;
+  reservers_are = search rules;
+  takes_all = search rules;
+  unused = rw c.in-Ok-begin.ensures.opening c.in-Ok-deal_blocks.ensures.fresh;
+}
 
 pub returns-in-Ok-begin-clause-needs_flush : goal.returns-in-Ok-begin-clause-needs_flush
 returns-in-Ok-begin-clause-needs_flush g c =

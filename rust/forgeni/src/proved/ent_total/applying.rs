@@ -8,6 +8,7 @@ use crate::phases::stop::Stop;
 use crate::phases::stopped::Stopped;
 use crate::phases::sync_error::SyncError;
 use crate::phases::world::World;
+use crate::handles::HandedBack;
 use crate::worlds::{SyncFault, Report};
 
 /// # Sync points
@@ -135,10 +136,12 @@ impl Stopped {
     ///
     /// # Errors
     ///
+    /// [`HandedBack`] has the sync point, and the first of these errors that applies.
+    ///
     /// - [`GoOnError::OtherWorld`]: it stopped in another world. Nothing has changed.
     /// - [`GoOnError::NeedsFlush`]: handles were requested in the world since then. Nothing has
     ///   changed.
-    /// - [`GoOnError::Stopped`]: memory ran out again, there or later. It can be continued from
+    /// - [`GoOnError::Memory`]: memory ran out again, there or later. It can be continued from
     ///   there.
     ///
     /// <details><summary>Contract</summary>
@@ -146,33 +149,36 @@ impl Stopped {
     /// <code style="display: block; tab-size: 4; white-space: pre-wrap">// In the words of [contracts](crate::contracts):
     /// ensures applied { [IfOk](crate::contracts::logic#IfOk) result (λ report.
     /// &#9;[IsFinished](crate::contracts::ent_total::batch#IsFinished) self.stop self.queues.queues world.old.world world.new.world report) }
-    /// ensures stopped { [IfErr](crate::contracts::logic#IfErr) result (λ error. [IfStoppedAgain](crate::contracts::ent_total::applying#IfStoppedAgain) error (λ later.
-    /// &#9;[IsLeftUntil](crate::contracts::ent_total::batch#IsLeftUntil) self.stop later.stop self.queues.queues world.old.world world.new.world
-    /// &#9;later.so_far)) }
-    /// ensures stays { [IfErr](crate::contracts::logic#IfErr) result (λ error. ([stopped_in](crate::contracts::ent_total::applying#stopped_in) error).queues ≡ self.queues) }
-    /// ensures other_world { [IsErrAnd](crate::contracts::logic#IsErrAnd) result [IsOfOtherWorld](crate::contracts::ent_total::applying#IsOfOtherWorld)
+    /// ensures stopped { [IfErr](crate::contracts::logic#IfErr) result (λ h. h.error ≡ gone.Memory
+    /// &#9;→ [IsLeftUntil](crate::contracts::ent_total::batch#IsLeftUntil) self.stop h.value.stop self.queues.queues world.old.world
+    /// &#9;world.new.world h.value.so_far) }
+    /// ensures stays { [IfErr](crate::contracts::logic#IfErr) result (λ h. h.value.queues ≡ self.queues) }
+    /// ensures other_world { [IsErrAnd](crate::contracts::logic#IsErrAnd) result (λ h. h.error ≡ gone.OtherWorld)
     /// &#9;↔ (self.queues.world ≢ world.old.number) }
-    /// ensures needs_flush { [IsErrAnd](crate::contracts::logic#IsErrAnd) result [IsUnflushed](crate::contracts::ent_total::applying#IsUnflushed)
+    /// ensures needs_flush { [IsErrAnd](crate::contracts::logic#IsErrAnd) result (λ h. h.error ≡ gone.NeedsFlush)
     /// &#9;↔ ((self.queues.world ≡ world.old.number) × (0 \< world.old.world.allocator.asked)) }
-    /// ensures nothing { [IfErr](crate::contracts::logic#IfErr) result (λ error. [IsUnmoved](crate::contracts::ent_total::applying#IsUnmoved) error
-    /// &#9;→ ([stopped_in](crate::contracts::ent_total::applying#stopped_in) error ≡ self) × (world.new ≡ world.old)) }
+    /// ensures nothing { [IfErr](crate::contracts::logic#IfErr) result (λ h. h.error ≢ gone.Memory
+    /// &#9;→ (h.value ≡ self) × (world.new ≡ world.old)) }
     /// ensures number { world.new.number ≡ world.old.number }
     /// ensures spawned { world.new.spawned ≡ world.old.spawned }
     /// </code>
     ///
     /// </details>
     #[inline]
-    pub fn go_on(self, world: &mut World) -> Result<Report, GoOnError> {
+    pub fn go_on(self, world: &mut World) -> Result<Report, HandedBack<Self, GoOnError>> {
         if self.world() != world.number {
-            return Err(GoOnError::OtherWorld(self));
+            return Err(HandedBack::new(self, GoOnError::OtherWorld));
         }
         if world.needs_flush() {
-            return Err(GoOnError::NeedsFlush(self));
+            return Err(HandedBack::new(self, GoOnError::NeedsFlush));
         }
         let (queues, stop) = self.into_parts();
         match apply_left(&mut world.world, queues.list(), stop) {
             Ok(report) => Ok(report),
-            Err((later, so_far)) => Err(GoOnError::Stopped(Stopped::new(queues, later, so_far))),
+            Err((later, so_far)) => {
+                let stopped = Stopped::new(queues, later, so_far);
+                Err(HandedBack::new(stopped, GoOnError::Memory))
+            }
         }
     }
 }

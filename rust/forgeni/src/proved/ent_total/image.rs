@@ -70,9 +70,7 @@ impl World {
 /// <details><summary>Contract</summary>
 ///
 /// <code style="display: block; tab-size: 4; white-space: pre-wrap">// In the words of [contracts](crate::contracts):
-/// ensures found { [IfOk](crate::contracts::logic#IfOk) result (λ w. [image](crate::contracts::ent_total::image#image) w.world w.spawned ≡ bytes.now) }
-/// ensures has_image { [IfOk](crate::contracts::logic#IfOk) result (λ w. [HasImage](crate::contracts::ent_world::image#HasImage) w.world) }
-/// ensures number { [IfOk](crate::contracts::logic#IfOk) result (λ w. w.number ≡ number) }
+/// ensures found { [IfOk](crate::contracts::logic#IfOk) result ([IsReadFrom](crate::contracts::ent_total::image#IsReadFrom) bytes.now number) }
 /// &#32;
 /// // The image of a world is read as this world, unless memory runs out.
 /// ensures exact { (w : [WorldValue](crate::contracts::ent_world::world#World)) (spawned : [ℕ](crate::contracts::logic#ℕ)) → [HasImage](crate::contracts::ent_world::image#HasImage) w → spawned \< 2 ^ 32
@@ -117,9 +115,7 @@ pub fn read_world(bytes: &[u8], number: u64) -> Result<World, WorldImageFault> {
 /// <details><summary>Contract</summary>
 ///
 /// <code style="display: block; tab-size: 4; white-space: pre-wrap">// In the words of [contracts](crate::contracts):
-/// ensures found { [IfOk](crate::contracts::logic#IfOk) result (λ w. [image](crate::contracts::ent_total::image#image) w.world w.spawned ≡ bytes.now) }
-/// ensures has_image { [IfOk](crate::contracts::logic#IfOk) result (λ w. [HasImage](crate::contracts::ent_world::image#HasImage) w.world) }
-/// ensures number { [IfOk](crate::contracts::logic#IfOk) result (λ w. w.number ≡ number) }
+/// ensures found { [IfOk](crate::contracts::logic#IfOk) result ([IsReadFrom](crate::contracts::ent_total::image#IsReadFrom) bytes.now number) }
 /// &#32;
 /// // A flush of what is read leaves no more slots than are allowed.
 /// ensures within { [IfOk](crate::contracts::logic#IfOk) result (λ w. [slots_after_flush](crate::contracts::ent_alloc::within#slots_after_flush) w.world.allocator ≤ [most](crate::contracts::ent_world::image#most)) }
@@ -163,9 +159,7 @@ fn allowed(read: Result<World, WorldImageFault>, most: u32) -> Result<World, Wor
 /// What `read_world` returns.
 #[inline]
 fn of_image(bytes: &[u8], number: u64) -> Result<World, WorldImageFault>
-    // ensures found { IfOk result (λ w. image w.world w.spawned ≡ bytes.now) }
-    // ensures has_image { IfOk result (λ w. HasImage w.world) }
-    // ensures number { IfOk result (λ w. w.number ≡ number) }
+    // ensures found { IfOk result (IsReadFrom bytes.now number) }
     // ensures exact { (w : WorldValue) (spawned : ℕ) → HasImage w → spawned < 2 ^ 32
     //     → image w spawned ≡ bytes.now
     //     → (result ≡ Ok (record { world = w; number = number; spawned = spawned }))

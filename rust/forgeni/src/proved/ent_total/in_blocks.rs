@@ -27,11 +27,8 @@ use crate::handles::HandedBack;
 /// <code style="display: block; tab-size: 4; white-space: pre-wrap">// In the words of [contracts](crate::contracts):
 /// ensures start { [IfOk](crate::contracts::logic#IfOk) result (λ o. S.start o.source ≡ entities.allocator) }
 /// ensures rows { [IfOk](crate::contracts::logic#IfOk) result (λ o. S.rows o.source ≡ entities.rows) }
-/// ensures blocks { [IfOk](crate::contracts::logic#IfOk) result (λ o.
-/// &#9;S.blocks o.source ≡ [blocks_from](crate::contracts::ent_blocks::blocks#blocks_from) 0 ([length](crate::contracts::logic#length) entities.allocator.pool) sizes.now) }
-/// ensures reservers { [IfOk](crate::contracts::logic#IfOk) result (λ o. [map](crate::contracts::logic#map) S.block o.returned ≡ S.blocks o.source) }
-/// ensures takes { [IfOk](crate::contracts::logic#IfOk) result (λ o. S.takes o.source o.returned) }
-/// ensures fresh { [IfOk](crate::contracts::logic#IfOk) result (λ o. [All](crate::contracts::logic#All) S.fresh o.returned) }
+/// ensures dealt { [IfOk](crate::contracts::logic#IfOk) result (λ o. [HasDealt](crate::contracts::ent_total::in_blocks#HasDealt) S.blocks S.block S.takes S.fresh
+/// &#9;([length](crate::contracts::logic#length) entities.allocator.pool) sizes.now o.source o.returned) }
 /// ensures needs_flush { [IsErrAnd](crate::contracts::logic#IsErrAnd) result (λ h. h.error ≡ NeedsFlush)
 /// &#9;↔ (0 \< entities.allocator.asked) }
 /// ensures no_count { [IsErrAnd](crate::contracts::logic#IsErrAnd) result (λ h. h.error ≡ Count)

@@ -197,11 +197,8 @@ impl<S: Deals> InBlocks for InWorld<S> {
 /// &#9;[world_with](crate::contracts::ent_world::in_blocks#world_with) (S.start o.source.source) o.source.rest ≡ world.world) }
 /// ensures same { [IfOk](crate::contracts::logic#IfOk) result (λ o.
 /// &#9;(o.source.of_world ≡ world.number) × (o.source.spawned ≡ world.spawned)) }
-/// ensures blocks { [IfOk](crate::contracts::logic#IfOk) result (λ o. S.blocks o.source.source
-/// &#9;≡ [blocks_from](crate::contracts::ent_blocks::blocks#blocks_from) 0 ([length](crate::contracts::logic#length) world.world.allocator.pool) sizes.now) }
-/// ensures reservers { [IfOk](crate::contracts::logic#IfOk) result (λ o. [map](crate::contracts::logic#map) S.block o.returned ≡ S.blocks o.source.source) }
-/// ensures takes { [IfOk](crate::contracts::logic#IfOk) result (λ o. S.takes o.source.source o.returned) }
-/// ensures fresh { [IfOk](crate::contracts::logic#IfOk) result (λ o. [All](crate::contracts::logic#All) S.fresh o.returned) }
+/// ensures dealt { [IfOk](crate::contracts::logic#IfOk) result (λ o. [HasDealt](crate::contracts::ent_total::in_blocks#HasDealt) S.blocks S.block S.takes S.fresh
+/// &#9;([length](crate::contracts::logic#length) world.world.allocator.pool) sizes.now o.source.source o.returned) }
 /// ensures needs_flush { [IsErrAnd](crate::contracts::logic#IsErrAnd) result (λ h. h.error ≡ NeedsFlush)
 /// &#9;↔ (0 \< world.world.allocator.asked) }
 /// ensures no_count { [IsErrAnd](crate::contracts::logic#IsErrAnd) result (λ h. h.error ≡ Count)

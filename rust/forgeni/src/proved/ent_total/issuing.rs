@@ -47,11 +47,9 @@ impl Reserver<OpenWorld> {
     /// ensures refusal { [IfErr](crate::contracts::logic#IfErr) result
     /// &#9;([IsRefused](crate::contracts::ent_total::issuing#IsRefused) ([shared_of](crate::contracts::ent_total::issuing#shared_of) self.old) ([reserver_of](crate::contracts::ent_total::issuing#reserver_of) self.old) ([reserver_of](crate::contracts::ent_total::issuing#reserver_of) self.new) 1) }
     /// &#32;
-    /// // What was given is recorded.
-    /// ensures recorded { [IfOk](crate::contracts::logic#IfOk) result (λ handle. [handles_given](crate::contracts::ent_shared::order#handles_given) ([reserver_of](crate::contracts::ent_total::issuing#reserver_of) self.new).own
-    /// &#9;≡ [handles_given](crate::contracts::ent_shared::order#handles_given) ([reserver_of](crate::contracts::ent_total::issuing#reserver_of) self.old).own ++ handle ∷ \[\]) }
-    /// ensures unrecorded { [OnErr](crate::contracts::logic#OnErr) result
-    /// &#9;([handles_given](crate::contracts::ent_shared::order#handles_given) ([reserver_of](crate::contracts::ent_total::issuing#reserver_of) self.new).own ≡ [handles_given](crate::contracts::ent_shared::order#handles_given) ([reserver_of](crate::contracts::ent_total::issuing#reserver_of) self.old).own) }
+    /// // What was given is recorded, and nothing else.
+    /// ensures recorded { [handles_given](crate::contracts::ent_shared::order#handles_given) ([reserver_of](crate::contracts::ent_total::issuing#reserver_of) self.new).own
+    /// &#9;≡ [handles_given](crate::contracts::ent_shared::order#handles_given) ([reserver_of](crate::contracts::ent_total::issuing#reserver_of) self.old).own ++ [handle_in](crate::contracts::ent_total::issuing#handle_in) result }
     /// </code>
     ///
     /// </details>
@@ -106,11 +104,9 @@ impl Reserver<OpenWorld> {
     /// ensures refusal { [IfErr](crate::contracts::logic#IfErr) result
     /// &#9;([IsRefused](crate::contracts::ent_total::issuing#IsRefused) ([shared_of](crate::contracts::ent_total::issuing#shared_of) self.old) ([reserver_of](crate::contracts::ent_total::issuing#reserver_of) self.old) ([reserver_of](crate::contracts::ent_total::issuing#reserver_of) self.new) n) }
     /// &#32;
-    /// // What was given is recorded.
-    /// ensures recorded { [IfOk](crate::contracts::logic#IfOk) result (λ handles. [handles_given](crate::contracts::ent_shared::order#handles_given) ([reserver_of](crate::contracts::ent_total::issuing#reserver_of) self.new).own
-    /// &#9;≡ [handles_given](crate::contracts::ent_shared::order#handles_given) ([reserver_of](crate::contracts::ent_total::issuing#reserver_of) self.old).own ++ handles.items) }
-    /// ensures unrecorded { [OnErr](crate::contracts::logic#OnErr) result
-    /// &#9;([handles_given](crate::contracts::ent_shared::order#handles_given) ([reserver_of](crate::contracts::ent_total::issuing#reserver_of) self.new).own ≡ [handles_given](crate::contracts::ent_shared::order#handles_given) ([reserver_of](crate::contracts::ent_total::issuing#reserver_of) self.old).own) }
+    /// // What was given is recorded, and nothing else.
+    /// ensures recorded { [handles_given](crate::contracts::ent_shared::order#handles_given) ([reserver_of](crate::contracts::ent_total::issuing#reserver_of) self.new).own
+    /// &#9;≡ [handles_given](crate::contracts::ent_shared::order#handles_given) ([reserver_of](crate::contracts::ent_total::issuing#reserver_of) self.old).own ++ [handles_in](crate::contracts::ent_total::issuing#handles_in) result }
     /// </code>
     ///
     /// </details>

@@ -101,20 +101,13 @@ impl World {
     /// ensures front { [IfOk](crate::contracts::logic#IfOk) result (λ handle.
     /// &#9;[slice_get](crate::contracts::logic#slice_get) self.old.world.allocator.pool 0 ≡ [Some](crate::contracts::logic#Some) handle) }
     /// ensures ok { [IfOk](crate::contracts::logic#IfOk) result (λ handle. self.new.world
-    /// &#9;≡ [after_spawn](crate::contracts::ent_world::effects#after_spawn) ([next_birth](crate::contracts::ent_total::births#next_birth) self.old) ([bundle_of](crate::contracts::ent_storage::bundle#bundle_of) components.now) handle self.old.world) }
+    /// &#9;≡ [after_spawn](crate::contracts::ent_world::effects#after_spawn) ([next_birth](crate::contracts::ent_total::spawning#next_birth) self.old) ([bundle_of](crate::contracts::ent_storage::bundle#bundle_of) components.now) handle self.old.world) }
     /// ensures counted { [OnOk](crate::contracts::logic#OnOk) result (self.new.spawned ≡ [ordinal](crate::contracts::ent_world::sync#ordinal) (self.old.spawned + 1)) }
     /// ensures number { self.new.number ≡ self.old.number }
     /// &#32;
     /// // When it is refused, and what holds then.
-    /// ensures needs_flush { [IsErrOf](crate::contracts::logic#IsErrOf) result AllocError.NeedsFlush
-    /// &#9;↔ (0 \< self.old.world.allocator.asked) }
-    /// ensures space { [IsErrOf](crate::contracts::logic#IsErrOf) result AllocError.Space
-    /// &#9;→ (self.old.world.allocator.asked ≡ 0) × (self.old.world.allocator.pool ≡ \[\]) }
-    /// ensures full { (self.old.world.allocator.asked ≡ 0) × (self.old.world.allocator.pool ≡ \[\])
-    /// &#9;→ [IsErrOf](crate::contracts::logic#IsErrOf) result AllocError.Space
-    /// &#9;⊎ ([IsErrOf](crate::contracts::logic#IsErrOf) result AllocError.Memory × (4 \< [length](crate::contracts::logic#length) ([bundle_of](crate::contracts::ent_storage::bundle#bundle_of) components.now))) }
-    /// ensures memory { [IsErrOf](crate::contracts::logic#IsErrOf) result AllocError.Memory
-    /// &#9;→ ([top](crate::contracts::ent_alloc::sequential#top) self.old.world.allocator ≡ 0) ⊎ (0 \< [length](crate::contracts::logic#length) ([bundle_of](crate::contracts::ent_storage::bundle#bundle_of) components.now)) }
+    /// ensures refused { [IsSpawnRefused](crate::contracts::ent_total::spawning#IsSpawnRefused) self.old.world.allocator
+    /// &#9;([length](crate::contracts::logic#length) ([bundle_of](crate::contracts::ent_storage::bundle#bundle_of) components.now)) result }
     /// ensures err { [OnErr](crate::contracts::logic#OnErr) result (self.new ≡ self.old) }
     /// </code>
     ///
@@ -206,15 +199,8 @@ impl World {
     /// }) }
     /// &#32;
     /// // When it is refused, and what holds then.
-    /// ensures needs_flush { [IsErrOf](crate::contracts::logic#IsErrOf) result AllocError.NeedsFlush
-    /// &#9;↔ (0 \< self.old.world.allocator.asked) }
-    /// ensures space { [IsErrOf](crate::contracts::logic#IsErrOf) result AllocError.Space
-    /// &#9;→ (self.old.world.allocator.asked ≡ 0) × (self.old.world.allocator.pool ≡ \[\]) }
-    /// ensures full { (self.old.world.allocator.asked ≡ 0) × (self.old.world.allocator.pool ≡ \[\])
-    /// &#9;→ [IsErrOf](crate::contracts::logic#IsErrOf) result AllocError.Space
-    /// &#9;⊎ ([IsErrOf](crate::contracts::logic#IsErrOf) result AllocError.Memory × (4 \< [length](crate::contracts::logic#length) ([bundle_of](crate::contracts::ent_storage::bundle#bundle_of) components.now))) }
-    /// ensures memory { [IsErrOf](crate::contracts::logic#IsErrOf) result AllocError.Memory
-    /// &#9;→ ([top](crate::contracts::ent_alloc::sequential#top) self.old.world.allocator ≡ 0) ⊎ (0 \< [length](crate::contracts::logic#length) ([bundle_of](crate::contracts::ent_storage::bundle#bundle_of) components.now)) }
+    /// ensures refused { [IsSpawnRefused](crate::contracts::ent_total::spawning#IsSpawnRefused) self.old.world.allocator
+    /// &#9;([length](crate::contracts::logic#length) ([bundle_of](crate::contracts::ent_storage::bundle#bundle_of) components.now)) result }
     /// ensures err { [OnErr](crate::contracts::logic#OnErr) result (self.new ≡ self.old) }
     /// </code>
     ///

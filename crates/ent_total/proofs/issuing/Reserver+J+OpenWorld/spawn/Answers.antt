@@ -1,6 +1,5 @@
-use Rattle.ent_total.proofs.Common.{rules, Err}
+use Rattle.ent_total.proofs.Common.{rules}
 use Rattle.ent_total.proofs.Recorded.{extends_issued, given_one, refused_one, recorded_one}
-use Rattle.ent_total.proofs.Recorded.{unrecorded}
 use Rattle.ent_total.proofs.issuing.Reserver+J+OpenWorld.spawn.Goals as goal
 
 pub returns-clause-given : goal.returns-clause-given
@@ -27,17 +26,7 @@ returns-clause-recorded g c =
       rules,
       recorded_one c.resume-commands.result.source.now c.resume-commands.result.reserver.now
           c.spawn_with-spawned.new.self.reserver.now c.spawn_with-spawned.result
-          c.spawn_with-spawned.ensures.replies,
-    )
-
-pub returns-clause-unrecorded : goal.returns-clause-unrecorded
-returns-clause-unrecorded g c =
-    search (
-      rules,
-      unrecorded c.resume-commands.result.source.now c.resume-commands.result.reserver.now
-          c.spawn_with-spawned.new.self.reserver.now 1 c.spawn_with-spawned.result
-          (λ why is. c.spawn_with-spawned.ensures.replies (Err why) is)
-          c.spawn_with-spawned.ensures.memory,
+          c.spawn_with-spawned.ensures.replies c.spawn_with-spawned.ensures.memory,
     )
 
 pub returns-clause-extends : goal.returns-clause-extends
