@@ -1,5 +1,5 @@
 //! An allocator is dealt in blocks, one for each reserver.
-ghost use Rattle.std.specs.Prelude.{◌≡◌, ◌-◌, ◌<◌, ◌≤◌, ◌↔◌, All, length, map};
+ghost use Rattle.std.specs.Prelude.{◌≡◌, ◌-◌, ◌<◌, ◌≤◌, ◌↔◌, length};
 ghost use Rattle.std.specs.Prelude.{IfOk, IfErr, IsErrAnd};
 ghost use Rattle.ent_shared.specs.Record.{requested_by};
 ghost use Rattle.ent_total.specs.InBlocks.{HasDealt};

@@ -1,5 +1,5 @@
 //! A world in a phase in blocks.
-ghost use Rattle.std.specs.Prelude.{◌≡◌, ◌<◌, ◌↔◌, All, IfOk, IfErr, IsErrAnd, length, map};
+ghost use Rattle.std.specs.Prelude.{◌≡◌, ◌<◌, ◌↔◌, All, IfOk, IfErr, IsErrAnd, length};
 ghost use Rattle.ent_blocks.specs.Ending.{TakesAnew};
 ghost use Rattle.ent_total.specs.InBlocks.{HasDealt};
 ghost use Rattle.ent_total.specs.InWorld.{view_in};

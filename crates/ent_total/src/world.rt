@@ -1,8 +1,8 @@
-ghost use Rattle.std.specs.Prelude.{◌≡◌, ◌≢◌, ◌<◌, ◌+◌, ◌↔◌, ◌⊎◌, [], length, slice_get};
+ghost use Rattle.std.specs.Prelude.{◌≡◌, ◌≢◌, ◌<◌, ◌+◌, ◌↔◌, [], length, slice_get};
 ghost use Rattle.std.specs.Prelude.{IsTrue, IfOk, OnOk, OnErr, IsErrOf, Some, true, false};
 ghost use Rattle.std.specs.Option.{option_map};
 ghost use Rattle.std.specs.FinMap as map;
-ghost use Rattle.ent_alloc.specs.Sequential.{next, retired, top};
+ghost use Rattle.ent_alloc.specs.Sequential.{next, retired};
 ghost use Rattle.ent_storage.specs.Bundle.{bundle_of};
 ghost use Rattle.ent_storage.specs.EntityMap.{birth_of, components_of, value_of};
 ghost use Rattle.ent_storage.specs.BirthOrder.{ListsAll};
