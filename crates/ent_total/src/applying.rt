@@ -13,7 +13,7 @@ use crate::stopped::Stopped;
 use crate::sync_error::SyncError;
 use crate::world::World;
 use ent_handle::HandedBack;
-use ent_world::{SyncFault, SyncReport};
+use ent_world::SyncReport;
 
 impl World {
     /// Does the sync point: brings to life what is reserved, and then applies the queues, one after
@@ -85,22 +85,10 @@ fn sync(world: &mut ent_world::World, queues: Queues) -> Result<SyncReport, Sync
 {
     match world.apply(queues.list()) {
         Ok(report) => Ok(report),
-        Err(SyncFault::FlushMemory) => Err(SyncError::Memory(queues)),
-        Err(
-            SyncFault::Memory {
-                system,
-                command,
-                done,
-                so_far,
-            },
-        ) => {
-            let stop = Stop {
-                system,
-                command,
-                done,
-            };
-            Err(SyncError::Stopped(Stopped::new(queues, stop, so_far)))
-        }
+        Err(fault) => match Stop::of(fault) {
+            None => Err(SyncError::Memory(queues)),
+            Some((stop, so_far)) => Err(SyncError::Stopped(Stopped::new(queues, stop, so_far))),
+        },
     }
 }
 
@@ -185,21 +173,9 @@ fn apply_left(
 {
     match world.apply_from(queues, from.system, from.command, from.done) {
         Ok(report) => Ok(report),
-        Err(SyncFault::FlushMemory) => unreachable!(),
-        Err(
-            SyncFault::Memory {
-                system,
-                command,
-                done,
-                so_far,
-            },
-        ) => {
-            let stop = Stop {
-                system,
-                command,
-                done,
-            };
-            Err((stop, so_far))
-        }
+        Err(fault) => match Stop::of(fault) {
+            None => unreachable!(),
+            Some(left) => Err(left),
+        },
     }
 }

@@ -11,7 +11,6 @@ use crate::stopped::Stopped;
 use crate::world::World;
 use ent_runner::{FrameFault, FrameReport, Gate, System};
 use ent_shared::Shared;
-use ent_world::SyncFault;
 use std::alloc::Global;
 use std::thread::Threads;
 
@@ -85,20 +84,10 @@ where
         Err(FrameFault::Lost(error)) => Err(FrameError::Lost(error)),
         Err(FrameFault::Sync { fault, queues }) => {
             let queues = Queues::new(world.number, queues);
-            match fault {
-                SyncFault::FlushMemory => Err(FrameError::Unapplied(queues)),
-                SyncFault::Memory {
-                    system,
-                    command,
-                    done,
-                    so_far,
-                } => {
+            match Stop::of(fault) {
+                None => Err(FrameError::Unapplied(queues)),
+                Some((stop, so_far)) => {
                     world.spawned = 0;
-                    let stop = Stop {
-                        system,
-                        command,
-                        done,
-                    };
                     Err(FrameError::Stopped(Stopped::new(queues, stop, so_far)))
                 }
             }

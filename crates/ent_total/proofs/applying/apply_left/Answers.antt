@@ -1,9 +1,9 @@
 use Rattle.ent_total.proofs.applying.apply_left.Goals as goal
 
-pub returns-in-Err-Memory-clause-stopped : goal.returns-in-Err-Memory-clause-stopped
-returns-in-Err-Memory-clause-stopped c =
-    let ensured = c.in-Err-Memory.ensures in
-    let is = c.in-Err-Memory.field-0-is in
+pub returns-in-Some-clause-stopped : goal.returns-in-Some-clause-stopped
+returns-in-Some-clause-stopped c =
+    let ensured = c.in-Err.ensures in
+    let is = c.in-Some.ensures.some in
     record {
       stop = rw is at ensured.stop;
       is_later = rw is at ensured.later;

@@ -9,7 +9,7 @@ use crate::phases::stopped::Stopped;
 use crate::phases::sync_error::SyncError;
 use crate::phases::world::World;
 use crate::handles::HandedBack;
-use crate::worlds::{SyncFault, Report};
+use crate::worlds::Report;
 
 /// # Sync points
 impl World {
@@ -90,22 +90,10 @@ fn sync(world: &mut crate::worlds::World, queues: Queues) -> Result<Report, Sync
 {
     match world.apply(queues.list()) {
         Ok(report) => Ok(report),
-        Err(SyncFault::FlushMemory) => Err(SyncError::Memory(queues)),
-        Err(
-            SyncFault::Memory {
-                system,
-                command,
-                done,
-                so_far,
-            },
-        ) => {
-            let stop = Stop {
-                system,
-                command,
-                done,
-            };
-            Err(SyncError::Stopped(Stopped::new(queues, stop, so_far)))
-        }
+        Err(fault) => match Stop::of(fault) {
+            None => Err(SyncError::Memory(queues)),
+            Some((stop, so_far)) => Err(SyncError::Stopped(Stopped::new(queues, stop, so_far))),
+        },
     }
 }
 
@@ -198,21 +186,9 @@ fn apply_left(
 {
     match world.apply_from(queues, from.system, from.command, from.done) {
         Ok(report) => Ok(report),
-        Err(SyncFault::FlushMemory) => unreachable!(),
-        Err(
-            SyncFault::Memory {
-                system,
-                command,
-                done,
-                so_far,
-            },
-        ) => {
-            let stop = Stop {
-                system,
-                command,
-                done,
-            };
-            Err((stop, so_far))
-        }
+        Err(fault) => match Stop::of(fault) {
+            None => unreachable!(),
+            Some(left) => Err(left),
+        },
     }
 }

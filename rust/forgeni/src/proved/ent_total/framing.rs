@@ -9,7 +9,6 @@ use crate::phases::stopped::Stopped;
 use crate::phases::world::World;
 use crate::running::{FrameFault, FrameReport, Gate, System};
 use crate::reserving::SharedSource;
-use crate::worlds::SyncFault;
 use crate::kit::thread::Join;
 
 /// How many workers may run systems.
@@ -89,20 +88,10 @@ where
         Err(FrameFault::Lost(error)) => Err(FrameError::Lost(error)),
         Err(FrameFault::Sync { fault, queues }) => {
             let queues = Queues::new(world.number, queues);
-            match fault {
-                SyncFault::FlushMemory => Err(FrameError::Unapplied(queues)),
-                SyncFault::Memory {
-                    system,
-                    command,
-                    done,
-                    so_far,
-                } => {
+            match Stop::of(fault) {
+                None => Err(FrameError::Unapplied(queues)),
+                Some((stop, so_far)) => {
                     world.spawned = 0;
-                    let stop = Stop {
-                        system,
-                        command,
-                        done,
-                    };
                     Err(FrameError::Stopped(Stopped::new(queues, stop, so_far)))
                 }
             }

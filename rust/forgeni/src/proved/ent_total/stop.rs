@@ -1,5 +1,7 @@
 // Made of crates/ent_total/src/stop.rt by rust/erase. It isn't edited by hand.
 
+use crate::worlds::{SyncFault, Report};
+
 /// Where a sync point stopped because memory ran out. All births have taken effect, and exactly the
 /// commands before that point.
 ///
@@ -29,3 +31,31 @@ impl core::fmt::Display for Stop {
 }
 
 impl core::error::Error for Stop {}
+
+impl Stop {
+    /// Where the sync point stopped, and the report so far. There is neither if it didn't even
+    /// flush.
+    #[inline]
+    pub(super) fn of(fault: SyncFault) -> Option<(Self, Report)>
+        // ensures none { result ≡ None → fault ≡ SyncFault.FlushMemory }
+        // ensures some { IfSome result (λ it.
+        //     fault ≡ SyncFault.Memory it.0.system it.0.command it.0.done it.1) }
+    {
+        match fault {
+            SyncFault::FlushMemory => None,
+            SyncFault::Memory {
+                system,
+                command,
+                done,
+                so_far,
+            } => {
+                let stop = Stop {
+                    system,
+                    command,
+                    done,
+                };
+                Some((stop, so_far))
+            }
+        }
+    }
+}
