@@ -6,28 +6,50 @@ ghost use Rattle.ent_total.specs.Issuing.{IsClosed, IsClosedLost, reservers_in, 
 
 use crate::open_world::OpenWorld;
 use crate::queues::Queues;
+use crate::world::World;
 use ent_queue::CommandQueue;
 use ent_shared::Reserver;
 
-/// What a phase of a world consists of when it ends.
+/// What a phase of a world has when it ends, besides its world and the rights to reserve.
 #[derive(Drop)]
-pub(crate) struct Parts {
-    pub(crate) world: ent_world::OpenWorld,
-    pub(crate) reservers: Vec<Reserver>,
-    pub(crate) queues: Queues,
-    pub(crate) spawned: u32,
+pub(crate) struct Rest {
+    queues: Queues,
+    spawned: u32,
+}
+
+impl Rest {
+    /// The world, which is closed now, as it was before it was opened, and the queues.
+    pub(crate) fn with(self, closed: ent_world::World) -> (World, Queues)
+        ensures world { result.0 ≡ record {
+          world = closed;
+          number = self.queues.world;
+          spawned = self.spawned;
+        } }
+        ensures queues { result.1 ≡ self.queues }
+    {
+        let Rest { queues, spawned } = self;
+        let world = World {
+            world: closed,
+            number: queues.world(),
+            spawned,
+        };
+        (world, queues)
+    }
 }
 
 /// Takes the phase and its callers apart. It doesn't allocate.
-pub(crate) fn parts_of(opened: OpenWorld, callers: Vec<(Reserver, CommandQueue)>) -> Parts
+pub(crate) fn parts_of(
+    opened: OpenWorld,
+    callers: Vec<(Reserver, CommandQueue)>,
+) -> (ent_world::OpenWorld, Vec<Reserver>, Rest)
     requires own { All (λ c. IsOf opened.world.shared c.0) callers.items }
     requires few { length callers.items ≤ opened.world.shared.count }
-    ensures world { result.world ≡ opened.world }
-    ensures reservers { result.reservers.items ≡ reservers_in callers.items }
-    ensures own { All (IsOf opened.world.shared) result.reservers.items }
-    ensures queues { result.queues
+    ensures world { result.0 ≡ opened.world }
+    ensures reservers { result.1.items ≡ reservers_in callers.items }
+    ensures own { All (IsOf opened.world.shared) result.1.items }
+    ensures queues { result.2.queues
         ≡ record { world = opened.of_world; queues = queues_in callers.items } }
-    ensures spawned { result.spawned ≡ opened.spawned }
+    ensures spawned { result.2.spawned ≡ opened.spawned }
 {
     let OpenWorld {
         world,
@@ -37,12 +59,11 @@ pub(crate) fn parts_of(opened: OpenWorld, callers: Vec<(Reserver, CommandQueue)>
         mut queues,
     } = opened;
     take_apart(callers, &mut reservers, &mut queues);
-    Parts {
-        world,
-        reservers,
+    let rest = Rest {
         queues: Queues::new(of_world, queues),
         spawned,
-    }
+    };
+    (world, reservers, rest)
 }
 
 /// Puts what the callers reserve with, and their queues, behind two lists that have room for them.

@@ -3,7 +3,7 @@ ghost use Rattle.std.specs.Prelude.{◌≡◌, ◌≤◌, [], length};
 ghost use Rattle.std.specs.Vec.{vec_capacity};
 ghost use Rattle.ent_total.specs.Issuing.{view_of};
 
-use crate::ending::{Parts, closed_world, lost_world, parts_of};
+use crate::ending::{closed_world, lost_world, parts_of};
 use crate::numbering::Numbering;
 use crate::phase::Phase;
 use crate::queues::Queues;
@@ -172,18 +172,8 @@ impl Phased for OpenWorld {
         requires all { length callers.items ≡ self.world.shared.count }
         ensures { EndsWith IsClosed self callers.items result }
     {
-        let Parts {
-            world,
-            reservers,
-            queues,
-            spawned,
-        } = parts_of(self, callers);
-        let world = World {
-            world: closed_world(world, reservers),
-            number: queues.world(),
-            spawned,
-        };
-        (world, queues)
+        let (world, reservers, rest) = parts_of(self, callers);
+        rest.with(closed_world(world, reservers))
     }
 
     fn end_with_some(self, callers: Vec<(Reserver, CommandQueue)>) -> (World, Queues)
@@ -191,18 +181,8 @@ impl Phased for OpenWorld {
         requires few { length callers.items ≤ self.world.shared.count }
         ensures { EndsWith IsClosedLost self callers.items result }
     {
-        let Parts {
-            world,
-            reservers,
-            queues,
-            spawned,
-        } = parts_of(self, callers);
-        let world = World {
-            world: lost_world(world, reservers),
-            number: queues.world(),
-            spawned,
-        };
-        (world, queues)
+        let (world, reservers, rest) = parts_of(self, callers);
+        rest.with(lost_world(world, reservers))
     }
 }
 

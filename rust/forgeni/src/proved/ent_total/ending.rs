@@ -6,28 +6,51 @@ use alloc::vec::Vec;
 use crate::kit::vec::FallibleVec;
 use crate::phases::open_world::OpenWorld;
 use crate::phases::queues::Queues;
+use crate::phases::world::World;
 use crate::commands::IssuedCommands;
 use crate::reserving::SharedReserver;
 
-/// What a phase of a world consists of when it ends.
-pub(super) struct Parts {
-    pub(super) world: crate::worlds::OpenWorld,
-    pub(super) reservers: Vec<SharedReserver>,
-    pub(super) queues: Queues,
-    pub(super) spawned: u32,
+/// What a phase of a world has when it ends, besides its world and the rights to reserve.
+pub(super) struct Rest {
+    queues: Queues,
+    spawned: u32,
+}
+
+impl Rest {
+    /// The world, which is closed now, as it was before it was opened, and the queues.
+    #[inline]
+    pub(super) fn with(self, closed: crate::worlds::World) -> (World, Queues)
+        // ensures world { result.0 ≡ record {
+        //   world = closed;
+        //   number = self.queues.world;
+        //   spawned = self.spawned;
+        // } }
+        // ensures queues { result.1 ≡ self.queues }
+    {
+        let Rest { queues, spawned } = self;
+        let world = World {
+            world: closed,
+            number: queues.world(),
+            spawned,
+        };
+        (world, queues)
+    }
 }
 
 /// Takes the phase and its callers apart. It doesn't allocate.
 #[inline]
-pub(super) fn parts_of(opened: OpenWorld, callers: Vec<(SharedReserver, IssuedCommands)>) -> Parts
+pub(super) fn parts_of(
+    opened: OpenWorld,
+    callers: Vec<(SharedReserver, IssuedCommands)>,
+) -> (crate::worlds::OpenWorld, Vec<SharedReserver>, Rest)
     // requires own { All (λ c. IsOf opened.world.shared c.0) callers.items }
     // requires few { length callers.items ≤ opened.world.shared.count }
-    // ensures world { result.world ≡ opened.world }
-    // ensures reservers { result.reservers.items ≡ reservers_in callers.items }
-    // ensures own { All (IsOf opened.world.shared) result.reservers.items }
-    // ensures queues { result.queues
+    // ensures world { result.0 ≡ opened.world }
+    // ensures reservers { result.1.items ≡ reservers_in callers.items }
+    // ensures own { All (IsOf opened.world.shared) result.1.items }
+    // ensures queues { result.2.queues
     //     ≡ record { world = opened.of_world; queues = queues_in callers.items } }
-    // ensures spawned { result.spawned ≡ opened.spawned }
+    // ensures spawned { result.2.spawned ≡ opened.spawned }
 {
     let OpenWorld {
         world,
@@ -37,12 +60,11 @@ pub(super) fn parts_of(opened: OpenWorld, callers: Vec<(SharedReserver, IssuedCo
         mut queues,
     } = opened;
     take_apart(callers, &mut reservers, &mut queues);
-    Parts {
-        world,
-        reservers,
+    let rest = Rest {
         queues: Queues::new(of_world, queues),
         spawned,
-    }
+    };
+    (world, reservers, rest)
 }
 
 /// Puts what the callers reserve with, and their queues, behind two lists that have room for them.

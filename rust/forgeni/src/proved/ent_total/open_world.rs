@@ -3,7 +3,7 @@
 //! A world in a phase.
 
 use alloc::vec::Vec;
-use crate::phases::ending::{Parts, closed_world, lost_world, parts_of};
+use crate::phases::ending::{closed_world, lost_world, parts_of};
 use crate::phases::phase::Phase;
 use crate::phases::queues::Queues;
 use crate::phases::world::World;
@@ -123,18 +123,8 @@ impl Phased for OpenWorld {
         // requires all { length callers.items ≡ self.world.shared.count }
         // ensures { EndsWith IsClosed self callers.items result }
     {
-        let Parts {
-            world,
-            reservers,
-            queues,
-            spawned,
-        } = parts_of(self, callers);
-        let world = World {
-            world: closed_world(world, reservers),
-            number: queues.world(),
-            spawned,
-        };
-        (world, queues)
+        let (world, reservers, rest) = parts_of(self, callers);
+        rest.with(closed_world(world, reservers))
     }
 
     #[inline]
@@ -143,18 +133,8 @@ impl Phased for OpenWorld {
         // requires few { length callers.items ≤ self.world.shared.count }
         // ensures { EndsWith IsClosedLost self callers.items result }
     {
-        let Parts {
-            world,
-            reservers,
-            queues,
-            spawned,
-        } = parts_of(self, callers);
-        let world = World {
-            world: lost_world(world, reservers),
-            number: queues.world(),
-            spawned,
-        };
-        (world, queues)
+        let (world, reservers, rest) = parts_of(self, callers);
+        rest.with(lost_world(world, reservers))
     }
 }
 
