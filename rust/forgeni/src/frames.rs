@@ -143,8 +143,8 @@ pub fn run_frame<J: Join + Sync, S: System<SharedSource, E> + Sync, E: Send>(
 ///
 /// ```
 /// # #[cfg(feature = "std")] {
-/// use forgeni::{run_logs, Entities, Handle, HandleMap, LogCommands, OutOfMemory, SyncPoint};
-/// use forgeni::StdThreads;
+/// use forgeni::{run_logs, Entities, Handle, HandleMap, LogCommands, OutOfMemory};
+/// use forgeni::{StdThreads, SyncPoint};
 /// use forgeni::Entry::{Command, Refused, Spawn};
 /// use std::sync::Mutex;
 ///
