@@ -50,15 +50,14 @@ pub trait Systems<O: Output, S: Source, E> {
             → IfErr result (λ error. may_leave self.now number (output_of commands.new) error) };
 }
 
-/// The systems of a frame, whose outputs are queues: they see this view of its world, and the gate
-/// is told when one begins.
+/// The systems of a frame, whose outputs are queues. They see this view of its world.
 #[derive(Drop)]
 pub struct Issuers<'v, 's, 'g, T, G> {
     /// What the systems see.
     pub view: View<'v>,
     /// The systems, in their order.
     pub systems: &'s [T],
-    /// Passed by each system before it runs.
+    /// Called before each system runs.
     pub gate: &'g G,
 }
 

@@ -18,7 +18,7 @@ pub(crate) struct Rest {
 }
 
 impl Rest {
-    /// The world, which is closed now, as it was before it was opened, and the queues.
+    /// The closed world, with its number and its count of spawns, and the queues.
     pub(crate) fn with(self, closed: ent_world::World) -> (World, Queues)
         ensures world { result.0 ≡ record {
           world = closed;

@@ -1,4 +1,4 @@
-/// Is told when a system begins. A test waits in it, and a program may count or trace.
+/// Called when a system begins. A test can wait in it, and a program can count or trace.
 pub trait Gate {
     /// A worker is about to run the system of this number.
     fn entered(&self, system: usize);

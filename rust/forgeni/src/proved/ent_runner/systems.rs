@@ -50,14 +50,13 @@ pub trait Systems<O: Output, S: Source, E> {
     ) -> Result<(), E>;
 }
 
-/// The systems of a frame, whose outputs are queues: they see this view of its world, and the gate
-/// is told when one begins.
+/// The systems of a frame, whose outputs are queues. They see this view of its world.
 pub struct Issuers<'v, 's, 'g, T, G> {
     /// What the systems see.
     pub view: View<'v>,
     /// The systems, in their order.
     pub systems: &'s [T],
-    /// Passed by each system before it runs.
+    /// Called before each system runs.
     pub gate: &'g G,
 }
 

@@ -17,7 +17,7 @@ pub(super) struct Rest {
 }
 
 impl Rest {
-    /// The world, which is closed now, as it was before it was opened, and the queues.
+    /// The closed world, with its number and its count of spawns, and the queues.
     #[inline]
     pub(super) fn with(self, closed: crate::worlds::World) -> (World, Queues)
         // ensures world { result.0 ≡ record {

@@ -1,6 +1,6 @@
 // Made of crates/ent_runner/src/frame/gate.rt by rust/erase. It isn't edited by hand.
 
-/// Is told when a system begins. A test waits in it, and a program may count or trace.
+/// Called when a system begins. A test can wait in it, and a program can count or trace.
 pub trait Gate {
     /// A worker is about to run the system of this number.
     fn entered(&self, system: usize);
