@@ -1,9 +1,13 @@
--- An allocator that was shared, and from which nobody reserved, is as it was.
+-- An allocator that was shared, and from which nobody reserved, is as it was. And why one isn't
+-- shared.
 use Rattle.ent_total.proofs.Common.{rules, ◌≡◌, List, [], ◌∷◌, refl, All, All-head, All-tail}
 use Rattle.ent_total.proofs.Common.{Allocator, after_history, Reserver, records_of, own_of_all}
-use Rattle.ent_total.proofs.Common.{history_of, map, All-map}
+use Rattle.ent_total.proofs.Common.{history_of, map, All-map, ℕ, ◌<◌, ◌∙◌, sym}
 use Rattle.ent_alloc.specs.Entities.{Entities}
 use Rattle.ent_total.specs.Issuing.{Issuer, new_issuer, reservers_in}
+use Rattle.ent_total.specs.Opening.{IsUnopened}
+use Rattle.ent_total.specs.declared.share_error.ShareError.{ShareError}
+use Rattle.ent_total.specs.declared.share_error.ShareError.TheVariants as share
 use Rattle.ent_total.specs.declared.world.World.{World}
 
 abbrev IsUnused : Reserver → Type 0
@@ -43,3 +47,24 @@ none_issued (r ∷ rs) = search (rules, none_issued rs)
 pub unused_reservers : (cs : List Issuer)
     → All (λ (c : Issuer). c.0.own.entries ≡ []) cs → All IsUnused (reservers_in cs)
 unused_reservers cs unused = All-map IsUnused (λ (c : Issuer). c.0) cs unused
+
+-- A phase that fits a flushed allocator is opened, or refused for memory.
+module _ (asked : ℕ) (Unfit : Type 0) (flushed : 0 < asked → ⊥) (fits : Unfit → ⊥) where
+  pub is_opened : IsUnopened asked Unfit (λ _. ⊥)
+  is_opened = record {
+    needs_flush = (λ no. absurd no, λ some. absurd (flushed some));
+    no_count = (λ no. absurd no, λ many. absurd (fits many.1));
+  }
+
+  pub for_memory : (error : ShareError) → error ≡ share.Memory
+      → IsUnopened asked Unfit (λ why. error ≡ why)
+  for_memory error is = record {
+    needs_flush = (
+      λ no. let never : share.Memory ≡ share.NeedsFlush = sym is ∙ no in absurd (cc),
+      λ some. absurd (flushed some),
+    );
+    no_count = (
+      λ no. let never : share.Memory ≡ share.Count = sym is ∙ no in absurd (cc),
+      λ many. absurd (fits many.1),
+    );
+  }

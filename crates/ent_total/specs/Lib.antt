@@ -8,5 +8,6 @@ pub mod Phases
 pub mod Reserving
 pub mod Image
 pub mod InBlocks
+pub mod Opening
 pub mod InWorld
 pub mod Lending

@@ -1,9 +1,9 @@
 //! An allocator is dealt in blocks, one for each reserver.
-ghost use Rattle.std.specs.Prelude.{◌≡◌, ◌-◌, ◌<◌, ◌≤◌, ◌↔◌, length};
+ghost use Rattle.std.specs.Prelude.{◌≡◌, ◌-◌, ◌<◌, ◌≤◌, length};
 ghost use Rattle.std.specs.Prelude.{IfOk, IfErr, IsErrAnd};
 ghost use Rattle.ent_shared.specs.Record.{requested_by};
 ghost use Rattle.ent_total.specs.InBlocks.{HasDealt};
-ghost use Rattle.ent_total.specs.declared.share_error.ShareError.TheVariants.{NeedsFlush, Count};
+ghost use Rattle.ent_total.specs.Opening.{IsUnopened};
 
 use crate::numbering::Numbering;
 use crate::opening::{Opening, begin};
@@ -34,10 +34,8 @@ pub fn share_in<J: Numbering, S: Deals>(
     ensures rows { IfOk result (λ o. S.rows o.source ≡ entities.rows) }
     ensures dealt { IfOk result (λ o. HasDealt S.blocks S.block S.takes S.fresh
         (length entities.allocator.pool) sizes.now o.source o.returned) }
-    ensures needs_flush { IsErrAnd result (λ h. h.error ≡ NeedsFlush)
-        ↔ (0 < entities.allocator.asked) }
-    ensures no_count { IsErrAnd result (λ h. h.error ≡ Count)
-        ↔ ((entities.allocator.asked ≡ 0) × ¬ (S.may_have (length sizes.now))) }
+    ensures refused { IsUnopened entities.allocator.asked (¬ (S.may_have (length sizes.now)))
+        (λ why. IsErrAnd result (λ h. h.error ≡ why)) }
     ensures handed_back { IfErr result (λ h. h.value ≡ entities) }
 {
     if entities.needs_flush() {

@@ -1,9 +1,9 @@
 //! A world in a phase in blocks.
-ghost use Rattle.std.specs.Prelude.{◌≡◌, ◌<◌, ◌↔◌, All, IfOk, IfErr, IsErrAnd, length};
+ghost use Rattle.std.specs.Prelude.{◌≡◌, ◌<◌, All, IfOk, IfErr, IsErrAnd, length};
 ghost use Rattle.ent_blocks.specs.Ending.{TakesAnew};
 ghost use Rattle.ent_total.specs.InBlocks.{HasDealt};
 ghost use Rattle.ent_total.specs.InWorld.{view_in};
-ghost use Rattle.ent_total.specs.declared.share_error.ShareError.TheVariants.{NeedsFlush, Count};
+ghost use Rattle.ent_total.specs.Opening.{IsUnopened};
 ghost use Rattle.ent_world.specs.InBlocks.{world_with, world_after};
 ghost use Rattle.ent_world.specs.World.{IsWorld};
 
@@ -234,10 +234,8 @@ pub fn open_in<J: Numbering, S: Deals>(
         (o.source.of_world ≡ world.number) × (o.source.spawned ≡ world.spawned)) }
     ensures dealt { IfOk result (λ o. HasDealt S.blocks S.block S.takes S.fresh
         (length world.world.allocator.pool) sizes.now o.source.source o.returned) }
-    ensures needs_flush { IsErrAnd result (λ h. h.error ≡ NeedsFlush)
-        ↔ (0 < world.world.allocator.asked) }
-    ensures no_count { IsErrAnd result (λ h. h.error ≡ Count)
-        ↔ ((world.world.allocator.asked ≡ 0) × ¬ (S.may_have (length sizes.now))) }
+    ensures refused { IsUnopened world.world.allocator.asked (¬ (S.may_have (length sizes.now)))
+        (λ why. IsErrAnd result (λ h. h.error ≡ why)) }
     ensures handed_back { IfErr result (λ h. h.value ≡ world) }
 {
     if world.needs_flush() {

@@ -1,9 +1,9 @@
 //! An allocator is shared: its reservers reserve from one cursor, each by one atomic step.
-ghost use Rattle.std.specs.Prelude.{◌≡◌, ◌≢◌, ◌<◌, ◌↔◌, ◌⊎◌, IfOk, IfErr, IsErrAnd, OnOk, OnErr};
+ghost use Rattle.std.specs.Prelude.{◌≡◌, ◌≢◌, ◌<◌, ◌⊎◌, IfOk, IfErr, IsErrAnd, OnOk, OnErr};
 ghost use Rattle.ent_shared.specs.Moves.{after_meeting};
 ghost use Rattle.ent_shared.specs.Phase.{IsBelow, records_of};
 ghost use Rattle.ent_shared.specs.Record.{opened_records};
-ghost use Rattle.ent_total.specs.declared.share_error.ShareError.TheVariants.{NeedsFlush, Count};
+ghost use Rattle.ent_total.specs.Opening.{IsUnopened};
 
 use crate::numbering::Numbering;
 use crate::opening::{Opening, begin};
@@ -34,10 +34,8 @@ pub fn share<J: Numbering>(
     ensures count { IfOk result (λ o. o.source.count ≡ count) }
     ensures may_return { IfOk result (λ o.
         records_of o.returned ≡ opened_records entities.allocator 0 count) }
-    ensures needs_flush { IsErrAnd result (λ h. h.error ≡ NeedsFlush)
-        ↔ (0 < entities.allocator.asked) }
-    ensures no_count { IsErrAnd result (λ h. h.error ≡ Count)
-        ↔ ((entities.allocator.asked ≡ 0) × ((count ≡ 0) ⊎ (1024 < count))) }
+    ensures refused { IsUnopened entities.allocator.asked ((count ≡ 0) ⊎ (1024 < count))
+        (λ why. IsErrAnd result (λ h. h.error ≡ why)) }
     ensures handed_back { IfErr result (λ h. h.value ≡ entities) }
 {
     if entities.needs_flush() {

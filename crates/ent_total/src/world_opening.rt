@@ -1,11 +1,11 @@
 //! A world is opened.
-ghost use Rattle.std.specs.Prelude.{◌≡◌, ◌<◌, ◌≤◌, ◌↔◌, ◌⊎◌, [], All, IfOk, IfErr};
+ghost use Rattle.std.specs.Prelude.{◌≡◌, ◌<◌, ◌≤◌, ◌⊎◌, [], All, IfOk, IfErr};
 ghost use Rattle.std.specs.Prelude.{IsErrAnd, length, map};
 ghost use Rattle.std.specs.Vec.{vec_capacity, vec_len};
 ghost use Rattle.ent_shared.specs.Phase.{IsOf, records_of};
 ghost use Rattle.ent_shared.specs.Record.{opened_records};
 ghost use Rattle.ent_total.specs.Issuing.{reservers_in, new_issuer, view_of};
-ghost use Rattle.ent_total.specs.declared.share_error.ShareError.TheVariants.{NeedsFlush, Count};
+ghost use Rattle.ent_total.specs.Opening.{IsUnopened};
 
 use crate::numbering::Numbering;
 use crate::open_world::OpenWorld;
@@ -39,10 +39,8 @@ pub fn open<J: Numbering>(
     ensures reservers { IfOk result (λ o. records_of (reservers_in o.returned)
         ≡ opened_records world.world.allocator 0 count) }
     ensures no_command { IfOk result (λ o. All (λ c. c.1 ≡ []) o.returned) }
-    ensures needs_flush { IsErrAnd result (λ h. h.error ≡ NeedsFlush)
-        ↔ (0 < world.world.allocator.asked) }
-    ensures no_count { IsErrAnd result (λ h. h.error ≡ Count)
-        ↔ ((world.world.allocator.asked ≡ 0) × ((count ≡ 0) ⊎ (1024 < count))) }
+    ensures refused { IsUnopened world.world.allocator.asked ((count ≡ 0) ⊎ (1024 < count))
+        (λ why. IsErrAnd result (λ h. h.error ≡ why)) }
     ensures handed_back { IfErr result (λ h. h.value ≡ world) }
 {
     if world.needs_flush() {

@@ -1,6 +1,5 @@
-use Rattle.ent_total.proofs.Common.{rules, arith, length, ◌≡◌, ◌∙◌, ap, sym}
-use Rattle.ent_total.specs.declared.share_error.ShareError.TheVariants.{Count, Memory}
-use Rattle.ent_total.proofs.Unused.{same_entities}
+use Rattle.ent_total.proofs.Common.{rules, arith, length, ap}
+use Rattle.ent_total.proofs.Unused.{for_memory, is_opened, same_entities}
 use Rattle.ent_total.proofs.in_blocks.share_in.Goals as goal
 
 pub begin-requires-clause-room : goal.begin-requires-clause-room
@@ -15,13 +14,23 @@ returns-in-Ok-begin-clause-dealt g c = record {
   unused = rw c.in-Ok-begin.ensures.opening c.in-Ok-deal.ensures.fresh;
 }
 
-pub returns-in-Err-begin-clause-no_count : goal.returns-in-Err-begin-clause-no_count
-returns-in-Err-begin-clause-no_count g c =
-    let fits : g.S.Deals.may_have (length c.args.sizes.now) = search rules in (
-      λ is. let no : Memory ≡ Count =
-          sym (ap (λ h. h.error) c.new-in-Err-begin.ensures) ∙ is in absurd (cc),
-      λ h. absurd (h.1 fits),
-    )
+-- the allocator was flushed, and so many blocks fit
+pub returns-in-Ok-begin-clause-refused : goal.returns-in-Ok-begin-clause-refused
+returns-in-Ok-begin-clause-refused g c =
+    let fits : g.S.Deals.may_have (length c.args.sizes.now) = search rules in
+    is_opened _ _ (λ some. absurd (search rules)) (λ no. no fits)
+
+pub returns-in-Err-clause-refused : goal.returns-in-Err-clause-refused
+returns-in-Err-clause-refused g c =
+    let fits : g.S.Deals.may_have (length c.args.sizes.now) = search rules in
+    for_memory _ _ (λ some. absurd (search rules)) (λ no. no fits) _
+    (ap (λ h. h.error) c.new-in-Err.ensures)
+
+pub returns-in-Err-begin-clause-refused : goal.returns-in-Err-begin-clause-refused
+returns-in-Err-begin-clause-refused g c =
+    let fits : g.S.Deals.may_have (length c.args.sizes.now) = search rules in
+    for_memory _ _ (λ some. absurd (search rules)) (λ no. no fits) _
+    (ap (λ h. h.error) c.new-in-Err-begin.ensures)
 
 pub returns-in-Err-begin-clause-handed_back : goal.returns-in-Err-begin-clause-handed_back
 returns-in-Err-begin-clause-handed_back g c =

@@ -1,6 +1,5 @@
-use Rattle.ent_total.proofs.Common.{rules, arith, ◌≡◌, ◌∙◌, ap, sym}
-use Rattle.ent_total.specs.declared.share_error.ShareError.TheVariants.{Count, NeedsFlush, Memory}
-use Rattle.ent_total.proofs.Unused.{same_world}
+use Rattle.ent_total.proofs.Common.{rules, arith, ap}
+use Rattle.ent_total.proofs.Unused.{for_memory, is_opened, same_world}
 use Rattle.ent_total.proofs.in_world.open_in.Goals as goal
 
 pub begin-requires-clause-room : goal.begin-requires-clause-room
@@ -19,29 +18,28 @@ returns-in-Ok-begin-clause-dealt g c = record {
   unused = rw c.in-Ok-begin.ensures.opening c.in-Ok-deal_blocks.ensures.fresh;
 }
 
-pub returns-in-Ok-begin-clause-needs_flush : goal.returns-in-Ok-begin-clause-needs_flush
-returns-in-Ok-begin-clause-needs_flush g c =
-    let no = c.if-needs_flush.false in
-    (λ no. absurd no, λ some. let yes = c.needs_flush.ensures.1 some in absurd (cc))
+-- the world was flushed, and so many blocks fit
+pub returns-in-Ok-begin-clause-refused : goal.returns-in-Ok-begin-clause-refused
+returns-in-Ok-begin-clause-refused g c =
+    is_opened _ _
+    (λ some. let yes = c.needs_flush.ensures.1 some in
+    let no = c.if-needs_flush.false in absurd (cc))
+    (λ no. no (c.fits.ensures.0 c.if-not-fits.false))
 
-pub returns-in-Ok-begin-clause-no_count : goal.returns-in-Ok-begin-clause-no_count
-returns-in-Ok-begin-clause-no_count g c =
-    (λ no. absurd no, λ many. absurd (many.1 (c.fits.ensures.0 c.if-not-fits.false)))
+pub returns-in-Err-clause-refused : goal.returns-in-Err-clause-refused
+returns-in-Err-clause-refused g c =
+    for_memory _ _
+    (λ some. let yes = c.needs_flush.ensures.1 some in
+    let no = c.if-needs_flush.false in absurd (cc))
+    (λ no. no (c.fits.ensures.0 c.if-not-fits.false)) _ (ap (λ h. h.error) c.new-in-Err.ensures)
 
-pub returns-in-Err-begin-clause-needs_flush : goal.returns-in-Err-begin-clause-needs_flush
-returns-in-Err-begin-clause-needs_flush g c = (
-  λ is. let no : Memory ≡ NeedsFlush = sym (ap (λ h. h.error) c.new-in-Err-begin.ensures) ∙ is in
-      absurd (cc),
-  λ some. let yes = c.needs_flush.ensures.1 some in
-      let no = c.if-needs_flush.false in absurd (cc),
-)
-
-pub returns-in-Err-begin-clause-no_count : goal.returns-in-Err-begin-clause-no_count
-returns-in-Err-begin-clause-no_count g c = (
-  λ is. let no : Memory ≡ Count = sym (ap (λ h. h.error) c.new-in-Err-begin.ensures) ∙ is in
-      absurd (cc),
-  λ many. absurd (many.1 (c.fits.ensures.0 c.if-not-fits.false)),
-)
+pub returns-in-Err-begin-clause-refused : goal.returns-in-Err-begin-clause-refused
+returns-in-Err-begin-clause-refused g c =
+    for_memory _ _
+    (λ some. let yes = c.needs_flush.ensures.1 some in
+    let no = c.if-needs_flush.false in absurd (cc))
+    (λ no. no (c.fits.ensures.0 c.if-not-fits.false)) _
+    (ap (λ h. h.error) c.new-in-Err-begin.ensures)
 
 pub returns-in-Err-begin-clause-handed_back : goal.returns-in-Err-begin-clause-handed_back
 returns-in-Err-begin-clause-handed_back g c =

@@ -29,10 +29,8 @@ use crate::handles::HandedBack;
 /// ensures rows { [IfOk](crate::contracts::logic#IfOk) result (λ o. S.rows o.source ≡ entities.rows) }
 /// ensures dealt { [IfOk](crate::contracts::logic#IfOk) result (λ o. [HasDealt](crate::contracts::ent_total::in_blocks#HasDealt) S.blocks S.block S.takes S.fresh
 /// &#9;([length](crate::contracts::logic#length) entities.allocator.pool) sizes.now o.source o.returned) }
-/// ensures needs_flush { [IsErrAnd](crate::contracts::logic#IsErrAnd) result (λ h. h.error ≡ NeedsFlush)
-/// &#9;↔ (0 \< entities.allocator.asked) }
-/// ensures no_count { [IsErrAnd](crate::contracts::logic#IsErrAnd) result (λ h. h.error ≡ Count)
-/// &#9;↔ ((entities.allocator.asked ≡ 0) × ¬ (S.may_have ([length](crate::contracts::logic#length) sizes.now))) }
+/// ensures refused { [IsUnopened](crate::contracts::ent_total::opening#IsUnopened) entities.allocator.asked (¬ (S.may_have ([length](crate::contracts::logic#length) sizes.now)))
+/// &#9;(λ why. [IsErrAnd](crate::contracts::logic#IsErrAnd) result (λ h. h.error ≡ why)) }
 /// ensures handed_back { [IfErr](crate::contracts::logic#IfErr) result (λ h. h.value ≡ entities) }
 /// </code>
 ///

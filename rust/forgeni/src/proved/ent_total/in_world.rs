@@ -199,10 +199,8 @@ impl<S: Deals> InBlocks for InWorld<S> {
 /// &#9;(o.source.of_world ≡ world.number) × (o.source.spawned ≡ world.spawned)) }
 /// ensures dealt { [IfOk](crate::contracts::logic#IfOk) result (λ o. [HasDealt](crate::contracts::ent_total::in_blocks#HasDealt) S.blocks S.block S.takes S.fresh
 /// &#9;([length](crate::contracts::logic#length) world.world.allocator.pool) sizes.now o.source.source o.returned) }
-/// ensures needs_flush { [IsErrAnd](crate::contracts::logic#IsErrAnd) result (λ h. h.error ≡ NeedsFlush)
-/// &#9;↔ (0 \< world.world.allocator.asked) }
-/// ensures no_count { [IsErrAnd](crate::contracts::logic#IsErrAnd) result (λ h. h.error ≡ Count)
-/// &#9;↔ ((world.world.allocator.asked ≡ 0) × ¬ (S.may_have ([length](crate::contracts::logic#length) sizes.now))) }
+/// ensures refused { [IsUnopened](crate::contracts::ent_total::opening#IsUnopened) world.world.allocator.asked (¬ (S.may_have ([length](crate::contracts::logic#length) sizes.now)))
+/// &#9;(λ why. [IsErrAnd](crate::contracts::logic#IsErrAnd) result (λ h. h.error ≡ why)) }
 /// ensures handed_back { [IfErr](crate::contracts::logic#IfErr) result (λ h. h.value ≡ world) }
 /// </code>
 ///

@@ -29,10 +29,8 @@ pub(super) const CALLERS: usize = 1024;
 /// ensures count { [IfOk](crate::contracts::logic#IfOk) result (λ o. o.source.count ≡ count) }
 /// ensures may_return { [IfOk](crate::contracts::logic#IfOk) result (λ o.
 /// &#9;[records_of](crate::contracts::ent_shared::phase#records_of) o.returned ≡ [opened_records](crate::contracts::ent_shared::record#opened_records) entities.allocator 0 count) }
-/// ensures needs_flush { [IsErrAnd](crate::contracts::logic#IsErrAnd) result (λ h. h.error ≡ NeedsFlush)
-/// &#9;↔ (0 \< entities.allocator.asked) }
-/// ensures no_count { [IsErrAnd](crate::contracts::logic#IsErrAnd) result (λ h. h.error ≡ Count)
-/// &#9;↔ ((entities.allocator.asked ≡ 0) × ((count ≡ 0) ⊎ (1024 \< count))) }
+/// ensures refused { [IsUnopened](crate::contracts::ent_total::opening#IsUnopened) entities.allocator.asked ((count ≡ 0) ⊎ (1024 \< count))
+/// &#9;(λ why. [IsErrAnd](crate::contracts::logic#IsErrAnd) result (λ h. h.error ≡ why)) }
 /// ensures handed_back { [IfErr](crate::contracts::logic#IfErr) result (λ h. h.value ≡ entities) }
 /// </code>
 ///

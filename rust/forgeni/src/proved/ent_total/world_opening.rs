@@ -32,10 +32,8 @@ use crate::reserving::SharedReserver;
 /// ensures reservers { [IfOk](crate::contracts::logic#IfOk) result (λ o. [records_of](crate::contracts::ent_shared::phase#records_of) ([reservers_in](crate::contracts::ent_total::issuing#reservers_in) o.returned)
 /// &#9;≡ [opened_records](crate::contracts::ent_shared::record#opened_records) world.world.allocator 0 count) }
 /// ensures no_command { [IfOk](crate::contracts::logic#IfOk) result (λ o. [All](crate::contracts::logic#All) (λ c. c.1 ≡ \[\]) o.returned) }
-/// ensures needs_flush { [IsErrAnd](crate::contracts::logic#IsErrAnd) result (λ h. h.error ≡ NeedsFlush)
-/// &#9;↔ (0 \< world.world.allocator.asked) }
-/// ensures no_count { [IsErrAnd](crate::contracts::logic#IsErrAnd) result (λ h. h.error ≡ Count)
-/// &#9;↔ ((world.world.allocator.asked ≡ 0) × ((count ≡ 0) ⊎ (1024 \< count))) }
+/// ensures refused { [IsUnopened](crate::contracts::ent_total::opening#IsUnopened) world.world.allocator.asked ((count ≡ 0) ⊎ (1024 \< count))
+/// &#9;(λ why. [IsErrAnd](crate::contracts::logic#IsErrAnd) result (λ h. h.error ≡ why)) }
 /// ensures handed_back { [IfErr](crate::contracts::logic#IfErr) result (λ h. h.value ≡ world) }
 /// </code>
 ///
