@@ -3,8 +3,8 @@ use Rattle.std.specs.Prelude.{◌≡◌, ◌<◌, ◌↔◌, ℕ}
 use Rattle.ent_total.specs.declared.share_error.ShareError.{ShareError}
 use Rattle.ent_total.specs.declared.share_error.ShareError.TheVariants.{NeedsFlush, Count}
 
--- So many handles were requested since the last flush, and that many callers don't fit if this is
--- so. It is refused for an error if this holds of it.
+-- `asked` handles were requested since the last flush. `Unfit` says that there can't be so many
+-- callers, and `refuses` that the call returned this error.
 pub record IsUnopened (asked : ℕ) (Unfit : Type 0) (refuses : ShareError → Type 0) : Type 0 where
   pub needs_flush : refuses NeedsFlush ↔ (0 < asked)
   pub no_count : refuses Count ↔ ((asked ≡ 0) × Unfit)

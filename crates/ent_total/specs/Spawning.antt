@@ -13,8 +13,8 @@ use Rattle.ent_total.specs.declared.world.World.{World}
 abbrev pub next_birth : World → Birth
 next_birth w = record { frame = w.world.phase; system = no_system; ordinal = w.spawned }
 
--- When a spawn with that many components is refused, and why. An entity of up to four components
--- takes no memory but for new slots and values.
+-- When a spawn with that many components is refused, and why. It runs out of memory only if no slot
+-- waits or there are components, and where no slot is left, only if there are more than four.
 pub record IsSpawnRefused (s : Allocator) (components : ℕ) (result : Result Handle AllocFault)
     : Type 0 where
   pub needs_flush : IsErrOf result fault.NeedsFlush ↔ (0 < s.asked)

@@ -160,8 +160,8 @@ pub mod applying {}
 /// </pre>
 ///
 /// <pre>
-/// -- When a spawn with that many components is refused, and why. An entity of up to four components
-/// -- takes no memory but for new slots and values.
+/// -- When a spawn with that many components is refused, and why. It runs out of memory only if no slot
+/// -- waits or there are components, and where no slot is left, only if there are more than four.
 /// pub record <b id="IsSpawnRefused">IsSpawnRefused</b> (s : <a href="../../ent_alloc/sequential/index.html#Allocator">Allocator</a>) (components : <a href="../../logic/index.html#ℕ">ℕ</a>) (result : <a href="../../logic/index.html#Result">Result</a> <a href="../../ent_handle/handle/index.html#Handle">Handle</a> AllocFault)
 ///     : Type 0 where
 ///   pub needs_flush : <a href="../../logic/index.html#IsErrOf">IsErrOf</a> result fault.NeedsFlush ↔ (0 &lt; s.asked)
