@@ -4,6 +4,7 @@
     .ci/mutants.py fit                   each fits the code, and says what refuses it; none that `named_mutants.txt` lists is lost
     .ci/mutants.py try --gate [CRATE..]  those with a line `gate` are refused by what their files say
     .ci/mutants.py try --built ..        over the libraries as `rt ci` left them, however old their files look
+    .ci/mutants.py try --since FILE ..   beside `rt ci`: each crate once the libraries below it are made that are newer than this file
     .ci/mutants.py try [CRATE..]         all of these crates, or of all crates
     .ci/mutants.py try --changed REV     all of the crates whose sources, specs or proofs differ from that commit
     .ci/mutants.py try --name ..         writes the line `refused by` into each file that has none
@@ -34,6 +35,7 @@ import shutil
 import subprocess
 import sys
 import tempfile
+import threading
 import time
 
 PARTS = ("src", "specs", "proofs")
@@ -699,12 +701,41 @@ def fit():
     return 1 if faults else 0
 
 
+def is_made_since(crate, begun):
+    """Whether the library of a crate has been made since then. `rt ci` may take one that it kept,
+    whose files are older than their names."""
+    try:
+        return os.stat(f"crates/{crate}/out/rlib/{crate}.rlib/format").st_ctime > begun
+    except FileNotFoundError:
+        return False
+
+
 def try_crates(prover, by_crate, options):
-    """Tries these mutants, the crates with most of them first: each is one worker's."""
-    order = sorted(by_crate, key=lambda it: -len(by_crate[it]))
+    """Tries these mutants, each crate on one worker: of the crates whose libraries are there, that
+    with most of them first."""
+    left = sorted(by_crate, key=lambda it: -len(by_crate[it]))
+    begun = os.stat(options.since).st_ctime if options.since else None
+    taking = threading.Lock()
+
+    def is_ready(crate):
+        return begun is None or all(is_made_since(it, begun) for it in prover.below(crate))
+
+    def take():
+        with taking:
+            while left:
+                for crate in filter(is_ready, left):
+                    left.remove(crate)
+                    return crate
+                time.sleep(1)
+
+    def work(_):
+        results = []
+        while crate := take():
+            results += try_crate(prover, crate, by_crate[crate], options.name)
+        return results
+
     with concurrent.futures.ThreadPoolExecutor(options.jobs) as pool:
-        runs = [pool.submit(try_crate, prover, it, by_crate[it], options.name) for it in order]
-    return [it for run in runs for it in run.result()]
+        return [it for results in pool.map(work, range(options.jobs)) for it in results]
 
 
 def try_all(options):
@@ -753,6 +784,7 @@ def main():
     of_try.add_argument("--changed", metavar="REV")
     of_try.add_argument("--name", action="store_true")
     of_try.add_argument("--built", action="store_true")
+    of_try.add_argument("--since", metavar="FILE")
     of_try.add_argument("--jobs", type=int, default=os.cpu_count())
     options = words.parse_args()
     if options.verb == "try":

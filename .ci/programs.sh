@@ -1,8 +1,7 @@
 #!/usr/bin/env bash
 # The programs `spawnrun` and `tracecheck` as cargo builds them, without a network: their kit beside an independent reader of JSON, their
 # cases, the changed answers, the pictures that they draw, and the scripts of examples/ that run a program. `spawnrun run` has to print the
-# same as its peer in docs/PERFORMANCE.md, which is built with Debian's crates. If the gate has built the programs, both builds have to do
-# the same on random input.
+# same as its peer in docs/PERFORMANCE.md, which is built with Debian's crates.
 #
 #     programs.sh [CASES]     so many random cases for each comparison, by default 600
 set -eu
@@ -50,6 +49,3 @@ for script in $scripts; do
     echo "== $script"
     sh "$script"
 done
-if [ -x crates/spawnrun/out/spawnrun ] && [ -x crates/tracecheck/out/tracecheck ]; then
-    python3 .ci/both_builds.py --cases "$cases"
-fi

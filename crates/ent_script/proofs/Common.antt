@@ -3,31 +3,45 @@
 pub use Rattle.std.proofs.Common.{All, BTreeMap, Bool, Bor, Equal, Err, Global, Greater, IfSome}
 pub use Rattle.std.proofs.Common.{Less, List, MatchOption, None, Ok, Option, Ordering, Result, Some}
 pub use Rattle.std.proofs.Common.{String, Vec, [], add-one, ap, append_assoc, arith, bytes_eq}
-pub use Rattle.std.proofs.Common.{codes, cond, drop, eqb, false, get_or, inl, inr, is_eq, is_some}
-pub use Rattle.std.proofs.Common.{le-leb, length, length-append, length-drop, map, nat_cmp, ok_or}
-pub use Rattle.std.proofs.Common.{option_and_then, option_map, refl, rules, slice_get, string_bytes}
+pub use Rattle.std.proofs.Common.{chars, codes, cond, drop, encode_utf8, eqb, false, get_or, inl}
+pub use Rattle.std.proofs.Common.{inr, is_eq, is_none, is_some, le-leb, length, length-append}
+pub use Rattle.std.proofs.Common.{length-drop, map, min, nat_cmp, ok_or, option_and_then}
+pub use Rattle.std.proofs.Common.{option_map, refl, rules, slice_get, slice_index, string_bytes}
 pub use Rattle.std.proofs.Common.{string_cmp, subst, suc, sym, take, take_all, true, true≢false}
-pub use Rattle.std.proofs.Common.{zero, ℕ, ℤ, ◌&&◌, ◌*◌, ◌++◌, ◌+◌, ◌-◌, ◌<◌, ◌||◌, ◌∙◌, ◌∷◌, ◌≡◌}
-pub use Rattle.std.proofs.Common.{◌≢◌, ◌≤◌, ◌⊎◌}
+pub use Rattle.std.proofs.Common.{zero, ℕ, ℤ, ◌%◌, ◌&&◌, ◌*◌, ◌++◌, ◌+◌, ◌-◌, ◌/◌, ◌<◌, ◌^◌, ◌||◌}
+pub use Rattle.std.proofs.Common.{◌∙◌, ◌∷◌, ◌≡◌, ◌≢◌, ◌≤◌, ◌⊎◌}
 pub use Rattle.std.proofs.lemmas.Bool.{cases_Bool, cond-false, lt-leb, ne_eqb}
 pub use Rattle.std.proofs.lemmas.Cmp.{nat_list_cmp_total, tied_itself}
-pub use Rattle.std.proofs.lemmas.Grind.{common_steps}
+pub use Rattle.std.proofs.lemmas.Grind.{common_steps, flat_map-append}
 pub use Rattle.std.proofs.lemmas.List.{append-nil, drop_more, get_or-map, get_or_default}
-pub use Rattle.std.proofs.lemmas.List.{length-map, map-append, take-map, take_more}
+pub use Rattle.std.proofs.lemmas.List.{length-map, length-take, length-take-le, map-append}
+pub use Rattle.std.proofs.lemmas.List.{nil_from_length, take-append-drop, take-append-le, take-map}
+pub use Rattle.std.proofs.lemmas.List.{take_more}
 pub use Rattle.std.proofs.lemmas.List.Splits.{join_with_byte-slice_split, slice_split_at}
 pub use Rattle.std.proofs.lemmas.List.Splits.{slice_split_none}
 pub use Rattle.std.proofs.lemmas.List.Sums.{fold-append}
 pub use Rattle.std.proofs.lemmas.Map.Text.{btree_map_updates_str, is_eq-slice_cmp}
 pub use Rattle.std.proofs.lemmas.Slice.Eq.{bytes_eq-Decides}
-pub use Rattle.std.proofs.lemmas.Str.{IsUtf8-from_is_utf8, is_utf8-from_IsUtf8}
+pub use Rattle.std.proofs.lemmas.Str.{IsUtf8-from_is_utf8, IsUtf8-past_char, chars-IsAscii}
+pub use Rattle.std.proofs.lemmas.Str.{chars-nil, chars_past_char, is_utf8-from_IsUtf8}
 pub use Rattle.std.specs.BTreeMap.{Updates, get_by, insert_entry}
 pub use Rattle.std.specs.Cmp.Lexicographic.{slice_cmp}
-pub use Rattle.std.specs.List.{AllByRecursion, fold, list_all, list_any, slice_split}
+pub use Rattle.std.specs.List.{AllByRecursion, flat_map, fold, list_all, list_any, slice_split}
 pub use Rattle.std.specs.Map.{keys_of}
 pub use Rattle.std.specs.Ordering.{match_ordering}
 pub use Rattle.std.specs.Prelude.{IfOk, nat_le, option_copied}
 pub use Rattle.std.specs.Str.{IsUtf8, is_utf8}
+pub use Rattle.std.proofs.lemmas.Fmt.{decimal_by_steps}
+pub use Rattle.std.proofs.lemmas.Option.{IfSome_then}
+pub use Rattle.std.proofs.lemmas.Str.Ascii.{IsAscii-from_all}
+pub use Rattle.std.specs.Fmt.{decimal, is_char_start}
+unfoldable pub use Rattle.std.specs.Fmt.Cut.{cut_to, floor_char_boundary}
+pub use Rattle.std.specs.Fmt.InlineText.{inline_text}
+pub use Rattle.std.specs.Str.Iter.{chars_rest}
 pub use Rattle.ent_alloc.specs.Limits.{AreLimits}
+pub use Rattle.ent_alloc.proofs.Common.{All-append, All-cons, All-head, All-nil, All-push, All-tail}
+pub use Rattle.ent_alloc.proofs.Common.{All-take, All-weaker, and_parts, cases_lt, cond-true}
+pub use Rattle.ent_alloc.proofs.Common.{nat_tests}
 pub use Rattle.ent_handle.proofs.Decimals.{plain_from_decimal}
 pub use Rattle.ent_handle.specs.Component.{component_cmp}
 pub use Rattle.ent_handle.specs.Text.{is_decimal}
@@ -88,11 +102,17 @@ unfoldable pub use Rattle.ent_script.specs.Reading.{
   target_of,
 }
 pub use Rattle.ent_script.specs.Script.{Script}
-pub use Rattle.ent_script.specs.Shares.{Share, both, frames_by, has, with_operations, system_by, turn}
+pub use Rattle.ent_script.specs.Shares.{Share, both, frames_by, has, system_by, turn}
+pub use Rattle.ent_script.specs.Shares.{with_operations}
 unfoldable pub use Rattle.ent_script.specs.Shares.{frame_by, script_by}
 pub use Rattle.ent_script.specs.Streaming.{BeginsArray, FaultOfArray, PassesAtMost, Streams}
 pub use Rattle.ent_script.specs.Streaming.{StreamsList, begins_object, frames_of, ran_out}
 pub use Rattle.ent_script.specs.Top.{head, heads}
+pub use Rattle.ent_script.specs.Place.{bad_name, is_among, is_listed, is_text, key_but, key_char}
+pub use Rattle.ent_script.specs.Place.{quoted, twice, unwhole_in}
+pub use Rattle.ent_script.specs.Shown.{ArePrintable, IsPrintable, byte_text, char_text, hex}
+pub use Rattle.ent_script.specs.Shown.{is_printable, plain, unit_text}
+unfoldable pub use Rattle.ent_script.specs.Shown.{front}
 pub use Rattle.ent_script.specs.declared.cause.Cause.{Cause}
 pub use Rattle.ent_script.specs.declared.cause.ScriptCause.{ScriptCause}
 pub use Rattle.ent_script.specs.declared.fields.Fields.{Fields}

@@ -15,5 +15,8 @@ pub mod Keyed
 pub mod Shares
 pub mod Whole
 pub mod Ranges
+pub mod Firsts
+pub mod Fronts
+pub mod FoundLaws
 pub mod Common
 pub mod Laws

@@ -14,3 +14,6 @@ pub mod Part
 pub mod Fields
 pub mod Sizes
 pub mod Shares
+pub mod Shown
+pub mod Place
+pub mod Found

@@ -10,6 +10,7 @@ mod divided;
 pub mod elements;
 mod fields;
 mod format;
+pub mod found;
 mod frame;
 mod frames;
 mod front;

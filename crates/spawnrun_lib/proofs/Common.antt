@@ -152,7 +152,7 @@ pub use Rattle.spawnrun_lib.specs.CommandLine.{blocks_option, most_handles, opti
 pub use Rattle.spawnrun_lib.specs.CommandLine.{program, program_of, references_to, show_option}
 pub use Rattle.spawnrun_lib.specs.CommandLine.{show_text, shown, workers_option}
 pub use Rattle.spawnrun_lib.specs.Course.{AreFew, HaveGone}
-pub use Rattle.spawnrun_lib.specs.CourseInBlocks.{EndsInBlocks, HaveGoneInBlocks, sized}
+pub use Rattle.spawnrun_lib.specs.CourseInBlocks.{EndsInBlocks, HaveGoneInBlocks}
 pub use Rattle.spawnrun_lib.specs.Found.{line_at}
 pub use Rattle.spawnrun_lib.specs.FrameAlone.{IsFrameAlone, queues_by_births}
 pub use Rattle.spawnrun_lib.specs.FrameText.{fault_line, frame_line, frame_text, kind_text}
@@ -166,21 +166,19 @@ pub use Rattle.spawnrun_lib.specs.Issuing.{Issues, IssuesAll, MayIssue, MayStop,
 pub use Rattle.spawnrun_lib.specs.Issuing.{StopsAmong, StopsOnEach, bound, names_after, unbound}
 pub use Rattle.spawnrun_lib.specs.Parts.{HasIssued, HasIssuedOn, HasStopped, HasStoppedAmong}
 pub use Rattle.spawnrun_lib.specs.Parts.{HasStoppedOn, command_on, names_of}
-pub use Rattle.spawnrun_lib.specs.Place.{bad_name, is_among, is_listed, is_text, key_but, key_char}
-pub use Rattle.spawnrun_lib.specs.Place.{quoted, twice, unwhole_in}
 pub use Rattle.spawnrun_lib.specs.Replay.{outcome_lines}
 pub use Rattle.spawnrun_lib.specs.Report.{AreExecutions, Execution, IsReport, IsReportOf, born_in}
 pub use Rattle.spawnrun_lib.specs.Report.{frames_text, last_world, synced}
-pub use Rattle.spawnrun_lib.specs.ReportInBlocks.{AreQueues, IsTextFrom, IsTextInBlocks}
-pub use Rattle.spawnrun_lib.specs.ReportInBlocks.{blocks_of_frame, reserved_in, sizes_of}
+pub use Rattle.spawnrun_lib.specs.ReportInBlocks.{IsTextFrom, IsTextInBlocks, blocks_in}
+pub use Rattle.spawnrun_lib.specs.ReportInBlocks.{reserved_in, sizes_of}
 pub use Rattle.spawnrun_lib.specs.Rolls.{IsFirstFrom, IsRollOf, is_before}
 pub use Rattle.spawnrun_lib.specs.SameReport.{HasEnoughSlots, IsLines, IsRefusedRequest}
 pub use Rattle.spawnrun_lib.specs.SameReport.{IsWithoutHandles, TellsNoRefusal}
 pub use Rattle.spawnrun_lib.specs.SameReport.{requested_by_operation, requested_in_all}
 pub use Rattle.spawnrun_lib.specs.ScriptAlone.{birth_fault_line, birth_line, text_alone, text_from}
-pub use Rattle.spawnrun_lib.specs.Shown.{ArePrintable, IsPrintable, byte_text, char_text, hex}
-pub use Rattle.spawnrun_lib.specs.Shown.{is_printable, plain, unit_text}
-unfoldable pub use Rattle.spawnrun_lib.specs.Shown.{front}
+pub use Rattle.ent_script.specs.Shown.{ArePrintable, IsPrintable, byte_text, char_text, hex}
+pub use Rattle.ent_script.specs.Shown.{is_printable, plain, unit_text}
+unfoldable pub use Rattle.ent_script.specs.Shown.{front}
 pub use Rattle.spawnrun_lib.specs.Wants.{size_wants}
 pub use Rattle.spawnrun_lib.specs.Work.{Accepts, IsProductOf, Refusal, Refuses, fails, input_limit}
 pub use Rattle.spawnrun_lib.specs.Work.{is_too_long, size_line}

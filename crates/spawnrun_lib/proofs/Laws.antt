@@ -7,8 +7,6 @@ use Rattle.spawnrun_lib.proofs.Common.{on_ok_weaker, take_at_read, take_more}
 use Rattle.ent_queue.proofs.Extending.{extends_nothing, extends_then}
 use Rattle.spawnrun_lib.proofs.SystemRunning.{has_begun, has_ended, names_set, stopped_in}
 use Rattle.spawnrun_lib.proofs.CommandLineOptions.{show_read, shows_by, with_option}
-use Rattle.spawnrun_lib.proofs.Firsts.{next_whole}
-use Rattle.spawnrun_lib.proofs.Fronts.{added, counted, front-more, front-short, go_on}
 use Rattle.spawnrun_lib.proofs.GivenOnce.{given_once}
 use Rattle.spawnrun_lib.proofs.NextFrame.{has_begun_in_blocks}
 use Rattle.spawnrun_lib.proofs.OneTextInBlocks.{one_text_in_blocks}
@@ -18,19 +16,14 @@ pub ruleset laws = (
   All-head,
   All-nil,
   IfOk-weaker,
-  added,
   append-nil,
   common_steps,
-  counted,
   drop_all,
   extends_nothing,
   extends_then,
   flat_map-append,
   four_parts,
-  front-more,
-  front-short,
   given_once,
-  go_on,
   has_begun,
   has_begun_in_blocks,
   has_ended,
@@ -41,7 +34,6 @@ pub ruleset laws = (
   map-append,
   map-set,
   names_set,
-  next_whole,
   on_ok_weaker,
   one_text_in_blocks,
   show_read,

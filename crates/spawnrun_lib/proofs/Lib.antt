@@ -13,8 +13,6 @@ pub mod NoRefusal
 pub mod Enough
 pub mod TextsAlone
 pub mod WorkedPremises
-pub mod Fronts
-pub mod Firsts
 pub mod ParsedOptions
 pub mod MovedNames
 pub mod CommandLineOptions

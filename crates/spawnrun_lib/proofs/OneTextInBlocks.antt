@@ -7,8 +7,9 @@ use Rattle.spawnrun_lib.proofs.Common.{is_fresh, listed, Block, rest_of, after_u
 use Rattle.spawnrun_lib.proofs.Common.{lesser, Command, Spawn, SpawnMany, AreDrawnBy, left_of}
 use Rattle.spawnrun_lib.proofs.Common.{used_by, View, sync, World, view_of, at_within, Script}
 use Rattle.spawnrun_lib.proofs.Common.{Operation, Bindings, unbound, names_after, Issues, IssuesAll}
-use Rattle.spawnrun_lib.proofs.Common.{AreQueues, IsTextFrom, IsTextInBlocks, sizes_of}
-use Rattle.spawnrun_lib.proofs.Common.{blocks_of_frame, reserved_in, Show}
+use Rattle.spawnrun_lib.proofs.Common.{IsTextFrom, IsTextInBlocks, sizes_of}
+use Rattle.spawnrun_lib.specs.ReportInBlocks.{HaveIssued}
+use Rattle.spawnrun_lib.proofs.Common.{blocks_in, reserved_in, Show}
 use Rattle.ent_script.specs.declared.operation.Operation.TheVariants as operation
 use Rattle.spawnrun_lib.proofs.OneCourse.{one_text, same_on_each}
 
@@ -86,14 +87,14 @@ count_sizes size [] = refl
 count_sizes size (system ∷ systems) = ap suc (count_sizes size systems)
 
 same_queues : (size : ℕ) (w : World) (systems : List (List Operation)) (q r : List (List Command))
-    → AreQueues size w systems q → AreQueues size w systems r → q ≡ r
+    → HaveIssued systems w (blocks_in (sizes_of size systems) w) q
+    → HaveIssued systems w (blocks_in (sizes_of size systems) w) r → q ≡ r
 same_queues size w systems q r a b =
-    let many : length (blocks_of_frame size w systems) ≡ length systems =
-    search (rules, count_from, count_sizes) in
+    let blocks = blocks_in (sizes_of size systems) w in
+    let many : length blocks ≡ length systems = search (rules, count_from, count_sizes) in
     ext_get_or [] q r (a.each_queue ∙ sym b.each_queue) (λ n less.
     let system = at_within systems n (omega (arith, less, a.each_queue)) in
-    let block =
-    at_within (blocks_of_frame size w systems) n (omega (arith, less, a.each_queue, many)) in
+    let block = at_within blocks n (omega (arith, less, a.each_queue, many)) in
     search (
       rules,
       same_queue (view_of w) unbound system.0 w.allocator block.0,
@@ -114,8 +115,9 @@ same_text names size show number w (systems ∷ frames) text other (q, rest, are
     (r, rest', are', more', other_is) =
     let same : q ≡ r = same_queues size w systems q r are are' in
     let rest_is : rest ≡ rest' =
-    same_text names size show (number + 1) (sync q (reserved_in size w systems q)).world frames
-    rest rest' more (rw (sym same) at more') in
+    same_text names size show (number + 1)
+    (sync q (reserved_in (sizes_of size systems) w q)).world frames rest rest' more
+    (rw (sym same) at more') in
     search (rules, same, rest_is)
 
 pub one_text_in_blocks : (script : Script) (size : ℕ) (show : Show) (text other : List ℕ)

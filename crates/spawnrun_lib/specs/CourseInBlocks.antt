@@ -3,10 +3,9 @@ use Rattle.std.specs.Prelude.{◌≡◌, ℕ, List, [], ◌++◌, Option, length
 use Rattle.ent_handle.specs.Handle.{Handle}
 use Rattle.ent_handle.specs.declared.memory.Memory.{Memory}
 use Rattle.ent_alloc.specs.Sequential.{born}
-use Rattle.ent_blocks.specs.Blocks.{Block, Blocks, Reserver, blocks_from, blocks_of}
+use Rattle.ent_blocks.specs.Blocks.{Blocks, Reserver, blocks_of}
 use Rattle.ent_queue.specs.Command.{Command}
 use Rattle.ent_queue.specs.Issuing.{Issues}
-use Rattle.ent_world.specs.InBlocks.{world_after}
 use Rattle.ent_world.specs.Sync.{sync}
 use Rattle.ent_world.specs.World.{World}
 use Rattle.ent_world.specs.declared.fault.Fault.{Fault}
@@ -14,25 +13,17 @@ use Rattle.ent_runner.specs.Blocks.{IsBrokenOff}
 use Rattle.ent_runner.specs.Frame.{SystemMayIssue, SystemMayLeave, view_of}
 use Rattle.ent_script.specs.declared.operation.Operation.{Operation}
 use Rattle.spawnrun_lib.specs.Issuing.{MayIssue, MayStop}
-use Rattle.spawnrun_lib.specs.ReportInBlocks.{HaveIssued, IsTextFrom, blocks_after}
+use Rattle.spawnrun_lib.specs.ReportInBlocks.{HaveIssued, IsTextFrom, blocks_in, reserved_in}
 use Rattle.spawnrun_lib.specs.declared.show.Show.{Show}
-
--- the blocks of a frame, of these sizes
-abbrev pub sized : List ℕ → World → List Block
-sized sizes w = blocks_from 0 (length w.allocator.pool) sizes
-
--- the world after systems in these blocks have reserved what the queues say
-abbrev pub reserved_by : List ℕ → World → List (List Command) → World
-reserved_by sizes w queues = world_after w (blocks_after (sized sizes w) queues)
 
 -- A frame whose blocks have these sizes ended so.
 pub record EndsInBlocks (sizes : List ℕ) (systems : List (List Operation)) (w : World)
     (queues : List (List Command)) (after : World) (came : List Handle) (faults : List Fault)
     : Type 0 where
-  pub issued : HaveIssued systems w (sized sizes w) queues
-  pub world : after ≡ (sync queues (reserved_by sizes w queues)).world
-  pub born_are : came ≡ born (reserved_by sizes w queues).allocator
-  pub faults_are : faults ≡ (sync queues (reserved_by sizes w queues)).faults
+  pub issued : HaveIssued systems w (blocks_in sizes w) queues
+  pub world : after ≡ (sync queues (reserved_in sizes w queues)).world
+  pub born_are : came ≡ born (reserved_in sizes w queues).allocator
+  pub faults_are : faults ≡ (sync queues (reserved_in sizes w queues)).faults
 
 -- A frame whose blocks have these sizes was broken off on that many workers.
 pub record StopsInBlocks (sizes : List ℕ) (systems : List (List Operation)) (workers : ℕ)
@@ -40,7 +31,7 @@ pub record StopsInBlocks (sizes : List ℕ) (systems : List (List Operation)) (w
   pub phase : Blocks
   pub reservers : List Reserver
   pub start : phase.start ≡ w.allocator
-  pub blocks : blocks_of reservers ≡ sized sizes w
+  pub blocks : blocks_of reservers ≡ blocks_in sizes w
   pub error : Option Memory
   pub broken_off : IsBrokenOff Issues [] phase (SystemMayIssue MayIssue systems (view_of w))
       (SystemMayLeave (λ system view queue (_ : Memory). MayStop system view queue) systems

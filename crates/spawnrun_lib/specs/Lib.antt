@@ -16,8 +16,6 @@ pub mod CourseInBlocks
 pub mod ScriptAlone
 pub mod SameReport
 pub mod Wants
-pub mod Shown
-pub mod Place
 pub mod Found
 pub mod CommandLine
 pub mod Program

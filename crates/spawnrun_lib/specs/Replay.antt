@@ -12,7 +12,7 @@ use Rattle.ent_replay.specs.declared.Outcome.{Outcome}
 use Rattle.ent_replay.specs.declared.ReadFault.TheVariants.{Line}
 use Rattle.ent_replay.specs.declared.ReplayFault.{ReplayFault}
 use Rattle.spawnrun_lib.specs.Found.{line_found}
-use Rattle.spawnrun_lib.specs.Shown.{ArePrintable}
+use Rattle.ent_script.specs.Shown.{ArePrintable}
 use Rattle.spawnrun_lib.specs.Wants.{line_wants}
 use Rattle.spawnrun_lib.specs.Work.{Refusal}
 

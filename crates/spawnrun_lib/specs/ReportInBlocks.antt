@@ -21,10 +21,10 @@ use Rattle.spawnrun_lib.specs.WorldText.{IsWorldText}
 abbrev pub sizes_of : ℕ → List (List Operation) → List ℕ
 sizes_of size systems = map (λ (_ : List Operation). size) systems
 
--- the blocks of a frame: the front of the pool, in the order of the systems. A block is smaller
--- where the pool ends
-abbrev pub blocks_of_frame : ℕ → World → List (List Operation) → List Block
-blocks_of_frame size w systems = blocks_from 0 (length w.allocator.pool) (sizes_of size systems)
+-- the blocks of a frame, of these sizes: the front of the pool, in the order of the systems. A
+-- block is smaller where the pool ends
+abbrev pub blocks_in : List ℕ → World → List Block
+blocks_in sizes w = blocks_from 0 (length w.allocator.pool) sizes
 
 -- the blocks after systems have filled these queues
 abbrev pub blocks_after : List Block → List (List Command) → List Block
@@ -42,24 +42,20 @@ pub record HaveIssued (systems : List (List Operation)) (w : World) (blocks : Li
   pub draws : (n : ℕ) (block : Block) → slice_get blocks n ≡ Some block
       → AreDrawnBy w.allocator block (queue_at queues n)
 
-abbrev pub AreQueues : ℕ → World → List (List Operation) → List (List Command) → Type 0
-AreQueues size w systems queues = HaveIssued systems w (blocks_of_frame size w systems) queues
-
--- the world after the systems have reserved what these queues say
-abbrev pub reserved_in : ℕ → World → List (List Operation) → List (List Command) → World
-reserved_in size w systems queues =
-    world_after w (blocks_after (blocks_of_frame size w systems) queues)
+-- the world after systems in blocks of these sizes have reserved what the queues say
+abbrev pub reserved_in : List ℕ → World → List (List Command) → World
+reserved_in sizes w queues = world_after w (blocks_after (blocks_in sizes w) queues)
 
 -- the text of the frames, numbered from here on, and of the world that they leave
 abbrev pub IsTextFrom : List (List ℕ) → ℕ → Show → ℕ → World → List (List (List Operation)) → List ℕ
     → Type 0
 IsTextFrom names size show number w [] text = IsWorldText names show w.entities text
 IsTextFrom names size show number w (systems ∷ frames) text = (queues : List (List Command))
-    × (rest : List ℕ) × AreQueues size w systems queues
+    × (rest : List ℕ) × HaveIssued systems w (blocks_in (sizes_of size systems) w) queues
     × IsTextFrom names size show (number + 1)
-    (sync queues (reserved_in size w systems queues)).world frames rest
-    × (text ≡ frame_text show number (born (reserved_in size w systems queues).allocator)
-    (sync queues (reserved_in size w systems queues)).faults ++ rest)
+    (sync queues (reserved_in (sizes_of size systems) w queues)).world frames rest
+    × (text ≡ frame_text show number (born (reserved_in (sizes_of size systems) w queues).allocator)
+    (sync queues (reserved_in (sizes_of size systems) w queues)).faults ++ rest)
 
 -- The text of a script, which begins without entities, with blocks of this size: it has no other
 -- one.

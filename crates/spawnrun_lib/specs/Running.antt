@@ -12,8 +12,8 @@ use Rattle.spawnrun_lib.specs.Report.{Execution, IsReport, IsReportOf}
 use Rattle.spawnrun_lib.specs.ReportInBlocks.{IsTextInBlocks}
 use Rattle.spawnrun_lib.specs.SameReport.{IsWithoutHandles, HasEnoughSlots, TellsNoRefusal}
 use Rattle.spawnrun_lib.specs.ScriptAlone.{text_alone}
-use Rattle.spawnrun_lib.specs.Found.{TellsOfScript}
-use Rattle.spawnrun_lib.specs.Shown.{ArePrintable}
+use Rattle.ent_script.specs.Found.{TellsOfScript}
+use Rattle.ent_script.specs.Shown.{ArePrintable}
 use Rattle.spawnrun_lib.specs.Wants.{script_wants}
 use Rattle.spawnrun_lib.specs.Work.{Refusal}
 

@@ -1,6 +1,6 @@
 //! What is made of an input: an output, or a refusal. And how long an input may be.
-use crate::found::Found;
 use crate::text::Text;
+use ent_script::found::Found;
 
 /// The longest input that the program reads, in bytes.
 pub const INPUT_LIMIT: usize = 67_108_864;

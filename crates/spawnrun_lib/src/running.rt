@@ -7,12 +7,12 @@ ghost use Rattle.spawnrun_lib.specs.Work.{IsProductOf, refusal_of};
 
 use crate::product::{Product, Refusal};
 use crate::progress::Progress;
-use crate::script::script_found;
 use crate::script_run::run_script;
 use crate::script_run_in_blocks::run_script_in_blocks;
 use crate::show::Show;
 use crate::wants::script_wants;
 use ent_handle::Memory;
+use ent_script::found::script_found;
 use ent_script::{ReadFault, read_script, write_refusal};
 use std::alloc::Global;
 use std::thread::Threads;

@@ -1,11 +1,10 @@
 ghost use Rattle.std.specs.Prelude.{◌≡◌};
 ghost use Rattle.std.specs.Fmt.InlineText.{inline_text};
 ghost use Rattle.spawnrun_lib.specs.Found.{line_at, line_found};
-ghost use Rattle.spawnrun_lib.specs.Shown.{ArePrintable};
+ghost use Rattle.ent_script.specs.Shown.{ArePrintable};
 
-use crate::found::{Found, with, with_number};
-use crate::shown::line_shown;
 use ent_handle::split_once;
+use ent_script::found::{Found, bytes_shown, with, with_number};
 
 /// What a schedule has at its line of this number, from 1.
 ///
@@ -15,7 +14,7 @@ pub(crate) fn schedule_found(text: &[u8], line: usize) -> Found
     ensures found { inline_text result ≡ line_found text.now line }
     ensures printable { ArePrintable (inline_text result) }
 {
-    let shown = line_shown(line_of(text, line));
+    let shown = bytes_shown(line_of(text, line));
     let found = with(Found::new(), "; found \"");
     let found = with(found, shown.as_str());
     let found = with(found, "\" at line ");

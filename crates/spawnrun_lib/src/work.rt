@@ -7,7 +7,6 @@ ghost use Rattle.spawnrun_lib.specs.Wants.{size_wants};
 ghost use Rattle.spawnrun_lib.specs.Work.{Accepts, HasAdvised, HasDone, HasRefused, IsProductOf};
 ghost use Rattle.spawnrun_lib.specs.Work.{Refuses, input_limit, refusal_of, size_line};
 
-use crate::found::Found;
 use crate::output::{refuse, write_text};
 use crate::product::{INPUT_LIMIT, Product, Refusal};
 use crate::progress::Progress;
@@ -18,6 +17,7 @@ use crate::task::Task;
 use crate::wants::size_wants;
 use cli::{InputFault, Sink, Source, read_all};
 use ent_handle::Memory;
+use ent_script::found::Found;
 use std::alloc::Global;
 use std::thread::Threads;
 

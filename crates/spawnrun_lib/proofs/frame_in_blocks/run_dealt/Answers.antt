@@ -1,9 +1,8 @@
-use Rattle.spawnrun_lib.proofs.Common.{rules, ◌≡◌, ◌∙◌, ap, sym, List, Command, sized}
-use Rattle.spawnrun_lib.proofs.Common.{view_of}
+use Rattle.spawnrun_lib.proofs.Common.{rules, ◌≡◌, ◌∙◌, ap, sym, List, Command, blocks_in}
+use Rattle.spawnrun_lib.proofs.Common.{reserved_in, view_of}
 use Rattle.spawnrun_lib.proofs.DrawnQueues.{among_after, blocks_used, have_issued}
 use Rattle.ent_blocks.specs.Blocks.{blocks_of}
 use Rattle.ent_world.specs.InBlocks.{world_after, world_with}
-use Rattle.spawnrun_lib.specs.CourseInBlocks.{reserved_by}
 use Rattle.spawnrun_lib.specs.ReportInBlocks.{HaveIssued, blocks_after}
 use Rattle.spawnrun_lib.specs.declared.frame_in_blocks.Undone.TheVariants.{Lost}
 use Rattle.spawnrun_lib.proofs.frame_in_blocks.run_dealt.Given as given
@@ -15,7 +14,7 @@ module _ (g : given.Over) (c : In-Ok-filled g) where
   abbrev queues : List (List Command)
   queues = c.in-Ok-filled.filled.0.items
 
-  blocks_are : blocks_of c.in-Ok.reservers.items ≡ sized c.args.sizes.now c.args.world
+  blocks_are : blocks_of c.in-Ok.reservers.items ≡ blocks_in c.args.sizes.now c.args.world
   blocks_are = c.in-Ok.ensures.reservers ∙ c.in-Ok.ensures.blocks
 
   start_is : c.dealer.result.now.start ≡ c.args.world.allocator
@@ -30,7 +29,7 @@ module _ (g : given.Over) (c : In-Ok-filled g) where
       blocks_used c.dealer.result.now c.args.systems.now c.args.world _ _ _ _ start_is view_is
       c.in-Ok-filled.ensures.ok
 
-  issued : HaveIssued c.args.systems.now c.args.world (sized c.args.sizes.now c.args.world) queues
+  issued : HaveIssued c.args.systems.now c.args.world (blocks_in c.args.sizes.now c.args.world) queues
   issued =
       rw blocks_are
       at (have_issued c.dealer.result.now c.args.systems.now c.args.world _ _ _ _ start_is view_is
@@ -56,10 +55,10 @@ returns-in-Ok-apply-clause-went g c =
     let world : world_with c.close.result.phase.start c.into_parts-blocks.result.1 ≡ c.args.world =
     search rules in
     let blocks : c.close.result.phase.blocks
-    ≡ blocks_after (sized c.args.sizes.now c.args.world) queues =
+    ≡ blocks_after (blocks_in c.args.sizes.now c.args.world) queues =
     ap (λ e. e.phase.blocks) c.close.ensures.is ∙ used g here
     ∙ ap (λ b. blocks_after b queues) (blocks_are g here) in
-    let settled : c.in-Ok-settle.world ≡ reserved_by c.args.sizes.now c.args.world queues =
+    let settled : c.in-Ok-settle.world ≡ reserved_in c.args.sizes.now c.args.world queues =
     c.in-Ok-settle.ensures.after ∙ (λ i. world_after (world i) (blocks i)) in (
       queues,
       record {

@@ -2,8 +2,8 @@
 
 //! What is made of an input: an output, or a refusal. And how long an input may be.
 use alloc::vec::Vec;
-use crate::spawnrun_lib::found::Found;
 use crate::spawnrun_lib::text::Text;
+use crate::scripts::found::Found;
 
 /// The longest input that the program reads, in bytes.
 pub const INPUT_LIMIT: usize = 67_108_864;

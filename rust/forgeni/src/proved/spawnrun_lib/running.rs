@@ -5,12 +5,12 @@
 use alloc::vec::Vec;
 use crate::spawnrun_lib::product::{Product, Refusal};
 use crate::spawnrun_lib::progress::Progress;
-use crate::spawnrun_lib::script::script_found;
 use crate::spawnrun_lib::script_run::run_script;
 use crate::spawnrun_lib::script_run_in_blocks::run_script_in_blocks;
 use crate::spawnrun_lib::show::Show;
 use crate::spawnrun_lib::wants::script_wants;
 use crate::handles::OutOfMemory;
+use crate::scripts::found::script_found;
 use crate::scripts::{ReadFault, read_script, write_refusal};
 use crate::kit::thread::Join;
 

@@ -1,8 +1,7 @@
 // Made of crates/spawnrun_lib/src/schedule.rt by rust/erase. It isn't edited by hand.
 
-use crate::spawnrun_lib::found::{Found, with, with_number};
-use crate::spawnrun_lib::shown::line_shown;
 use crate::handles::split_once;
+use crate::scripts::found::{Found, bytes_shown, with, with_number};
 
 /// What a schedule has at its line of this number, from 1.
 ///
@@ -13,7 +12,7 @@ pub(super) fn schedule_found(text: &[u8], line: usize) -> Found
     // ensures found { inline_text result ≡ line_found text.now line }
     // ensures printable { ArePrintable (inline_text result) }
 {
-    let shown = line_shown(line_of(text, line));
+    let shown = bytes_shown(line_of(text, line));
     let found = with(Found::new(), "; found \"");
     let found = with(found, shown.as_str());
     let found = with(found, "\" at line ");

@@ -4,7 +4,6 @@
 
 use alloc::vec::Vec;
 use crate::kit::vec::FallibleVec;
-use crate::spawnrun_lib::found::Found;
 use crate::spawnrun_lib::output::{refuse, write_text};
 use crate::spawnrun_lib::product::{INPUT_LIMIT, Product, Refusal};
 use crate::spawnrun_lib::progress::Progress;
@@ -15,6 +14,7 @@ use crate::spawnrun_lib::task::Task;
 use crate::spawnrun_lib::wants::size_wants;
 use crate::cli::{InputFault, Sink, Source, read_all};
 use crate::handles::OutOfMemory;
+use crate::scripts::found::Found;
 use crate::kit::thread::Join;
 
 /// Reads all of the input, does the task with it, and writes the result. A task has 1 to 64

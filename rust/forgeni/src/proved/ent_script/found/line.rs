@@ -1,0 +1,31 @@
+// Made of crates/ent_script/src/found/line.rt by rust/erase. It isn't edited by hand.
+
+use crate::kit::itoa::Buffer;
+use crate::kit::programs::inline_text::InlineText;
+
+/// What a test found, and where: one line without its line feed, which follows what the test
+/// expects.
+///
+/// It begins with `; found `, and ends with the place. Of a script of more than 65,536 bytes it has
+/// only the place, such as ` at frame 0 (counted from 0)`, and outside of a frame it is empty. It
+/// takes no memory itself.
+pub type Found = InlineText<256>;
+
+/// Appends a text, for which there is room.
+#[inline]
+pub(crate) fn with(found: Found, text: &str) -> Found
+    // requires { length (inline_text found) + length text.now < 256 }
+    // ensures { inline_text result ≡ inline_text found ++ text.now }
+{
+    found.and_str(text, text.len())
+}
+
+/// Appends the decimal of a number, for which there is room.
+#[inline]
+pub(crate) fn with_number(found: Found, number: usize) -> Found
+    // requires { length (inline_text found) + 20 < 256 }
+    // ensures text { inline_text result ≡ inline_text found ++ decimal number }
+    // ensures len { length (inline_text result) ≤ length (inline_text found) + 20 }
+{
+    with(found, Buffer::new().format(number))
+}
