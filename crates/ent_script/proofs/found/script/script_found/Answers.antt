@@ -1,6 +1,6 @@
 use Rattle.ent_script.proofs.Common.{rules, ◌≡◌, ◌++◌, List, [], ℕ, codes, All-nil, ArePrintable}
 use Rattle.ent_script.proofs.Fronts.{added, both}
-use Rattle.ent_script.proofs.found.script_found.Goals as goal
+use Rattle.ent_script.proofs.found.script.script_found.Goals as goal
 
 -- the words before what is found
 begun : (empty words : List ℕ) → empty ≡ [] → words ≡ empty ++ codes "; found "

@@ -1,7 +1,7 @@
 use Rattle.ent_script.proofs.Common.{rules, arith, ◌≡◌, ◌++◌, List, ℕ, append_assoc, refl}
 use Rattle.ent_script.proofs.Common.{common_steps}
 use Rattle.ent_script.proofs.Fronts.{added}
-use Rattle.ent_script.proofs.found.with_position.Goals as goal
+use Rattle.ent_script.proofs.found.script.with_position.Goals as goal
 
 seven : (s a b c d e f g : List ℕ)
     → s ++ a ++ b ++ c ++ d ++ e ++ f ++ g ≡ s ++ (a ++ b ++ c ++ d ++ e ++ f ++ g)

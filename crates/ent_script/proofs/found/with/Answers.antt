@@ -1,5 +1,5 @@
 use Rattle.ent_script.proofs.Common.{cond-true, rules, ◌≡◌, List, ℕ, length, cut_to}
-use Rattle.ent_script.proofs.found.line.with.Goals as goal
+use Rattle.ent_script.proofs.found.with.Goals as goal
 
 -- a text is not cut where there is room for it
 cut_to-whole : (text : List ℕ) → cut_to (length text) text ≡ text
