@@ -13,8 +13,8 @@ use std::io::ErrorKind;
 // The exit status for words that are no command line of the program, and for a request for help.
 const LINE_FAULT: u8 = 2;
 
-// The exit status if memory ran out.
-const MEMORY: u8 = 3;
+/// The exit status if memory ran out.
+pub(crate) const MEMORY: u8 = 3;
 
 // The exit status if a device failed, or if a file that is named can't be read.
 const DEVICE: u8 = 4;

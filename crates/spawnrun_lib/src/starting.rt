@@ -3,15 +3,9 @@ ghost use Rattle.std.specs.Prelude.{◌≤◌};
 
 use crate::program::execute;
 use crate::progress::Teller;
-use crate::status::Status;
 use crate::task::is_task;
-use cli::{
-    Counted, Muted, Noting, file_name, finish, open_named, refuse_file, refuse_words,
-    words_after_name,
-};
-use std::alloc::AllocError;
+use cli::{Counted, Muted, Noting, begin};
 use std::cell::Cell;
-use std::env;
 use std::env::Env;
 use std::io::{Read, Write};
 use std::rt::Files;
@@ -19,11 +13,8 @@ use std::thread::Threads;
 use std::time::Clock;
 
 /// Runs the program on its arguments, and returns its exit status: that of `execute`, or of
-/// `refuse_words` if the arguments can't be read. If `tells`, the terminal shows how far a task is.
-///
-/// A surplus last argument that is no option is the input file: the program runs on the arguments
-/// before it, with the file as its input. If there is no such file, if it is a folder, or if it
-/// can't be opened, the status is 4, and a line on the error stream says so.
+/// [`cli::begin`], which also opens an input file that they name. If `tells`, the terminal shows how
+/// far a task is.
 ///
 /// If the output is a pipe whose reader has left, the status is 4, and nothing is written to the
 /// error stream.
@@ -43,39 +34,32 @@ where
     let mut output = Counted::new(Noting::new(output, &has_left));
     let mut errors = Counted::new(Muted::new(errors, &has_left));
     let mut progress = Teller::new(rt, Counted::new(terminal), tells);
-    let words = match env::args(rt) {
-        Ok(words) => words,
-        Err(error) => return refuse_words(&error, &mut errors),
+    let is_line = |words: &[String]| is_task(rt.alloc(), words);
+    let (words, file) = match begin(rt, "spawnrun", is_line, &mut errors) {
+        Ok(begun) => begun,
+        Err(status) => return status,
     };
-    let words = match words_after_name(rt.alloc(), words) {
-        Ok(words) => words,
-        Err(AllocError) => return finish(&mut errors, Status::Memory.number()),
-    };
-    let name = match file_name(&words, |words| is_task(rt.alloc(), words)) {
-        Ok(name) => name,
-        Err(AllocError) => return finish(&mut errors, Status::Memory.number()),
-    };
-    let Some(name) = name else {
+    let alloc = rt.alloc();
+    let Some(file) = file else {
+        let mut input = Counted::new(input);
         return execute(
             rt,
-            rt.alloc(),
+            alloc,
             &words,
-            &mut Counted::new(input),
+            &mut input,
             &mut output,
             &mut errors,
             &mut progress,
         );
     };
-    match open_named(rt, name) {
-        Ok(file) => execute(
-            rt,
-            rt.alloc(),
-            &words[..words.len() - 1],
-            &mut Counted::new(file),
-            &mut output,
-            &mut errors,
-            &mut progress,
-        ),
-        Err(fault) => refuse_file("spawnrun", name, fault, &mut errors),
-    }
+    let mut input = Counted::new(file);
+    execute(
+        rt,
+        alloc,
+        &words,
+        &mut input,
+        &mut output,
+        &mut errors,
+        &mut progress,
+    )
 }

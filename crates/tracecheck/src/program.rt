@@ -10,16 +10,16 @@ use crate::command_line::{ask_for_a_check, command_line, image_name};
 use crate::running::check_as;
 use crate::status::Status;
 use cli::{
-    Counted, LineFault, Muted, Noting, Sink, Source, file_name, finish, open_named, refuse_file,
-    refuse_line, refuse_words, words_after_name,
+    Counted, LineFault, Muted, Noting, Sink, Source, begin, finish, open_named, refuse_file,
+    refuse_line,
 };
 use std::alloc::{AllocError, Global};
 use std::cell::Cell;
 use std::convert::AsStr;
 use std::env::Env;
+use std::io;
 use std::io::{Read, Write};
 use std::rt::Files;
-use std::{env, io};
 
 /// Checks the trace that the input gives, and returns the exit status. As the arguments say, the
 /// trace begins with an allocator of these limits that has given nothing, or with the one whose
@@ -111,6 +111,9 @@ pub fn execute<S: AsStr, M: Source, I: Source, O: Sink, E: Sink, T: Sink>(
     }
 }
 
+// As its messages begin.
+const NAME: &str = "tracecheck";
+
 // Opens the file of the image, if the words name one, and does what they ask for.
 fn execute_on<R: Files + AllocGlobal, I: Source, O: Sink, E: Sink, T: Sink>(
     rt: &R,
@@ -151,16 +154,13 @@ fn execute_on<R: Files + AllocGlobal, I: Source, O: Sink, E: Sink, T: Sink>(
             terminal,
             tells,
         ),
-        Err(fault) => refuse_file("tracecheck", name, fault, errors),
+        Err(fault) => refuse_file(NAME, name, fault, errors),
     }
 }
 
-/// Runs the program on its arguments, and returns its exit status.
-///
-/// A surplus last argument that is no option is the input file: the program runs on the arguments
-/// before it, with the file as its input. If there is no such file, if it is a folder, or if it
-/// can't be opened, the status is 4, and a line on the error stream says so. The same holds for the
-/// file of an image.
+/// Runs the program on its arguments, and returns its exit status: that of `execute`, or of
+/// [`cli::begin`], which also opens an input file that they name. If the file of an image can't be
+/// read, the status is 4, and a line on the error stream says so.
 ///
 /// If the output is a pipe whose reader has left, the status is 4, and nothing is written to the
 /// error stream.
@@ -180,19 +180,12 @@ where
     let mut output = Counted::new(Noting::new(output, &has_left));
     let mut errors = Counted::new(Muted::new(errors, &has_left));
     let mut terminal = Counted::new(terminal);
-    let words = match env::args(rt) {
-        Ok(words) => words,
-        Err(error) => return refuse_words(&error, &mut errors),
+    let is_line = |words: &[String]| ask_for_a_check(rt.alloc(), words);
+    let (words, file) = match begin(rt, NAME, is_line, &mut errors) {
+        Ok(begun) => begun,
+        Err(status) => return status,
     };
-    let words = match words_after_name(rt.alloc(), words) {
-        Ok(words) => words,
-        Err(AllocError) => return finish(&mut errors, Status::Memory.number()),
-    };
-    let name = match file_name(&words, |words| ask_for_a_check(rt.alloc(), words)) {
-        Ok(name) => name,
-        Err(AllocError) => return finish(&mut errors, Status::Memory.number()),
-    };
-    let Some(name) = name else {
+    let Some(file) = file else {
         return execute_on(
             rt,
             &words,
@@ -203,16 +196,13 @@ where
             tells,
         );
     };
-    match open_named(rt, name) {
-        Ok(file) => execute_on(
-            rt,
-            &words[..words.len() - 1],
-            &mut Counted::new(file),
-            &mut output,
-            &mut errors,
-            &mut terminal,
-            tells,
-        ),
-        Err(fault) => refuse_file("tracecheck", name, fault, &mut errors),
-    }
+    execute_on(
+        rt,
+        &words,
+        &mut Counted::new(file),
+        &mut output,
+        &mut errors,
+        &mut terminal,
+        tells,
+    )
 }

@@ -3,17 +3,12 @@
 //! The program, run on its arguments.
 
 use crate::kit::programs::rt::AllocGlobal;
+use crate::kit::programs::string::String;
 use crate::spawnrun_lib::program::execute;
 use crate::spawnrun_lib::progress::Teller;
-use crate::spawnrun_lib::status::Status;
 use crate::spawnrun_lib::task::is_task;
-use crate::cli::{
-    Counted, Muted, Noting, file_name, finish, open_named, refuse_file, refuse_words,
-    words_after_name,
-};
-use crate::kit::alloc::AllocError;
+use crate::cli::{Counted, Muted, Noting, begin};
 use core::cell::Cell;
-use crate::kit::programs::env;
 use crate::kit::programs::env::Env;
 use std::io::{Read, Write};
 use crate::kit::programs::rt::Files;
@@ -21,11 +16,8 @@ use crate::kit::thread::Join;
 use crate::kit::programs::time::Clock;
 
 /// Runs the program on its arguments, and returns its exit status: that of `execute`, or of
-/// `refuse_words` if the arguments can't be read. If `tells`, the terminal shows how far a task is.
-///
-/// A surplus last argument that is no option is the input file: the program runs on the arguments
-/// before it, with the file as its input. If there is no such file, if it is a folder, or if it
-/// can't be opened, the status is 4, and a line on the error stream says so.
+/// [`cli::begin`], which also opens an input file that they name. If `tells`, the terminal shows how
+/// far a task is.
 ///
 /// If the output is a pipe whose reader has left, the status is 4, and nothing is written to the
 /// error stream.
@@ -53,37 +45,29 @@ where
     let mut output = Counted::new(Noting::new(output, &has_left));
     let mut errors = Counted::new(Muted::new(errors, &has_left));
     let mut progress = Teller::new(rt, Counted::new(terminal), tells);
-    let words = match env::args(rt) {
-        Ok(words) => words,
-        Err(error) => return refuse_words(&error, &mut errors),
+    let is_line = |words: &[String]| is_task(words);
+    let (words, file) = match begin(rt, "spawnrun", is_line, &mut errors) {
+        Ok(begun) => begun,
+        Err(status) => return status,
     };
-    let words = match words_after_name(words) {
-        Ok(words) => words,
-        Err(AllocError) => return finish(&mut errors, Status::Memory.number()),
-    };
-    let name = match file_name(&words, |words| is_task(words)) {
-        Ok(name) => name,
-        Err(AllocError) => return finish(&mut errors, Status::Memory.number()),
-    };
-    let Some(name) = name else {
+    let Some(file) = file else {
+        let mut input = Counted::new(input);
         return execute(
             rt,
             &words,
-            &mut Counted::new(input),
+            &mut input,
             &mut output,
             &mut errors,
             &mut progress,
         );
     };
-    match open_named(rt, name) {
-        Ok(file) => execute(
-            rt,
-            &words[..words.len() - 1],
-            &mut Counted::new(file),
-            &mut output,
-            &mut errors,
-            &mut progress,
-        ),
-        Err(fault) => refuse_file("spawnrun", name, fault, &mut errors),
-    }
+    let mut input = Counted::new(file);
+    execute(
+        rt,
+        &words,
+        &mut input,
+        &mut output,
+        &mut errors,
+        &mut progress,
+    )
 }
