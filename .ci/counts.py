@@ -5,8 +5,8 @@ them may fall.
     .ci/counts.py [REV..]     a column for each of these commits, and one for what stands here
 
 - clauses: lines with `ensures` in the sources of crates, but for tests and examples;
-- expectations of tests: the comparisons and the rows of tables in crates/ent_tests, in the tests of
-  rust/ and in rust/erased_tests;
+- expectations of tests: the comparisons and the rows of tables in crates/ent_tests, in the tests
+  of crates/spawnrun and of rust/, and in rust/erased_tests;
 - expectations of cases: the answers, outputs, messages and exit statuses in the files of cases;
 - expectations of scripts: the calls in examples/*.sh of a function that ends the script unless a
   run goes as the line says;
@@ -61,6 +61,7 @@ def counts(top):
             top,
             [
                 "crates/ent_tests/src/**/*.rt",
+                "crates/spawnrun/src/tests/*.rt",
                 "rust/*/tests/**/*.rs",
                 f"{erased}/*.rs",
                 f"{erased}/values/*.rs",

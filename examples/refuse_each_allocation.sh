@@ -245,8 +245,8 @@ answered() {
 # The tests are those of the kit's build alone.
 [ -z "${PROGRAMS:-}" ] || exit 0
 : >"$room/tests"
-for crate in "$top"/crates/*_tests; do
-    crate=$(basename "$crate")
+for tests in "$top"/crates/*/out/*_tests; do
+    crate=$(basename "$tests" _tests)
     found=$(tests_of "$crate")
     [ -z "$found" ] || printf '%s\n' "$found" | sed "s/^/$crate /" >>"$room/tests"
 done

@@ -1,7 +1,8 @@
 //! Tests of the libraries: what no clause says and no case shows, such as what no case can make
 //! when it runs out of memory, and threads that really run side by side. What calls return if there
 //! is memory is in `cases_and_examples`, and so is what most return if it runs out. One crate has
-//! them all, since each crate of tests takes a minute before its first function is proved.
+//! them all, since each crate of tests takes a minute before its first function is proved. Those of
+//! scripts and of the program are in `spawnrun`.
 #![tactic(auto)]
 
 #[cfg(test)]
@@ -40,8 +41,6 @@ mod replay_memory;
 mod reserving;
 #[cfg(test)]
 mod schedules;
-#[cfg(test)]
-mod scripts;
 #[cfg(test)]
 mod spawned;
 #[cfg(test)]

@@ -2,6 +2,9 @@
 //! read one on standard input, and write what it gave.
 #![tactic(auto)]
 
+#[cfg(test)]
+mod tests;
+
 use spawnrun_lib::start;
 use std::io::IsTerminal;
 use std::process::ExitCode;

@@ -42,6 +42,7 @@ impl Crate {
         for file in &mut self.files {
             if file.result == Path::new("mod.rs") {
                 let text = file.text.replace(&format!("#[cfg(test)]\n{declared}"), "");
+                let text = text.replace("\n\n\n", "\n\n");
                 let lines = text.split_inclusive(";\n");
                 file.text = lines
                     .filter(|item| {

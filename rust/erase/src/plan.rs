@@ -39,7 +39,7 @@ const PROGRAM_FEATURE: &str = "programs";
 /// The tests of those crates, and what only the tests in plain Rust use.
 const TESTS: &[&str] = &["cases_and_examples", "cli", "ent_tests"];
 
-/// Their modules that aren't erased: the tests have no scripts, and no command lines.
+/// Their modules that aren't erased: the tests have no command lines.
 const LEFT_OUT: &[(&str, &[&str])] = &[
     (
         "cli",
@@ -52,7 +52,6 @@ const LEFT_OUT: &[(&str, &[&str])] = &[
             "words",
         ],
     ),
-    ("ent_tests", &["scripts"]),
 ];
 
 /// A folder of results in the repository. Nothing else stands in it.
@@ -129,7 +128,8 @@ pub fn package(repository: &Path) -> Result<Files, Box<dyn Error>> {
     let listed = listed(repository)?;
     let is_listed = |name: &&&str| listed.lines().any(|line| names_crate(line, name));
     let programs: Vec<&str> = PROGRAM_CRATES.iter().filter(is_listed).copied().collect();
-    let programs = read_all(repository, &programs)?;
+    let mut programs = read_all(repository, &programs)?;
+    programs.iter_mut().for_each(|it| it.leave_out("tests"));
     let mut names = Names::new(&[&PACKAGE, &PROGRAMS]);
     add_names(&mut names, &crates, PROVED.path)?;
     add_names(&mut names, &programs, PROVED.path)?;

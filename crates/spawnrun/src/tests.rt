@@ -1,7 +1,6 @@
 //! Tests of scripts and of what the program does with its devices: allocations that fail, values of
 //! single calls, and the worked rows of `replay` and `run`. Anything else that a run shows is a
-//! case of the program (`crates/spawnrun/cases`). The package in plain Rust has no scripts, so
-//! these tests aren't erased.
+//! case (`cases/`).
 mod faults;
 mod memory;
 mod program;
