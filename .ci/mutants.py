@@ -703,11 +703,12 @@ def fit():
 
 def is_made_since(crate, begun):
     """Whether the library of a crate has been made since then. `rt ci` may take one that it kept,
-    whose files are older than their names."""
+    whose files are older than their names. This file is written first, and the others at once."""
     try:
-        return os.stat(f"crates/{crate}/out/rlib/{crate}.rlib/format").st_ctime > begun
+        made = os.stat(f"crates/{crate}/out/rlib/{crate}.rlib/format").st_ctime
     except FileNotFoundError:
         return False
+    return begun < made < time.time() - 5
 
 
 def try_crates(prover, by_crate, options):
