@@ -44,6 +44,7 @@ const LEFT_OUT: &[(&str, &[&str])] = &[
     (
         "cli",
         &[
+            "beginning",
             "ending",
             "input",
             "limits",
