@@ -41,14 +41,14 @@ impl Crate {
         let exported = format!("pub use {module}::");
         for file in &mut self.files {
             if file.result == Path::new("mod.rs") {
-                let text = file.text.replace(&format!("#[cfg(test)]\n{declared}"), "");
-                let text = text.replace("\n\n\n", "\n\n");
+                let text = file
+                    .text
+                    .replace(&format!("#[cfg(test)]\n{declared}"), "")
+                    .replace(&format!("\n{declared}"), "\n")
+                    .replace("\n\n\n", "\n\n");
                 let lines = text.split_inclusive(";\n");
                 file.text = lines
-                    .filter(|item| {
-                        let item = item.trim_start();
-                        item != declared && !item.starts_with(&exported)
-                    })
+                    .filter(|item| !item.trim_start().starts_with(&exported))
                     .collect();
             }
         }

@@ -40,20 +40,18 @@ const PROGRAM_FEATURE: &str = "programs";
 const TESTS: &[&str] = &["cases_and_examples", "cli", "ent_tests"];
 
 /// Their modules that aren't erased: the tests have no command lines.
-const LEFT_OUT: &[(&str, &[&str])] = &[
-    (
-        "cli",
-        &[
-            "beginning",
-            "ending",
-            "input",
-            "limits",
-            "line_fault",
-            "options",
-            "words",
-        ],
-    ),
-];
+const LEFT_OUT: &[(&str, &[&str])] = &[(
+    "cli",
+    &[
+        "beginning",
+        "ending",
+        "input",
+        "limits",
+        "line_fault",
+        "options",
+        "words",
+    ],
+)];
 
 /// A folder of results in the repository. Nothing else stands in it.
 pub struct Target {
