@@ -1,47 +1,37 @@
 -- The names that proofs of this crate cite, of std, of the crates below and of its own specs.
 -- Declares nothing.
-pub use Rattle.std.proofs.Common.{All, Bool, Bor, Contains, Equal, Global, Greater, IfSome, IsOk}
-pub use Rattle.std.proofs.Common.{IsUtf8, Less, List, None, OnErr, OnOk, Option, Ordering, Result}
-pub use Rattle.std.proofs.Common.{Some, String, T, [], ap, append-nil, append_assoc, arith}
-pub use Rattle.std.proofs.Common.{bytes_eq, chars, codes, cond, drop, encode_utf8, false, filter}
-pub use Rattle.std.proofs.Common.{find, fold, get_or, inl, inr, is_none, is_some, le-leb, length}
-pub use Rattle.std.proofs.Common.{length-drop, lit<, map, min, not, option_map, pos, refl, rules}
-pub use Rattle.std.proofs.Common.{set, slice_get, slice_index, string_bytes, subst, suc, sym, take}
-pub use Rattle.std.proofs.Common.{true, true≢false, unwrap_or, vec_capacity, vec_len, zero, ℕ, ℤ}
-pub use Rattle.std.proofs.Common.{◌%◌, ◌&&◌, ◌++◌, ◌+◌, ◌-◌, ◌/◌, ◌<◌, ◌==◌, ◌^◌, ◌||◌, ◌∙◌, ◌∷◌}
-pub use Rattle.std.proofs.Common.{◌≡◌, ◌≢◌, ◌≤◌, ◌⊎◌}
+pub use Rattle.std.proofs.Common.{All, Bool, Bor, Contains, Equal, Greater, IfSome, IsOk, Less}
+pub use Rattle.std.proofs.Common.{List, None, OnErr, OnOk, Option, Ordering, Result, Some, T, []}
+pub use Rattle.std.proofs.Common.{ap, append-nil, append_assoc, arith, bytes_eq, codes, cond, drop}
+pub use Rattle.std.proofs.Common.{false, filter, find, fold, get_or, inl, inr, is_some, le-leb}
+pub use Rattle.std.proofs.Common.{length, length-drop, lit<, map, not, option_map, pos, refl, rules}
+pub use Rattle.std.proofs.Common.{set, slice_get, string_bytes, subst, suc, sym, take, true}
+pub use Rattle.std.proofs.Common.{unwrap_or, vec_capacity, vec_len, zero, ℕ, ℤ, ◌%◌, ◌&&◌, ◌++◌}
+pub use Rattle.std.proofs.Common.{◌+◌, ◌-◌, ◌/◌, ◌<◌, ◌==◌, ◌^◌, ◌||◌, ◌∙◌, ◌∷◌, ◌≡◌, ◌≢◌, ◌≤◌, ◌⊎◌}
 pub use Rattle.std.proofs.Math.Dec.{eqb-suc-suc, eqb-suc-zero, eqb-zero-suc}
 pub use Rattle.std.proofs.lemmas.Bool.{iff_false}
-pub use Rattle.std.proofs.lemmas.Fmt.{decimal_by_steps}
 pub use Rattle.std.proofs.lemmas.Grind.{take_at_read}
 pub use Rattle.std.proofs.lemmas.List.{drop_all, drop_more, ext_get_or, get_or_default}
-pub use Rattle.std.proofs.lemmas.List.{length-append, length-map, length-take, length-take-le}
-pub use Rattle.std.proofs.lemmas.List.{map-append, map-set, nil_from_length, take-append-drop}
-pub use Rattle.std.proofs.lemmas.List.{take-append-le, take_all, take_more}
+pub use Rattle.std.proofs.lemmas.List.{length-append, length-map, map-append, map-set}
+pub use Rattle.std.proofs.lemmas.List.{nil_from_length, take-append-drop, take_all, take_more}
 pub use Rattle.std.proofs.lemmas.List.Folds.{list_all-map, list_any-append}
 pub use Rattle.std.proofs.lemmas.List.Sorted.{All-permutation, Contains-permutation}
 pub use Rattle.std.proofs.lemmas.List.Sorted.{IsPartitionPoint-from_clause, IsPermutation-sym}
 pub use Rattle.std.proofs.lemmas.List.Sorted.{IsPermutation-trans, length_permutation}
 pub use Rattle.std.proofs.lemmas.List.Sorted.{sum_by-IsPermutation}
 pub use Rattle.std.proofs.lemmas.Map.Made.{length-from_same_keys}
-pub use Rattle.std.proofs.lemmas.Option.{IfSome_then}
 pub use Rattle.std.proofs.lemmas.Result.{IfOk-weaker, err_from_is_err_and, on_err_weaker}
 pub use Rattle.std.proofs.lemmas.Result.{on_ok_weaker}
 pub use Rattle.std.proofs.lemmas.Slice.Zip.{AllZip-long}
-pub use Rattle.std.proofs.lemmas.Str.{IsUtf8-past_char, chars-IsAscii, chars-nil, chars_past_char}
-pub use Rattle.std.proofs.lemmas.Str.{is_utf8-from_IsUtf8}
-pub use Rattle.std.proofs.lemmas.Str.Ascii.{IsAscii-from_all}
 pub use Rattle.std.specs.FinMap.Entries.{below_all, is_sorted}
-pub use Rattle.std.specs.Fmt.{decimal, is_char_start}
+pub use Rattle.std.specs.Fmt.{decimal}
 unfoldable pub use Rattle.std.specs.Fmt.{digits}
-unfoldable pub use Rattle.std.specs.Fmt.Cut.{cut_to, floor_char_boundary}
 pub use Rattle.std.specs.Fmt.InlineText.{inline_text}
 pub use Rattle.std.specs.List.{AllByRecursion, AllPairs, AllZip, flat_map, list_all, list_any}
 pub use Rattle.std.specs.List.{range_with_len, slice_index_or, sum_by}
 unfoldable pub use Rattle.std.specs.List.{IsDistinct}
 pub use Rattle.std.specs.List.Sorted.{IsPartitionedBy, IsPermutation}
 pub use Rattle.std.specs.Option.{option_cmp, option_eq, option_map_or}
-pub use Rattle.std.specs.Str.Iter.{chars_rest}
 pub use Rattle.std.specs.Str.Parse.{ExplainsUnsignedError, HasUnsignedDigitsIfOk, ParsesUnsigned}
 pub use Rattle.std.specs.declared.num.ParseIntError.{ParseIntError}
 unfoldable pub use Rattle.clap.proofs.OnLiterals.{clap_on_literals}
@@ -81,14 +71,14 @@ pub use Rattle.cli.proofs.Numbers.{number_read}
 pub use Rattle.cli.specs.Options.{HasNumber, generations_option, number_option, option_number}
 pub use Rattle.cli.specs.Options.{slots_option}
 pub use Rattle.ent_alloc.proofs.Common.{All-append, All-cons, All-contains_itself, All-filter}
-pub use Rattle.ent_alloc.proofs.Common.{All-head, All-map, All-nil, All-push, All-tail, All-take}
-pub use Rattle.ent_alloc.proofs.Common.{All-weaker, Allocator, AreLimits, AreSpent, Call, Handle}
-pub use Rattle.ent_alloc.proofs.Common.{IsLegal, IsSound, after_history, after_take, and_parts}
-pub use Rattle.ent_alloc.proofs.Common.{cases_lt, common_steps, cond-false, cond-true, eq_by_cmp}
-pub use Rattle.ent_alloc.proofs.Common.{false≢true, get_or-range_with_len, get_or_from_slice_get}
-pub use Rattle.ent_alloc.proofs.Common.{given_in, handle_cmp, handle_cmp_total, is_fresh, is_old}
-pub use Rattle.ent_alloc.proofs.Common.{length-range_with_len, listed, min-eq_left, nat_tests}
-pub use Rattle.ent_alloc.proofs.Common.{slice_get_within, stands_in, sum_by-cons}
+pub use Rattle.ent_alloc.proofs.Common.{All-head, All-map, All-nil, All-tail, All-weaker, Allocator}
+pub use Rattle.ent_alloc.proofs.Common.{AreLimits, AreSpent, Call, Handle, IsLegal, IsSound}
+pub use Rattle.ent_alloc.proofs.Common.{after_history, after_take, cases_lt, common_steps}
+pub use Rattle.ent_alloc.proofs.Common.{eq_by_cmp, false≢true, get_or-range_with_len}
+pub use Rattle.ent_alloc.proofs.Common.{get_or_from_slice_get, given_in, handle_cmp}
+pub use Rattle.ent_alloc.proofs.Common.{handle_cmp_total, is_fresh, is_old, length-range_with_len}
+pub use Rattle.ent_alloc.proofs.Common.{listed, min-eq_left, slice_get_within, stands_in}
+pub use Rattle.ent_alloc.proofs.Common.{sum_by-cons}
 pub use Rattle.ent_alloc.proofs.FreshHandles.{length-fresh}
 pub use Rattle.ent_alloc.proofs.Taken.{after_take-served}
 unfoldable pub use Rattle.ent_alloc.specs.Limits.{quota}
@@ -113,11 +103,10 @@ pub use Rattle.ent_runner.proofs.ListedBirths.{unlisted-stays}
 pub use Rattle.ent_runner.proofs.ListedOnce.{Lists, listed-IsPermutation, listed-born}
 pub use Rattle.ent_runner.proofs.Lists.{all_below, all_flat, all_from_each, at_within, each_of_all}
 pub use Rattle.ent_runner.proofs.Lists.{flat_all, map_map_is, sum_map}
-pub use Rattle.ent_script.proofs.Common.{AllFrom, Data, IsFrameOf, IsScript, Script, Value, as_name}
-pub use Rattle.ent_script.proofs.Common.{as_str, bytes_eq-Decides, read, view, whole}
+pub use Rattle.ent_script.proofs.Common.{AllFrom, IsFrameOf, IsScript, Script, bytes_eq-Decides}
 pub use Rattle.ent_script.proofs.Texts.{json_none}
-pub use Rattle.ent_script.proofs.Values.{length_of_views, list_of-items_view, pair_view}
-pub use Rattle.ent_script.specs.Reading.{json_of, script_of_text}
+pub use Rattle.ent_script.proofs.Values.{length_of_views, list_of-items_view}
+pub use Rattle.ent_script.specs.Reading.{script_of_text}
 pub use Rattle.ent_script.specs.declared.operation.Operation.{Operation}
 pub use Rattle.ent_script.specs.declared.target.Target.{Target}
 pub use Rattle.ent_storage.proofs.Common.{Birth, Bundle, ComponentId, Entity, EntityMap}
@@ -176,9 +165,7 @@ pub use Rattle.spawnrun_lib.specs.SameReport.{HasEnoughSlots, IsLines, IsRefused
 pub use Rattle.spawnrun_lib.specs.SameReport.{IsWithoutHandles, TellsNoRefusal}
 pub use Rattle.spawnrun_lib.specs.SameReport.{requested_by_operation, requested_in_all}
 pub use Rattle.spawnrun_lib.specs.ScriptAlone.{birth_fault_line, birth_line, text_alone, text_from}
-pub use Rattle.ent_script.specs.Shown.{ArePrintable, IsPrintable, byte_text, char_text, hex}
-pub use Rattle.ent_script.specs.Shown.{is_printable, plain, unit_text}
-unfoldable pub use Rattle.ent_script.specs.Shown.{front}
+pub use Rattle.ent_script.specs.Shown.{ArePrintable}
 pub use Rattle.spawnrun_lib.specs.Wants.{size_wants}
 pub use Rattle.spawnrun_lib.specs.Work.{Accepts, IsProductOf, Refusal, Refuses, fails, input_limit}
 pub use Rattle.spawnrun_lib.specs.Work.{is_too_long, size_line}
