@@ -2,7 +2,7 @@
 """side.py CLONE [MOST]: proves the crates of CLONE by `rt ci NAME`, side by side, MOST at a time, longest chain first"""
 import subprocess,sys,time,os
 clone,most=sys.argv[1],int((sys.argv[2:] or ['3'])[0])
-cpu=dict(ent_handle=1.0,ent_alloc=9.5,ent_log=1.4,ent_replay=12.6,ent_shared=2.1,ent_blocks=4.7,ent_storage=14.6,ent_queue=3.2,ent_world=7.2,ent_runner=9.8,ent_total=14,ent_script=11.5,cli=2.4,spawnrun_lib=16.5,spawnrun=1,tracecheck=6,ent_tests=9,cases_and_examples=15.2)
+cpu=dict(ent_handle=1.0,ent_alloc=9.5,ent_log=1.4,ent_replay=12.6,ent_shared=2.1,ent_blocks=4.7,ent_storage=14.6,ent_queue=3.2,ent_world=7.2,ent_runner=9.8,ent_total=14,ent_script=11.5,cli=2.4,spawnrun_lib=16.5,spawnrun=6,tracecheck=6,ent_tests=5,cases_and_examples=15.2)
 deps={}
 for l in open(f'{clone}/crates.txt'):
     if ':' in l and not l.startswith('#'):
@@ -17,6 +17,7 @@ left=sorted([d for d in deps if d not in skip],key=lambda k:-behind(k))
 while left or running:
     for k in [k for k in left if all(d in done for d in deps[k])]:
         if len(running)>=most: break
+        if os.path.exists('/work/hold') and k in open('/work/hold').read().split(): continue
         left.remove(k)
         log=open(f'/work/log_{k}.txt','w')
         chain={'ent_alloc','ent_storage','ent_shared','ent_blocks','ent_log','ent_queue','ent_world','ent_runner','spawnrun_lib'}
