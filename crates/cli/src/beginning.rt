@@ -18,9 +18,9 @@ use std::rt::Files;
 ///
 /// # Errors
 ///
-/// The exit status, and the error stream has been told why: that of [`refuse_words`] if the
-/// arguments can't be read, of [`refuse_file`] if there is no such file, if it is a folder, or if it
-/// can't be opened, and otherwise 3, since memory ran out.
+/// The exit status; the error stream says why. It is that of [`refuse_words`] if the arguments can't
+/// be read, that of [`refuse_file`] if there is no such file, if it is a folder, or if it can't be
+/// opened, and 3 if memory ran out.
 pub fn begin<R, E: Sink, F: Fn(&[String]) -> Result<bool, AllocError>>(
     rt: &R,
     program: &str,
